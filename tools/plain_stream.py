@@ -262,8 +262,9 @@ def loops(data, head):
     return entries
 
 
-def association(stream, lines=None):
-    """transport_stream_id, and (number, PID) of the programs. Told is the first table that says something else."""
+def association(stream, lines=None, asked=(), joined=False):
+    """transport_stream_id, and (number, PID) of the programs. Told are the first table that says something else, and the first one with a program
+    that is asked for and not named, or with `joined` False on another PID."""
     tables = [(packet, s) for packet, s in stream.sections(0, 0) if len(s) % 4 == 0]
     if not tables:
         raise Refused("no PAT")
@@ -277,6 +278,9 @@ def association(stream, lines=None):
     says_else = lambda s: version(s) != version(first) or s[3:5] != first[3:5] or any(number and named.get(number) != pid for number, pid in entries(s))
     if lines is not None:
         lines += [f"packet {packet} PAT changes: the first is used" for packet, s in tables if says_else(s)][:1]
+        lost = lambda number, pid: number and (not asked or number in asked) and (number not in named or not joined and named[number] != pid)
+        lines += [f"packet {packet} PAT names a program or PMT PID that the first does not: left out" for packet, s in tables
+                  if any(lost(*entry) for entry in entries(s))][:1]
     return first[3] << 8 | first[4], list(named.items())
 
 
@@ -438,10 +442,11 @@ def place_of(section):
 
 def steady(stream, pid):
     """The sections of a PID, each once, and the greatest number of packets from one start of a section to its next; None where they change, where
-    one does not come again, where there are more than 8, or where anything else is found."""
+    one does not come again, where there are more than 8, or where anything else is found: also stream events (DSM-CC), and splice commands
+    (SCTE 35) but a splice_null alone."""
     found = {}
     for packet, begins, kind, value in stream.found(pid):
-        if kind == "section":
+        if kind == "section" and value[0] != 0x3D and not (value[0] == 0xFC and any(value[13:16])):
             found.setdefault(bytes(value), []).append(begins)
         elif kind not in ("duplicate", "stray") and not (kind == "truncated" and packet >= stream.count):
             return None

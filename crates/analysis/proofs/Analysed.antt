@@ -1,4 +1,4 @@
--- Events one by one, and packets one by one.
+-- Events one by one, and packets one by one
 use Rattle.std.proofs.Common.{◌≡◌, ◌∙◌, sym, ℕ, List, [], ◌∷◌, ◌++◌, ap, subst, append_assoc, append-nil}
 use Rattle.events.specs.declared.event.Event.{Event}
 use Rattle.events.specs.declared.timed_event.TimedEvent.{TimedEvent}
@@ -7,7 +7,7 @@ use Rattle.analysis.specs.Analysis.{AnalysisState, IsAnalysed, after_all, after_
 
 -- 1. Events one by one
 
--- what an analyser is after some events, with those that are left, and what is still to be written
+-- The state of an analyser after some events, with the remaining events and the lines that are still to be written
 pub record Going (analyser : Analyser) (left : List Event) (out : List TimedEvent) (last : AnalysisState) (whole : List TimedEvent) : Type 0 where
   pub now : AnalysisState
   pub is : IsAnalysed analyser now
@@ -38,7 +38,7 @@ events_written analyser out last whole g = sym (append-nil out) ∙ g.rest
 
 -- 2. Packets one by one
 
--- what an analyser is after some packets, with those that are left, and the events that are still to come
+-- The state of an analyser after some packets, with the remaining packets and the events that still follow
 pub record Settled (analyser : Analyser) (packets : List (List ℕ)) (events : List TimedEvent) (last : AnalysisState) (whole : List TimedEvent) : Type 0 where
   pub now : AnalysisState
   pub is : IsAnalysed analyser now

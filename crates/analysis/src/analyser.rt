@@ -185,7 +185,8 @@ impl Analyser {
 
     // Returns whether an event is about the part requested; `fault`: its fault, if it has one.
     fn is_kept(&self, event: &Event, fault: &Option<Fault>) -> bool
-        ensures { result ≡ (spec.window_in self.now.span self.now.window (spec.window_of event.now) && spec.fault_in self.now.span fault.now) }
+        ensures { result ≡ (spec.window_in self.now.span self.now.window (spec.window_of event.now)
+            && spec.fault_in self.now.span fault.now) }
     {
         window_in(self.span, self.window, window_of(event)) && fault_in(self.span, fault)
     }
@@ -318,7 +319,8 @@ impl Analyser {
     /// Ends the stream, `left` bytes after its last whole packet, and appends the last events. Returns whether nothing
     /// is wrong in the stream by its view.
     pub fn end(&mut self, left: usize, events: &mut Vec<TimedEvent>) -> Result<bool, AllocError>
-        ensures analysed { (s : AnalysisState) → IsAnalysed self.old s → OnOk result (IsAnalysed self.new (spec.ended s left)) }
+        ensures analysed { (s : AnalysisState) → IsAnalysed self.old s →
+            OnOk result (IsAnalysed self.new (spec.ended s left)) }
         ensures found { (s : AnalysisState) → IsAnalysed self.old s →
             OnOk result (events.new.items ≡ events.old.items ++ spec.last_events s left) }
         ensures good { (s : AnalysisState) → IsAnalysed self.old s → IfOk result (λ good. good ≡ spec.is_good s left) }

@@ -1,4 +1,4 @@
--- Moments of references.
+-- The moments of clock references
 use Rattle.std.proofs.Common.{◌≡◌, ◌∙◌, sym, ℕ, ◌+◌, ◌-◌, ◌*◌, ◌%◌, ◌^◌, ◌<◌, [], ◌∷◌, Bool, true, false, refl, ap, arith}
 use Rattle.std.proofs.Math.Nat.{add-mod_left, add-mod-mod, mod-add-mod, add-mul-mod_self_right}
 use Rattle.std.proofs.lemmas.List.Elements.{All-head, All-tail}
@@ -7,7 +7,7 @@ use Rattle.arrival.specs.declared.clock.TimedSample.{TimedSample}
 use Rattle.arrival.specs.Clock.{IsInRange, elapsed, goes_on, step_from, moment_by, step_after, timed_after, last_of}
 use Rattle.arrival.specs.Laws.{MomentLaw}
 
--- a clock that goes on from before to value
+-- A moment of `before`, plus the elapsed ticks, is a moment of `value`.
 on : (moment before value : ℕ) → before < 2 ^ 42 → moment % 2576980377600 ≡ before % 2576980377600 →
     (moment + elapsed before value) % 2576980377600 ≡ value % 2576980377600
 on moment before value low is =

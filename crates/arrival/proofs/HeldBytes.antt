@@ -1,4 +1,4 @@
--- The line of a byte is known once the reference after it has come.
+-- The line of a byte is known once the clock reference after the byte has come.
 use Rattle.std.proofs.Common.{◌≡◌, ◌∙◌, ℕ, ◌+◌, ◌-◌, ◌<◌, ◌≤◌, Bool, true, false, is_some, List, [], ◌∷◌, ◌++◌, Option, Some, None, if◌then◌else◌, refl, ap}
 use Rattle.std.proofs.Common.{arith}
 use Rattle.std.proofs.lemmas.Bool.{le-leb, lt-leb}
@@ -18,7 +18,7 @@ state_line : (earlier : List PcrSample) (before : PcrSample) → (state_of (befo
 unfolding state_of
 state_line earlier before = ap (λ last. line_in (step_after last before)) (state_law earlier)
 
--- where the bytes after a reference begin
+-- The place where the bytes after a reference begin
 after_low : (b : Bool) (byte : ℕ) → byte ≤ (if b then byte + 1 else byte - 10) + 10
 after_low true byte = omega arith
 after_low false byte = omega arith
@@ -27,7 +27,7 @@ after_high : (b : Bool) (byte : ℕ) → (if b then byte + 1 else byte - 10) ≤
 after_high true byte = omega arith
 after_high false byte = omega arith
 
--- a byte before a reference lies where those before it say
+-- A byte before a reference has the line that the earlier references give.
 before_it : (next : Option Line) (earlier : List PcrSample) (before sample : PcrSample) (i : ℕ) → i < first_after (before ∷ earlier) sample →
     line_by next (sample ∷ before ∷ earlier) i ≡ line_by (line_to (before ∷ earlier) sample) (before ∷ earlier) i
 unfolding line_by
@@ -37,7 +37,7 @@ or_none : (line : Option Line) → line ≡ option_or line None
 or_none None = refl
 or_none (Some line) = refl
 
--- and after one it lies on the next line, or else the one before goes on
+-- A byte after a reference is on the next line, or on the last line if there is no next one.
 after_it : (next : Option Line) (earlier : List PcrSample) (before : PcrSample) (i : ℕ) → LiesAfter earlier before i →
     line_by next (before ∷ earlier) i ≡ option_or next (line_to earlier before)
 unfolding line_by LiesAfter last_of step_after line_in
@@ -50,7 +50,7 @@ between : (next : Option Line) (earlier : List PcrSample) (before sample : PcrSa
 between next earlier before sample i after below = before_it next earlier before sample i below
     ∙ after_it (line_to (before ∷ earlier) sample) earlier before i after
 
--- what comes later changes nothing
+-- Later references do not change the line of a byte.
 later_same : (later earlier : List PcrSample) (next : Option Line) (before sample : PcrSample) (i : ℕ) → AreLater sample.byte later →
     LiesAfter earlier before i →
     i < first_after (before ∷ earlier) sample →

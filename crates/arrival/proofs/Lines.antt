@@ -1,4 +1,4 @@
--- Bytes on a line.
+-- Bytes on a line
 use Rattle.std.proofs.Common.{◌^◌, ◌≡◌, ◌∙◌, sym, ℕ, zero, suc, ◌+◌, ◌-◌, ◌*◌, ◌/◌, ◌<◌, ◌≤◌, List, ◌∷◌, refl, ap, arith}
 use Rattle.std.proofs.Math.Nat.{mul-div_cancel, mul-le-mul_left, mul-le-mul_right, div-mul-le_self, lt-mul-div-succ}
 use Rattle.std.proofs.lemmas.Nat.{le-div}
@@ -9,14 +9,14 @@ use Rattle.arrival.specs.Lines.{Reaches, constant_line, parts_at, arrival_at, ar
 use Rattle.arrival.specs.Clock.{IsClockLine}
 use Rattle.arrival.specs.Laws.{ConstantMoments, ConstantScale, LineBegins, LineEnds, LinesMeet, LineRises, Rounded, ReachLaw}
 
--- one byte on
+-- At the next byte the parts have grown by the ticks of the line.
 parts_next : (scale moment bytes ticks byte i : ℕ) → byte * ticks ≤ moment * bytes + i * ticks →
     scale * ((moment * bytes + i * ticks) - byte * ticks) + scale * ticks ≡ scale * ((moment * bytes + suc i * ticks) - byte * ticks)
 parts_next scale moment bytes ticks byte i reaches =
     let e : ((moment * bytes + i * ticks) - byte * ticks) + ticks ≡ (moment * bytes + suc i * ticks) - byte * ticks = omega (arith, reaches) in
     rw (sym e) (omega arith)
 
--- bytes on a line are a row
+-- Bytes on a line form a row.
 pub row_on : (scale : ℕ) (line : Line) (i n : ℕ) → Reaches line i →
     times_in_row (scale * parts_at line i) (scale * line.ticks) line.bytes n ≡ arrivals_on scale line i n
 unfolding times_in_row arrivals_on
@@ -29,7 +29,7 @@ row_on scale line i (suc n) reaches =
 pub constant_moments : ConstantMoments
 constant_moments rate i = let e : 1 * ((0 * rate + i * 216000000) - 0 * 216000000) ≡ 216000000 * i = omega arith in rw e refl
 
--- a whole number of units
+-- The quotient is a whole number of units.
 whole : (scale bytes value : ℕ) → 0 < bytes → scale * (value * bytes) / bytes ≡ scale * value
 whole scale bytes value some =
     let e : scale * (value * bytes) ≡ scale * value * bytes = omega arith in
@@ -63,7 +63,7 @@ meet scale line next some some' byte moment =
     let f : arrival_at scale next next.byte ≡ scale * (line.moment + line.ticks) = rw (sym moment) (begins scale next some') in
     e ∙ sym f
 
--- no more parts are no more wholes
+-- A smaller dividend has no greater quotient.
 div_le : (a b k : ℕ) → 0 < k → a ≤ b → a / k ≤ b / k
 div_le a b k some le = le-div (a / k) b k some (omega (arith, div-mul-le_self a k, le))
 
@@ -86,7 +86,7 @@ reaches line i is near =
     let begun = mul-le-mul_right line.bytes is.begun in
     omega (arith, far, pace, begun, is.whole)
 
--- what n bytes after byte i come to on a clock's line, in parts
+-- A bound on the parts of n bytes after byte i, on a clock's line
 parts_bound : (line : Line) (i n : ℕ) → IsClockLine line → i + n ≤ 2 ^ 40 → parts_at line i + n * line.ticks ≤ (2 ^ 44 + 2 * 143618 * 2 ^ 40) * line.bytes
 parts_bound line i n is end =
     let late : line.moment ≤ 2 ^ 44 + 143618 * 2 ^ 40 = omega (arith, is.soon, is.within) in

@@ -1,4 +1,4 @@
--- Bytes in a row at whole units.
+-- Bytes in a row, at whole units
 use Rattle.std.proofs.Common.{◌≡◌, sym, ℕ, zero, suc, ◌+◌, ◌-◌, ◌*◌, ◌/◌, ◌≤◌, List, ◌∷◌, ◌++◌, refl, ap, arith, zero-add, ◌<◌, All}
 use Rattle.std.proofs.Math.Nat.{div-one, div-lt_iff_lt-mul, mul-lt-mul_of_pos_right}
 use Rattle.std.proofs.lemmas.Nat.{le-div}
@@ -8,7 +8,7 @@ use Rattle.arrival.specs.Rows.{times_in_row, times_of, first_bytes, other_bytes}
 use Rattle.arrival.specs.declared.row.Row.{Row}
 use Rattle.arrival.specs.Laws.{ConstantRow}
 
--- multiples before one that is not above a number are below it
+-- If a multiple is at most a number, all smaller multiples are below that number.
 pub all_below : (room gain count j : ℕ) → 0 < gain → count * gain ≤ room → j < count → j * gain < room
 all_below room gain count j some next before = omega (arith, next, mul-lt-mul_of_pos_right {m = j} {n = count} {k = gain} before some)
 
@@ -19,7 +19,7 @@ constant_row drain i (suc n) =
     let next : i * drain + drain ≡ suc i * drain = omega arith in
     rw (div-one (i * drain), next) (ap (λ (ts : List ℕ). i * drain ∷ ts) (constant_row drain (suc i) n))
 
--- in a row the bytes after the first a
+-- A row of a + b bytes is a row of a bytes, then a row of b bytes.
 pub row-append : (from pace parts a b : ℕ) → times_in_row from pace parts (a + b) ≡ times_in_row from pace parts a
     ++ times_in_row (from + a * pace) pace parts b
 unfolding times_in_row
@@ -34,7 +34,7 @@ split_rows row count le =
     let e : count + (row.bytes - count) ≡ row.bytes = omega (arith, le) in
     sym (rw e at (row-append row.from row.pace row.parts count (row.bytes - count)))
 
--- bytes before a moment
+-- If each byte is less far from the row's begin than a moment is, all bytes arrive before the moment.
 pub all_before : (moment from pace parts n : ℕ) → 0 < parts → ((j : ℕ) → j < n → j * pace < moment * parts - from) →
     All (λ t. t < moment) (times_in_row from pace parts n)
 unfolding times_in_row
@@ -50,7 +50,7 @@ all_before moment from pace parts (suc n) some room =
         let next : suc j * pace < moment * parts - from = room (suc j) (omega (arith, below)) in
         omega (arith, next)
 
--- and from it on
+-- If a row begins no earlier than a moment, no byte of it arrives earlier.
 pub all_after : (moment from pace parts n : ℕ) → 0 < parts → (0 < n → moment * parts ≤ from) → All (λ t. moment ≤ t) (times_in_row from pace parts n)
 unfolding times_in_row
 all_after moment from pace parts zero some after = All-nil (λ t. moment ≤ t)

@@ -1,4 +1,4 @@
--- The clock of arrival time stamps goes on by the ticks between them.
+-- The clock of arrival time stamps runs on by the ticks between the stamps.
 use Rattle.std.proofs.Common.{◌≡◌, ◌∙◌, sym, ℕ, ◌+◌, ◌-◌, ◌*◌, ◌%◌, ◌^◌, ◌≤◌, ◌<◌, ◌⊎◌, inl, inr, ◌&&◌, not, nat_le, nat_lt, Bool, true, false, Option}
 use Rattle.std.proofs.Common.{if◌then◌else◌, refl, ap, arith, Some, None}
 use Rattle.std.proofs.lemmas.Bool.Decides.{nat_tests}
@@ -8,7 +8,7 @@ use Rattle.arrival.specs.StampClocks.{jump_by, sample_of, stamp_period, ticks_be
 use Rattle.arrival.specs.declared.clock.PcrSample.{PcrSample}
 use Rattle.arrival.specs.declared.stamp_clock.StampValue.{StampValue}
 
--- a value that goes on by less than a period
+-- If a clock runs on by d ticks, the difference of its values is d, even if they wrap around.
 on_by : (ticks d : ℕ) → ticks < 2576980377600 → d < 1073741824 → ((ticks + d) % 2576980377600 + 5153960755200 - ticks) % 2576980377600 ≡ d
 on_by ticks d before small = omega (arith, before, small)
 

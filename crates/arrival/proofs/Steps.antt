@@ -1,4 +1,4 @@
--- What a step of a clock says of its line, and of moments.
+-- What a step of a clock says about its line, and about moments
 use Rattle.std.proofs.Common.{◌≡◌, ℕ, ◌+◌, ◌≤◌, ◌&&◌, not, nat_le, nat_lt, Bool, true, false, Option, Some, None, refl, subst, arith}
 use Rattle.std.specs.Prelude.{IfSome}
 use Rattle.std.specs.Option.{option_or}
@@ -10,7 +10,7 @@ use Rattle.arrival.specs.declared.clock.ClockStep.TheVariants.{First, GoesOn, An
 use Rattle.arrival.specs.declared.line.Line.{Line}
 use Rattle.arrival.specs.Clock.{IfGoesOn, IsClockLine, IsMoment, elapsed, goes_on, line_in, step_after, step_from}
 
--- a line that a clock passes on
+-- Each line that a clock passes on is a line of the clock.
 pub clock_line : (step : ClockStep) (before line : Option Line) → line ≡ option_or (line_in step) before → IfSome line IsClockLine → IfGoesOn step IsClockLine
 unfolding line_in IfGoesOn
 clock_line First before line is clock = tt
@@ -18,7 +18,7 @@ clock_line (GoesOn l) before line is clock = subst (λ (x : Option Line). IfSome
 clock_line Announced before line is clock = tt
 clock_line (Jump ticks) before line is clock = tt
 
--- it begins at the reference before
+-- The line begins at the reference before.
 begins_by : (before : TimedSample) (sample : PcrSample) (moment : ℕ) (on anew : Bool) → goes_on before.sample sample ≡ on → sample.discontinuity ≡ anew →
     IsMoment before.sample.byte moment → IfGoesOn (step_from before sample) (λ line. IsMoment line.byte moment)
 unfolding step_from IfGoesOn
@@ -32,7 +32,7 @@ unfolding step_after IfGoesOn
 begins None sample step moment is m = rw is tt
 begins (Some before) sample step moment is m = rw is (begins_by before sample moment (goes_on before.sample sample) sample.discontinuity refl refl m)
 
--- and the next reference comes no later than a second for each packet between
+-- The next reference is at most a second later for each packet in between.
 soon : (byte byte' moment ticks : ℕ) (a b : Bool) → (a && nat_le (byte + 188) byte' && b && nat_le ticks 27000000) ≡ true → IsMoment byte moment →
     IsMoment byte' (moment + ticks)
 soon byte byte' moment ticks a b e is =

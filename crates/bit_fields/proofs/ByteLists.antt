@@ -1,4 +1,4 @@
--- Lists of bytes, and what a reader takes from their front.
+-- Lists of bytes, and the bytes that a reader takes from their front.
 use Rattle.std.proofs.Common.{ℕ, zero, suc, ◌+◌, ◌<◌, refl, List, [], ◌∷◌, ◌++◌, length, get_or, take, drop, sym, arith, inl, inr}
 use Rattle.std.proofs.lemmas.Bool.{cases_lt}
 use Rattle.std.proofs.lemmas.List.{get_or-drop, get_or-take, get_or_past, length-take, take-append-drop}
@@ -40,10 +40,10 @@ pub IsBytes-append_right : (xs ys : List ℕ) → IsBytes (xs ++ ys) → IsBytes
 IsBytes-append_right [] ys h = h
 IsBytes-append_right (b ∷ xs) ys h = IsBytes-append_right xs ys (IsBytes-tail b (xs ++ ys) h)
 
--- nothing is taken
+-- No byte is taken.
 pub Takes-none : (bytes : List ℕ) → IsBytes bytes → Takes bytes [] bytes
 Takes-none bytes h = record { is = refl; rest_fits = h }
 
--- the first n bytes are taken
+-- The first n bytes are taken.
 pub Takes-front : (n : ℕ) (bytes : List ℕ) → IsBytes bytes → Takes bytes (take n bytes) (drop n bytes)
 Takes-front n bytes h = record { is = sym (take-append-drop n bytes); rest_fits = IsBytes-drop n bytes h }

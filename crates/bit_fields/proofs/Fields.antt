@@ -1,4 +1,4 @@
--- Numbers and tables of fields one after the other, and tests of single bits.
+-- Numbers and tables of consecutive fields, and tests of single bits.
 use Rattle.std.proofs.Common.{◌≡◌, ℕ, zero, suc, ◌+◌, ◌*◌, ◌^◌, ◌<◌, ◌≤◌, ◌==◌, Bool, true, false, List, [], ◌∷◌, ◌++◌, length, refl, ◌∙◌, arith}
 use Rattle.std.proofs.Math.Nat.{pow-succ', mul-le-mul_right}
 use Rattle.std.proofs.lemmas.Nat.{pow-add}
@@ -6,13 +6,13 @@ use Rattle.bit_fields.specs.Fields.{number, number_from, fields, fields_from, wi
 use Rattle.bit_fields.specs.Laws.{BytesJoin, FieldsJoin}
 use Rattle.bit_fields.proofs.ByteLists.{IsBytes-tail}
 
--- a number of one bit is read as a flag and written as the same bit
+-- A number of one bit is read as a flag and written as the same bit.
 pub bit_test : (m : ℕ) → m < 2 → bit (m == 1) ≡ m
 bit_test zero h = refl
 bit_test (suc zero) h = refl
 bit_test (suc (suc m)) h = absurd (omega arith)
 
--- a flag's bit is read as the flag
+-- A flag's bit is read as the flag.
 pub test_bit : (b : Bool) (m : ℕ) → m ≡ bit b → (m == 1) ≡ b
 test_bit true m e = rw e refl
 test_bit false m e = rw e refl
@@ -25,7 +25,7 @@ pub fields_from-append : (n : ℕ) (a b : List (ℕ × ℕ)) → fields_from n (
 fields_from-append n [] b = refl
 fields_from-append n (f ∷ a) b = fields_from-append (n * 2 ^ f.0 + f.1) a b
 
--- the number before is shifted past the bytes
+-- The number before is shifted past the bytes.
 number_from-shift : (n : ℕ) (b : List ℕ) → number_from n b ≡ n * 256 ^ length b + number b
 number_from-shift n [] = omega arith
 number_from-shift n (x ∷ b) =
@@ -35,7 +35,7 @@ number_from-shift n (x ∷ b) =
     let z : 0 * 256 + x ≡ x = omega arith in
     rw (p, z, q, s) (grind arith)
 
--- the fields before are shifted past the widths
+-- The fields before are shifted past the widths.
 fields_from-shift : (n : ℕ) (b : List (ℕ × ℕ)) → fields_from n b ≡ n * 2 ^ width b + fields b
 fields_from-shift n [] = omega arith
 fields_from-shift n (f ∷ b) =

@@ -12,7 +12,7 @@ use Rattle.capture.specs.Captures.{Capture, IsPacket, NextPart, Part, after_pack
 use Rattle.capture.specs.Captures.{next_part, no_parts, part_in, plain_next, size_of, slip_at, with_parts}
 use Rattle.capture.specs.declared.place.Place.{Place}
 
--- 1. However many steps there may be
+-- 1. The number of steps makes no difference
 
 size_some : (other : OtherPackets) → 1 ≤ size_of other
 unfolding size_of
@@ -29,7 +29,7 @@ unfolding next_of
 next_some None p bs = plain_some (slip_size bs 0) p bs refl
 next_some (Some other) p bs = size_some other
 
--- a part is there where the bytes are enough
+-- The next part, if any, takes at least one byte.
 there_by : (other : Option OtherPackets) (p : Place) (bs : List ℕ) (x : NextPart) (b : Bool) → nat_lt (length bs) (least_size other) ≡ b →
     next_part other p bs ≡ Some x → 1 ≤ x.size
 unfolding next_part
@@ -124,7 +124,7 @@ pub other_few : (form : FileForm) (other : OtherPackets) (p : Place) (bs : List 
 unfolding least_size
 other_few form other p bs short = few (length bs) form (Some other) p bs short
 
--- 3. Parts before parts
+-- 3. Parts before other parts
 
 pub both_parts : (a b : List Part) (c : Capture) → with_parts a (with_parts b c) ≡ with_parts (a ++ b) c
 both_parts a b c = ap (λ (parts : List Part). record { form = c.form; parts = parts; rest = c.rest }) (sym (append_assoc a b c.parts))

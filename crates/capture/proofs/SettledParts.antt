@@ -1,4 +1,4 @@
--- The parts that bytes settle, however the input goes on.
+-- The parts that bytes settle, whatever input follows.
 use Rattle.std.proofs.Common.{◌≡◌, ◌≤◌, ◌<◌, ◌⊎◌, inl, inr, ℕ, zero, suc, ◌+◌, ◌*◌, ◌-◌, ◌/◌, ◌%◌, ◌==◌, min, nat_lt, Bool, true, false, if◌then◌else◌, refl}
 use Rattle.std.proofs.Common.{sym, ap, ap₂, subst, arith, ◌∙◌, List, [], ◌∷◌, ◌++◌, length, length-append, length-drop, length-take-le, map, take, drop}
 use Rattle.std.proofs.Common.{slice_range, Option, None, Some, Result, Ok, Err, append_assoc, append-nil, drop-drop, take-add}
@@ -85,7 +85,7 @@ in_step_parts form p bytes more at k e within steady =
     ∙ ap₂ (λ (x y : List ℕ). with_parts (map IsPacket (cut_packets x)) (capture_from form None (after_packets at p) y)) (take-append-le at bytes more within)
     (drop-append-le at bytes more within)
 
--- 2. A slip after them
+-- 2. A slip after packets in step
 
 slip_by : (form : FileForm) (p : Place) (rest : List ℕ) (size : ℕ) → (0 < size → (188 ≤ length rest) × (slip_size rest 0 ≡ Some size)) → (b : Bool) →
     (size == 0) ≡ b →
@@ -102,7 +102,7 @@ slip_after : (form : FileForm) (p : Place) (rest : List ℕ) (size : ℕ) → (0
     capture_from form None p rest ≡ with_parts (slip_parts size p) (capture_from form None (place_if size p) (drop size rest))
 slip_after form p rest size lost = slip_by form p rest size lost (size == 0) refl
 
--- where bytes are left out, those before are whole packets
+-- If bytes are left out, the bytes before them are whole packets.
 whole_is : (length_is : ℕ) (ended : Bool) (s : Stretch) → IsOfPackets length_is ended s → 0 < s.slipped → whole_size s.in_step ≡ s.in_step
 whole_is length_is ended s (inl n) some = omega (arith, n.1)
 whole_is length_is ended s (inr all) some = absurd (let no : ⊥ = omega (arith, all.2, some) in no)
@@ -142,7 +142,7 @@ stretch_step form p bytes more ended s stepped whole within =
     ∙ ap (λ (r : List ℕ). with_parts (stretch_parts bytes s p) (capture_from form None (after_stretch s p) r))
     (drop-append-le s.slipped (drop at bytes) more fits ∙ ap (λ (r : List ℕ). r ++ more) (drop-drop s.slipped at bytes))
 
--- a stretch of enough bytes has some
+-- A stretch over enough bytes is not empty.
 pub some_size : (size : ℕ) (ended : Bool) (s : Stretch) → IsOfPackets size ended s → (if ended then 188 else 1128) ≤ size →
     ((if ended then 1 else 1128) ≤ size → 0 < s.in_step + s.slipped) → 0 < stretch_size s
 some_size size true s (inl n) long some = let k : 0 < s.in_step + s.slipped = some (omega (arith, long)) in omega (arith, n.1, k)
@@ -150,7 +150,7 @@ some_size size true s (inr all) long some = omega (arith, all.1, long)
 some_size size false s (inl n) long some = let k : 0 < s.in_step + s.slipped = some (omega (arith, long)) in omega (arith, n.1, k)
 some_size size false s (inr all) long some = absurd (let e : false ≡ true = all.0 in cc)
 
--- 3. Parts one after another
+-- 3. Successive parts
 
 pub from_none : (HasTaken : List Part → Type 0) (other : Option OtherPackets) (p : Place) (bytes : List ℕ) (ended : Bool) → HasTaken [] →
     SettlesFrom HasTaken other p bytes ended p 0
@@ -169,7 +169,7 @@ from_more HasTaken Onward other old mid new bytes ended at size parts s onward s
       ∙ both_parts s.found parts (capture_from form other new (drop (at + size) bytes ++ more));
 }
 
--- whatever was taken before
+-- The parts found here follow any parts that were taken before.
 abbrev pub Keeps : {T : Type 0} → (T → List Part → T → Type 0) → Option OtherPackets → Place → List ℕ → Bool → T → Place → T → ℕ → Type 0
 Keeps {T} HasTaken other old bytes ended before new after used =
     (first : T) (parts : List Part) → HasTaken first parts before → SettlesFrom (λ found. HasTaken first (parts ++ found) after) other old bytes ended new used
@@ -191,7 +191,7 @@ keeps_more {T} HasTaken other old mid new bytes ended before middle after at siz
     (keeps first some taken)
     (λ found t. subst (λ (q : List Part). HasTaken first q after) (append_assoc some found parts) (onward first (some ++ found) t)) step
 
--- the rest of the bytes at a place
+-- The rest of the bytes from a place on
 pub rest_at : (at : ℕ) (bytes : List ℕ) → take (length bytes - at) (drop at bytes) ≡ drop at bytes
 rest_at at bytes = take_all (length bytes - at) (drop at bytes) (omega (arith, length-drop at bytes))
 
@@ -205,7 +205,7 @@ stretch_rest form p bytes more at ended s within stepped whole fits =
     ∙ ap (λ (r : List ℕ). with_parts (stretch_parts (drop at bytes) s p) (capture_from form None (after_stretch s p) (r ++ more)))
     (drop-drop (stretch_size s) at bytes)
 
--- a packet of another size
+-- A packet of another size has at least four bytes.
 size_four : (other : OtherPackets) → 4 ≤ size_of other
 unfolding size_of
 size_four Timed = omega arith
@@ -243,7 +243,7 @@ other_rest form other p bytes more at within =
     ∙ ap₂ (λ (x y : List ℕ). with_parts (packet_with other (head_in rest) x ∷ []) (capture_from form (Some other) p y)) (packet_front other rest more long)
     (drop-append-le (size_of other) rest more long ∙ ap (λ (r : List ℕ). r ++ more) (drop-drop (size_of other) at bytes))
 
--- the bytes of a packet from a place on
+-- The bytes of a packet from a place on
 pub packet_at : (other : OtherPackets) (bytes : List ℕ) (at : ℕ) →
     slice_range bytes (at + front_of other) (at + front_of other + 188) ≡ packet_in other (drop at bytes)
 packet_at other bytes at =
@@ -309,7 +309,7 @@ begun_by f p bytes more e enough =
     rw e (ap₂ (λ (o : Option OtherPackets) (form : FileForm). with_parts (size_parts o) (capture_from form o p (bytes ++ more))) (same_size bytes more enough)
     (same_form bytes more enough))
 
--- where the bytes are enough, or are all
+-- Either there are 1,128 bytes, or these bytes are all.
 pub enough : (ended : Bool) (bytes more : List ℕ) → (ended ≡ false → 1128 ≤ length bytes) → (ended ≡ true → more ≡ []) → (1128 ≤ length bytes) ⊎ (more ≡ [])
 enough true bytes more long last = inr (last refl)
 enough false bytes more long last = inl (long refl)
@@ -326,13 +326,13 @@ begun HasTaken Onward old new bytes ended used none long onward s = record {
       ∙ both_parts (size_parts (other_packets bytes)) s.found (capture_after new (drop used bytes ++ more));
 }
 
--- nothing is settled yet
+-- At first no bytes are settled.
 pub none_yet : (HasTaken : List Part → Type 0) (s : Settled) (bytes : List ℕ) (ended : Bool) → HasTaken [] → Settles HasTaken s bytes ended s 0
 none_yet HasTaken s bytes ended taken = record { found = []; taken = taken; is = λ more last. refl }
 
 -- 5. A piece
 
--- none of the bytes after those that are kept is settled
+-- If not all kept bytes are settled, the whole piece is kept after them.
 pub kept_all : (HasTaken : List Part → Type 0) (old : ReaderView) (new : Settled) (piece : List ℕ) (size used : ℕ) → size ≡ min (length piece) 1315 →
     length (old.kept ++ take size piece) < used + 1128 →
     used < length old.kept → Settles HasTaken old.settled (old.kept ++ take size piece) false new used →
@@ -368,7 +368,7 @@ settled_rest kept piece more size used within past all =
     ∙ ap (drop d) (drop_at kept (piece ++ more) (length kept) refl)
     ∙ drop-append-le d piece more fits
 
--- all kept bytes are settled, and the rest of the piece comes after them
+-- If all kept bytes are settled, the reader continues with the rest of the piece.
 pub kept_none : (HasTaken Onward Last : List Part → Type 0) (old new : ReaderView) (mid : Settled) (piece : List ℕ) (size used : ℕ) →
     size ≡ min (length piece) 1315 → length old.kept ≤ used →
     used ≤ length (old.kept ++ take size piece) → (s : Settles HasTaken old.settled (old.kept ++ take size piece) false mid used) →
@@ -388,7 +388,7 @@ kept_none HasTaken Onward Last old new mid piece size used is past all s rest la
           ∙ both_parts s.found rest.found (capture_left new more);
     }
 
--- the rest of a piece, after which some bytes are kept
+-- The rest of a piece settles some bytes, and the reader keeps the remaining bytes.
 pub rest_kept : (HasTaken : List Part → Type 0) (old new : Settled) (rest : List ℕ) (used : ℕ) → Settles HasTaken old rest false new used →
     Takes HasTaken (record { settled = old; kept = [] }) rest (record { settled = new; kept = drop used rest })
 rest_kept HasTaken old new rest used s = record { found = s.found; taken = s.taken; is = λ more. s.is more (λ (e : false ≡ true). absurd cc) }
@@ -413,7 +413,7 @@ ends HasTaken old new used end s last left form =
       form_is = form ∙ ap (λ (c : Capture). c.form) (sym e);
     }
 
--- 7. Where there is memory
+-- 7. Results if memory suffices
 
 pub if_map : {V E : Type 0} (P Q : V → Type 0) (r : Result V E) → ((v : V) → P v → Q v) → IfOk r P → IfOk r Q
 if_map P Q (Ok v) f p = f v p

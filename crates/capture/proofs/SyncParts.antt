@@ -1,4 +1,4 @@
--- The parts of packets of 188 bytes are the carried bytes and the slips of packet_sync, and a stream in step is read as it is.
+-- The parts of packets of 188 bytes are the carried bytes and the slips of packet_sync; a stream in step is read unchanged.
 use Rattle.std.proofs.Common.{◌≡◌, ◌≤◌, ◌<◌, ◌⊎◌, inl, inr, ℕ, zero, suc, ◌+◌, ◌*◌, ◌-◌, ◌/◌, ◌%◌, ◌&&◌, nat_lt, Bool, true, false, refl, sym, ap, ap₂, subst}
 use Rattle.std.proofs.Common.{arith, ◌∙◌, List, [], ◌∷◌, ◌++◌, length, length-append, length-drop, length-take-le, map, take, drop, get_or, slice_get, Option}
 use Rattle.std.proofs.Common.{None, Some, append_assoc, append-nil, drop-drop}
@@ -22,7 +22,7 @@ use Rattle.capture.proofs.SettledParts.{steady_parts}
 
 -- 1. Carried bytes
 
--- the bytes of packets, and those after the last
+-- The bytes of packets, and the bytes after the last packet
 abbrev held : Capture → List ℕ
 held c = packet_bytes c.parts ++ c.rest
 
@@ -128,7 +128,7 @@ slips_in : (n : ℕ) (form : FileForm) (bs : List ℕ) → SameSlips form bs n
 slips_in zero form bs packet at some = slips_short zero form bs packet at (omega (arith, some))
 slips_in (suc n) form bs packet at some = slips_by n form bs packet at some (nat_lt (length bs) (at + 188)) refl (slips_in n form bs)
 
--- 3. Of a whole input
+-- 3. A whole input
 
 plain_of : (bs : List ℕ) → other_packets bs ≡ None → capture_of bs ≡ capture_from (form_of bs) None first_place bs
 unfolding size_parts
@@ -141,7 +141,7 @@ carried_and_slips_are bs e = record {
   slips_are = ap (λ (c : Capture). slips_among c.parts) (plain_of bs e) ∙ slips_in (length bs) (form_of bs) bs 0 0 (omega arith);
 }
 
--- 4. In step
+-- 4. A stream in step
 
 next_begins : (bs : List ℕ) (i : ℕ) → IsInStep bs →
     ((x : ℕ) × (i * 188 + 188 < length bs) × (slice_get bs (i * 188 + 188) ≡ Some x) × (get_or bs (i * 188 + 188) x ≡ x)) ⊎
@@ -164,7 +164,7 @@ steady_in_step bs size step = λ k less.
     let e : k * 188 ≡ 188 * k = omega arith in
     subst (λ (i : ℕ). slip_size bs i ≡ None) e (no_slip bs (k * 188) (next_begins bs k step (slice_get_cases bs (k * 188 + 188)).1))
 
--- a sync byte stands there or the stream is too short for packets of another size
+-- In step, each packet begins with a sync byte, unless the stream ends before it.
 sync_at : (bs : List ℕ) (i : ℕ) → IsInStep bs → i * 188 < length bs → is_sync bs (i * 188) ≡ true
 unfolding is_sync
 sync_at bs i step within = rw (step i within) refl
@@ -203,7 +203,7 @@ in_step_by bs step false is =
 pub in_step_plain : (bs : List ℕ) → IsInStep bs → other_packets bs ≡ None
 in_step_plain bs step = in_step_by bs step (nat_lt 376 (length bs)) refl
 
--- all whole packets, and fewer bytes than one has
+-- All whole packets, and fewer bytes than a packet has
 cut_short : (bs : List ℕ) → length bs < 188 → cut_packets bs ≡ []
 cut_short bs short = let e : length bs / 188 ≡ 0 = omega (arith, short) in rw e refl
 

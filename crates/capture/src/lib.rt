@@ -5,8 +5,8 @@
 //! slips, and the bytes after the last packet; `specs/FrontForms` what it is by its first bytes if it is no transport
 //! stream.
 //!
-//! - [`CaptureReader`]: takes the bytes piece by piece (`CaptureReader::take`), gives the parts that they settle to a [`PartTaker`], and
-//!   keeps less than 1,128 bytes that do not settle yet.
+//! - [`CaptureReader`]: takes the bytes piece by piece (`CaptureReader::take`), gives the parts that they settle to a
+//!   [`PartTaker`], and keeps less than 1,128 bytes that do not settle yet.
 //! - [`laws`]: a stream in step is read as it is, and the parts are the slips and the carried bytes of `packet_sync`.
 #![tactic(auto)]
 

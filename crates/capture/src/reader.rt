@@ -79,7 +79,8 @@ impl CaptureReader {
         ensures within { IfOk result (λ used. used ≤ length self.new.kept) }
         ensures most { IfOk result (λ used. length self.new.kept < used + 1128) }
         ensures taken { (first : T) (parts : List Part) → T.has_taken first parts taker.old →
-            IfOk result (spec.Settles (λ found. T.has_taken first (parts ++ found) taker.new) self.old.settled self.new.kept false self.new.settled) }
+            IfOk result (spec.Settles (λ found. T.has_taken first (parts ++ found) taker.new) self.old.settled
+            self.new.kept false self.new.settled) }
     {
         let size = piece.len().min(ENOUGH);
         self.kept.extend_from_slice(&piece[..size])?;
@@ -100,10 +101,13 @@ impl CaptureReader {
 
     /// Takes the next bytes of a capture, and gives the taker the parts that they settle; fewer than 1,128 bytes are
     /// kept.
+    ///
+    /// After an `AllocError` drop `taker` too: nothing is promised of its contents.
     pub fn take<T: PartTaker>(&mut self, piece: &[u8], taker: &mut T) -> Result<(), AllocError>
         ensures few { OnOk result (length self.new.kept < 1128) }
         ensures taken { (first : T) (parts : List Part) → T.has_taken first parts taker.old →
-            OnOk result (spec.Takes (λ found. T.has_taken first (parts ++ found) taker.new) self.old piece.now self.new) }
+            OnOk result (spec.Takes (λ found. T.has_taken first (parts ++ found) taker.new)
+            self.old piece.now self.new) }
     {
         let before = self.kept_size();
         let used = self.settle_front(piece, taker)?;
@@ -114,9 +118,12 @@ impl CaptureReader {
     }
 
     /// Ends the capture: gives the taker the parts that are left.
+    ///
+    /// After an `AllocError` drop `taker` too: nothing is promised of its contents.
     pub fn end<T: PartTaker>(&mut self, taker: &mut T) -> Result<CaptureEnd, AllocError>
         ensures { (first : T) (parts : List Part) → T.has_taken first parts taker.old →
-            IfOk result (spec.TakesLast (λ found. T.has_taken first (parts ++ found) taker.new) (spec.capture_left self.old [])) }
+            IfOk result (spec.TakesLast (λ found. T.has_taken first (parts ++ found) taker.new)
+            (spec.capture_left self.old [])) }
     {
         let used = self.settled.settle(&self.kept, true, taker)?;
         Ok(CaptureEnd {

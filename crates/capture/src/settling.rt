@@ -192,7 +192,8 @@ fn settle_plain<T: PartTaker>(
     ensures within { IfOk result (λ used. used ≤ length bytes.now) }
     ensures most { IfOk result (λ used. length bytes.now < used + reading.decisive ended) }
     ensures taken { (first : T) (parts : List Part) → T.has_taken first parts taker.old →
-        IfOk result (reading.SettlesFrom (λ found. T.has_taken first (parts ++ found) taker.new) None place.old bytes.now ended place.new) }
+        IfOk result (reading.SettlesFrom (λ found. T.has_taken first (parts ++ found) taker.new) None place.old
+        bytes.now ended place.new) }
 {
     let mut at = 0;
     while bytes.len() - at >= decisive(ended) {
@@ -213,7 +214,8 @@ fn settle_other<T: PartTaker>(
     ensures within { IfOk result (λ used. used ≤ length bytes.now) }
     ensures most { IfOk result (λ used. length bytes.now < used + spec.size_of other) }
     ensures taken { (first : T) (parts : List Part) (p : Place) (ended : Bool) → T.has_taken first parts taker.old →
-        IfOk result (reading.SettlesFrom (λ found. T.has_taken first (parts ++ found) taker.new) (Some other) p bytes.now ended p) }
+        IfOk result (reading.SettlesFrom (λ found. T.has_taken first (parts ++ found) taker.new)
+        (Some other) p bytes.now ended p) }
 {
     let size = bytes_apart(other);
     let mut at = 0;
@@ -259,7 +261,8 @@ impl Settled {
         ensures most { IfOk result (λ used. ended ≡ false → length bytes.now < used + 1128) }
         ensures last { IfOk result (λ used. ended ≡ true → reading.IsLast self.new (drop used bytes.now)) }
         ensures taken { (first : T) (parts : List Part) → T.has_taken first parts taker.old →
-            IfOk result (reading.Settles (λ found. T.has_taken first (parts ++ found) taker.new) self.old bytes.now ended self.new) }
+            IfOk result (reading.Settles (λ found. T.has_taken first (parts ++ found) taker.new) self.old
+            bytes.now ended self.new) }
     {
         match front.other {
             None => settle_plain(&mut self.place, bytes, ended, taker),
@@ -280,7 +283,8 @@ impl Settled {
         ensures most { IfOk result (λ used. ended ≡ false → length bytes.now < used + 1128) }
         ensures last { IfOk result (λ used. ended ≡ true → reading.IsLast self.new (drop used bytes.now)) }
         ensures taken { (first : T) (parts : List Part) → T.has_taken first parts taker.old →
-            IfOk result (reading.Settles (λ found. T.has_taken first (parts ++ found) taker.new) self.old bytes.now ended self.new) }
+            IfOk result (reading.Settles (λ found. T.has_taken first (parts ++ found) taker.new) self.old
+            bytes.now ended self.new) }
     {
         let front = self.begin(bytes, taker)?;
         self.settle_known(front, bytes, ended, taker)
@@ -298,7 +302,8 @@ impl Settled {
         ensures most { IfOk result (λ used. ended ≡ false → length bytes.now < used + 1128) }
         ensures last { IfOk result (λ used. ended ≡ true → reading.IsLast self.new (drop used bytes.now)) }
         ensures taken { (first : T) (parts : List Part) → T.has_taken first parts taker.old →
-            IfOk result (reading.Settles (λ found. T.has_taken first (parts ++ found) taker.new) self.old bytes.now ended self.new) }
+            IfOk result (reading.Settles (λ found. T.has_taken first (parts ++ found) taker.new) self.old
+            bytes.now ended self.new) }
     {
         if are_few(bytes, ended) {
             return Ok(0);

@@ -1,4 +1,4 @@
--- What is known of a unit for which no cause of refusal holds.
+-- Facts about a unit that no cause refuses
 use Rattle.std.proofs.Common.{◌≡◌, ℕ, ◌==◌, not, false, None, arith}
 use Rattle.pes_packet.specs.AccessUnits.{AccessUnit}
 use Rattle.pes_packet.specs.StreamIds.{greatest_size}

@@ -3,3 +3,4 @@ pub mod AcceptedUnits
 pub mod Runs
 pub mod LeftInput
 pub mod RunLengths
+pub mod ReadBytes

@@ -1,4 +1,4 @@
--- A run of more records than its input has bytes says no more.
+-- A run of more records than its input has bytes finds nothing more.
 use Rattle.std.proofs.Common.{◌≡◌, ℕ, zero, suc, ◌+◌, ◌%◌, ◌<◌, ◌≤◌, List, [], ◌∷◌, ◌++◌, length, Option, Some, None, Result, Ok, Err, refl, ap, arith}
 use Rattle.std.proofs.lemmas.List.{length-drop}
 use Rattle.ts_packet.specs.declared.start.Start.TheVariants.{Continues}
@@ -12,7 +12,7 @@ use Rattle.carry.specs.Refusals.{refusal}
 use Rattle.unit_records.specs.declared.reading.UnitFileError.{UnitFileError}
 use Rattle.unit_records.proofs.RecordReading.{record_long}
 
--- a step depends on the run after its own unit alone
+-- A step depends only on the run after its own unit.
 step_same : (id min_next_dts : ℕ) (found : Result (Option (ℕ × AccessUnit)) UnitFileError) (f g : AccessUnit → Run)
     → ((entry : ℕ × AccessUnit) → found ≡ Ok (Some entry) → f entry.1 ≡ g entry.1)
     → run_step id min_next_dts found f ≡ run_step id min_next_dts found g

@@ -1,4 +1,4 @@
--- A unit's packets, one payload after the other.
+-- A unit's packets, one payload after another
 use Rattle.std.proofs.Common.{◌≡◌, ℕ, zero, suc, ◌+◌, ◌-◌, ◌*◌, ◌%◌, ◌<◌, ◌≤◌, Bool, true, false, List, [], ◌∷◌, ◌++◌, length, take, drop, Option, refl, sym}
 use Rattle.std.proofs.Common.{ap, ◌∙◌, subst, arith, append_assoc, append-nil, cond, ◌==◌}
 use Rattle.std.proofs.lemmas.Bool.{ltb-false, ne_eqb}
@@ -23,12 +23,12 @@ use Rattle.packet_output.specs.Formats.{formatted, formatted_all}
 use Rattle.packet_output.proofs.Written.{took_longer}
 use Rattle.carry.specs.PidPackets.{payload_packets}
 
--- the payloads that are left of a unit when `at` packets of it have left
+-- The remaining payloads of a unit after `at` of its packets were sent
 unfoldable pub left_pieces : Bool → ℕ → List ℕ → List (List ℕ)
 left_pieces access zero pes = unit_pieces access pes
 left_pieces access (suc n) pes = pieces (drop (184 * suc n - field_size access) pes)
 
--- a payload and those after it, by their numbers and places
+-- A payload and the payloads after it, by their numbers and places
 payloads_by : (pes : List ℕ) (m n a b c d : ℕ) → m ≡ n → a ≡ b → c ≡ d →
     ◌≡◌ {A = List (List ℕ)} (take m (drop a pes) ∷ pieces (drop c pes)) (take n (drop b pes) ∷ pieces (drop d pes))
 payloads_by pes m n a b c d e f g = rw (e, f, g) refl
@@ -42,7 +42,7 @@ first_left false pes some =
     pieces_more pes some
     ∙ payloads_by pes 184 (184 - (0 - 184 * zero)) 0 (184 * zero - 0) 184 (184 * suc zero - 0) (omega arith) (omega arith) (omega arith)
 
--- they are the next one, and those after it
+-- The remaining payloads are the next payload and the payloads after it.
 left_more : (access : Bool) (at : ℕ) (pes : List ℕ) → 0 < length pes → 184 * at < field_size access + length pes →
     left_pieces access at pes ≡ part_of (field_size access) (184 * at) pes ∷ left_pieces access (suc at) pes
 unfolding left_pieces
@@ -58,7 +58,7 @@ left_more access (suc n) pes some inside =
     ∙ payloads_by pes 184 (184 - (field_size access - 184 * suc n)) (184 * suc n - field_size access) (184 * suc n - field_size access)
     ((184 * suc n - field_size access) + 184) (184 * suc (suc n) - field_size access) room refl next
 
--- and none, where nothing is left
+-- If no bytes remain, no payloads remain.
 left_none : (access : Bool) (at : ℕ) (pes : List ℕ) → field_size access + length pes ≤ 184 * suc at → left_pieces access (suc at) pes ≡ []
 unfolding left_pieces
 left_none access at pes short =
@@ -77,7 +77,7 @@ packets_none : (pid number : ℕ) (start : Start) (access : Bool) (at : ℕ) (pe
 unfolding payload_packets
 packets_none pid number start access at pes short = rw (left_none access at pes short) refl
 
--- a part that has bytes is a packet with this payload
+-- A part that has bytes is a packet with this payload.
 piece_is : (pid counter number : ℕ) (start : Start) (bytes packet : List ℕ) → 0 < length bytes → counter ≡ number % 16
     → packet ≡ packet_of (payload_or_null pid counter start bytes) → packet ≡ payload_packet pid start (number % 16) bytes
 unfolding packet_of
@@ -85,7 +85,7 @@ piece_is pid counter number start bytes packet some count is =
     let same : counter % 16 ≡ number % 16 = omega (arith, count) in
     is ∙ ap packet_of (some_is pid counter start bytes some) ∙ ap (λ (c : ℕ). payload_packet pid start c bytes) same
 
--- so many packets of a unit have left, and `sent` bytes with them
+-- Some packets of a unit were sent, and `sent` bytes with them.
 pub record PartWay (pid number : ℕ) (hex access : Bool) (pes : List ℕ) (sent counter : ℕ) (start now : Option (List ℕ)) (packets : Buffered)
     (all : List ℕ) : Type 0 where
   pub at : ℕ
@@ -112,7 +112,7 @@ part_start pid number hex access pes counter start now packets all some h e =
       holds = h;
     }
 
--- the packet that is next
+-- The next packet
 packet_is : (pid counter : ℕ) (access : Bool) (pes packet : List ℕ) (sent at : ℕ) → sent ≡ 184 * at →
     packet ≡ packet_of (part_content pid counter access pes sent)
     → packet ≡ packet_of (payload_or_null pid counter (start_by (at == 0) access) (part_of (field_size access) (184 * at) pes))
@@ -120,7 +120,7 @@ packet_is pid counter access pes packet sent at e is =
     is ∙ ap (λ (s : ℕ). packet_of (part_content pid counter access pes s)) e
     ∙ ap (λ (b : Bool). packet_of (payload_or_null pid counter (start_by b access) (part_of (field_size access) (184 * at) pes))) (start_same at)
 
--- the output so far, the next packet and those after it
+-- The output so far, the next packet and the packets after it
 part_output : (pid number : ℕ) (hex now_hex access : Bool) (pes packet : List ℕ) (sent counter : ℕ) (start now : Option (List ℕ)) (packets : Buffered)
     (all : List ℕ)
     (w : PartWay pid number hex access pes sent counter start now packets all) → sent < field_size access + length pes → now_hex ≡ hex
@@ -145,7 +145,7 @@ part_output pid number hex now_hex access pes packet sent counter start now pack
 next_of : (counter n m : ℕ) → counter ≡ n % 16 → m ≡ n + 1 → (counter + 1) % 16 ≡ m % 16
 next_of counter n m e f = omega (arith, e, f)
 
--- one packet more has left, and further ones follow
+-- One more packet is sent, and further packets follow.
 pub part_more : (pid number : ℕ) (hex now_hex access : Bool) (pes packet : List ℕ) (sent counter next : ℕ) (start now later : Option (List ℕ))
     (packets after : Buffered) (all : List ℕ)
     (w : PartWay pid number hex access pes sent counter start now packets all) → sent < field_size access + length pes → now_hex ≡ hex
@@ -165,7 +165,7 @@ part_more pid number hex now_hex access pes packet sent counter next start now l
       holds = holds;
     }
 
--- the last packet has left
+-- The last packet is sent.
 pub part_end : (pid number : ℕ) (hex now_hex access : Bool) (pes packet : List ℕ) (sent counter next : ℕ) (start now later : Option (List ℕ))
     (packets after : Buffered) (all : List ℕ)
     (w : PartWay pid number hex access pes sent counter start now packets all) → sent < field_size access + length pes → now_hex ≡ hex
@@ -187,7 +187,7 @@ part_end pid number hex now_hex access pes packet sent counter next start now la
       subst (λ (x : List ℕ). IsOutput start later after x) whole holds,
     )
 
--- the writer failed at the next packet
+-- The writer fails at the next packet.
 pub part_failed : (pid number : ℕ) (hex now_hex access : Bool) (pes packet : List ℕ) (sent counter taken : ℕ) (start now later : Option (List ℕ))
     (packets : Buffered) (all : List ℕ)
     (w : PartWay pid number hex access pes sent counter start now packets all) → sent < field_size access + length pes → now_hex ≡ hex
@@ -200,7 +200,7 @@ part_failed pid number hex now_hex access pes packet sent counter taken start no
     (took_longer start later taken (w.written ++ formatted now_hex packet)
     (formatted_all hex (payload_packets pid Continues (number + w.at + 1) (left_pieces access (suc w.at) pes))) took)
 
--- header and bytes are the PES packet of the unit
+-- The header and the bytes are the PES packet of the unit.
 pub pes_is : (id : ℕ) (unit : AccessUnit) (header bytes : List ℕ) (size : ℕ) (marks : Marks) (pts dts : ℕ) → header ≡ pes_header_bytes id size marks pts dts →
     bytes ≡ unit.bytes
     → size ≡ length unit.bytes → marks ≡ unit.marks → pts ≡ unit.pts → dts ≡ unit.dts → header ++ bytes ≡ pes_packet_bytes id 0 unit
@@ -215,7 +215,7 @@ size_some true b more = omega arith
 size_some false true more = omega arith
 size_some false false more = omega arith
 
--- a PES header is not empty
+-- A PES header is not empty.
 pub header_some : (id size : ℕ) (marks : Marks) (pts dts : ℕ) → 0 < length (pes_header_bytes id size marks pts dts)
 header_some id size marks pts dts =
     let long : length (pes_header_bytes id size marks pts dts) ≡ header_size marks pts dts = header_sizes id size marks pts dts in

@@ -68,6 +68,17 @@ Writes out units old new (Err (AtRecord index fault)) = Appends old new (out (ta
 Writes out units old new (Err (AtWriter sent)) = Took old new sent (out units)
 Writes out units old new (Err (NoMemory index)) = Appends old new (out (take index units))
 
+-- these bytes are the input's own, if the input's are known
+abbrev pub IsOwn : Option (List ℕ) → List ℕ → Type 0
+IsOwn known bytes = (xs : List ℕ) → known ≡ Some xs → bytes ≡ xs
+
+-- the answer and the output of some bytes: the input's own if these are known, and otherwise some bytes, as at a standard input
+pub record Carries (hex : Bool) (pid id : ℕ) (known old new : Option (List ℕ)) (answer : Result ℕ CarryError) : Type 0 where
+  pub bytes : List ℕ
+  pub own : IsOwn known bytes
+  pub answers : Answers (run_of id bytes) answer
+  pub writes : Writes (carried hex pid id) (run_of id bytes).units old new answer
+
 -- the bytes of an input after n records
 unfoldable pub after_records : ℕ → List ℕ → List ℕ
 after_records zero xs = xs

@@ -1,11 +1,11 @@
 -- The steps of a run over records: the next accepted unit, or why there is none.
-use Rattle.std.specs.Prelude.{◌≡◌, ◌≤◌, ◌^◌, ◌+◌, ℕ, List, [], length, Option, Some, None, Result, Ok, Err}
+use Rattle.std.specs.Prelude.{◌≡◌, ◌≤◌, ◌^◌, ◌+◌, ℕ, List, [], length, Option, Some, None, Result, Ok, Err, ⊤}
 use Rattle.counted_io.specs.Device.{Failed}
 use Rattle.pes_packet.specs.AccessUnits.{AccessUnit}
 use Rattle.pes_packet.specs.Marks.{marks_size}
 use Rattle.pes_packet.specs.StreamIds.{greatest_size}
 use Rattle.carry.specs.Refusals.{refusal}
-use Rattle.unit_records.specs.Records.{ReadsRecord, after_record, record_at}
+use Rattle.unit_records.specs.Records.{IsRecord, ReadsRecord, after_record, record_at}
 use Rattle.carry.specs.RecordRuns.{FileRefused, Finished, Leaves, Run, UnitRefused, after_records}
 use Rattle.unit_queue.specs.declared.refusal.FeedError.{FeedError}
 use Rattle.unit_records.specs.declared.reading.UnitFileError.TheVariants.{Cut, Size, Device, Memory}
@@ -31,7 +31,7 @@ pub record HoldsUnit (id min_next_dts : ℕ) (xs : List ℕ) (unit : AccessUnit)
 -- a record at the front whose unit is refused
 pub record IsRefused (id min_next_dts : ℕ) (xs : List ℕ) (left : Option (List ℕ)) (cause : FeedError) : Type 0 where
   pub unit : AccessUnit
-  pub stands : HoldsUnit id min_next_dts xs unit (Some cause)
+  pub is_refused : HoldsUnit id min_next_dts xs unit (Some cause)
   pub rest : left ≡ Some (after_record xs)
 
 -- the result of reading the next record of these bytes
@@ -44,6 +44,24 @@ ReadsNext id min_next_dts xs left (Err (Unread Size)) = ReadsRecord xs left (Err
 ReadsNext id min_next_dts xs left (Err (Unread Device)) = ReadsRecord xs left (Err Device)
 ReadsNext id min_next_dts xs left (Err (Unread Memory)) = ⊥
 ReadsNext id min_next_dts xs left (Err OutOfMemory) = ReadsRecord xs left (Err Memory)
+
+-- a unit of some record is refused for this cause or accepted
+pub record Judges (id min_next_dts : ℕ) (unit : AccessUnit) (cause : Option FeedError) : Type 0 where
+  pub stream : ℕ
+  pub bytes : List ℕ
+  pub is_record : IsRecord bytes (stream, unit)
+  pub judged_is : refusal id min_next_dts stream unit ≡ cause
+
+-- the result of reading the next record, whatever the input is
+abbrev pub JudgesNext : ℕ → ℕ → Result (Option AccessUnit) Stop → Type 0
+JudgesNext id min_next_dts (Ok None) = ⊤
+JudgesNext id min_next_dts (Ok (Some unit)) = Judges id min_next_dts unit None
+JudgesNext id min_next_dts (Err (Refused cause)) = (unit : AccessUnit) × Judges id min_next_dts unit (Some cause)
+JudgesNext id min_next_dts (Err (Unread Cut)) = ⊤
+JudgesNext id min_next_dts (Err (Unread Size)) = ⊤
+JudgesNext id min_next_dts (Err (Unread Device)) = ⊤
+JudgesNext id min_next_dts (Err (Unread Memory)) = ⊥
+JudgesNext id min_next_dts (Err OutOfMemory) = ⊤
 
 -- how a run ended after `index` records
 abbrev pub EndsRun : Run → ℕ → Option Stop → Type 0

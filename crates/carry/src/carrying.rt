@@ -3,9 +3,10 @@
 ghost use Rattle.std.specs.Prelude.{◌≡◌, ◌<◌, ℕ, ◌+◌, ◌++◌, List, Option, Some, None, IsTrue, IfOk, IfErr};
 ghost use Rattle.std.specs.Prelude.{IfSome, OnOk, OnErr, take};
 ghost use Rattle.pes_packet.specs.StreamIds.{is_unit_id};
-ghost use Rattle.carry.specs.RecordRuns.{Answers, Leaves, Writes, NamesDevice, run_of, carried};
+ghost use Rattle.carry.specs.RecordRuns.{Carries, IsOwn, Leaves, NamesDevice, run_of, carried};
 ghost use Rattle.packet_output.specs.Buffer.{IsOutput, Took};
-ghost use Rattle.carry.specs.RunSteps.{IsAccepted, ReadsNext, EndsRun, LeavesAt, NamesStop, NamesNext, answer_of};
+ghost use Rattle.carry.specs.RunSteps.{IsAccepted, JudgesNext, ReadsNext, EndsRun, LeavesAt, NamesStop, NamesNext};
+ghost use Rattle.carry.specs.RunSteps.{answer_of};
 ghost use Rattle.counted_io.specs.Device.{Failed};
 
 use crate::pid_packets::push_unit;
@@ -52,13 +53,13 @@ pub fn carry<A: Allocator + Copy, R: Source, W: Sink>(
     requires pid { pid < 8192 }
     requires id { IsTrue (is_unit_id id) }
 
-    // For an input whose bytes are known: the answer, what the writer took, and the bytes that remain.
-    ensures answer { (xs : List ℕ) → R.remaining input.old ≡ Some xs → Answers (run_of id xs) result }
-    ensures written { (xs : List ℕ) → R.remaining input.old ≡ Some xs →
-        Writes (carried hex pid id) (run_of id xs).units (W.contents output.old) (W.contents output.new) result }
+    // For an input whose bytes are known: the bytes that remain.
     ensures left { (xs : List ℕ) → R.remaining input.old ≡ Some xs → Leaves xs (R.remaining input.new) result }
 
-    // For any input and writer.
+    // For any input and writer: the answer and what the writer took, by the bytes that were read, the input's own if
+    // these are known; the failed calls.
+    ensures carries { Carries hex pid id (R.remaining input.old) (W.contents output.old) (W.contents output.new)
+        result }
     ensures fault { NamesDevice result (R.fault_count input.old) (R.fault_count input.new)
         (W.fault_count output.old) (W.fault_count output.new) }
 {
@@ -104,6 +105,7 @@ fn next_unit<A: Allocator, R: Source>(
 ) -> Result<Option<Unit<A>>, Stop>
     ensures known { (xs : List ℕ) → R.remaining input.old ≡ Some xs →
         ReadsNext id min_next_dts xs (R.remaining input.new) result }
+    ensures judges { JudgesNext id min_next_dts result }
     ensures accepted { IfOk result (λ found. IfSome found (IsAccepted id min_next_dts)) }
     ensures fault { NamesNext result (R.fault_count input.old) (R.fault_count input.new) }
 {
@@ -131,15 +133,14 @@ fn carry_all<A: Allocator + Copy, R: Source, W: Sink>(
 ) -> Result<(u64, Option<Stop>), OutputFault>
     requires pid { pid < 8192 }
     requires id { IsTrue (is_unit_id id) }
-    ensures ok { (xs : List ℕ) (start : Option (List ℕ)) (all : List ℕ) → R.remaining input.old ≡ Some xs →
-        IsOutput start (W.contents output.old) packets.old all →
-        IfOk result (λ run. EndsRun (run_of id xs) run.0 run.1
-        × IsOutput start (W.contents output.new) packets.new
-        (all ++ carried packets.old.hex pid id (take run.0 (run_of id xs).units))) }
-    ensures err { (xs : List ℕ) (start : Option (List ℕ)) (all : List ℕ) → R.remaining input.old ≡ Some xs →
-        IsOutput start (W.contents output.old) packets.old all →
-        IfErr result (λ fault. Took start (W.contents output.new) fault.sent
-        (all ++ carried packets.old.hex pid id (run_of id xs).units)) }
+    ensures ok { (start : Option (List ℕ)) (all : List ℕ) → IsOutput start (W.contents output.old) packets.old all →
+        IfOk result (λ run. (bytes : List ℕ) × IsOwn (R.remaining input.old) bytes
+        × EndsRun (run_of id bytes) run.0 run.1 × IsOutput start (W.contents output.new) packets.new
+        (all ++ carried packets.old.hex pid id (take run.0 (run_of id bytes).units))) }
+    ensures err { (start : Option (List ℕ)) (all : List ℕ) → IsOutput start (W.contents output.old) packets.old all →
+        IfErr result (λ fault. (bytes : List ℕ) × IsOwn (R.remaining input.old) bytes
+        × Took start (W.contents output.new) fault.sent
+        (all ++ carried packets.old.hex pid id (run_of id bytes).units)) }
     ensures left { (xs : List ℕ) → R.remaining input.old ≡ Some xs →
         IfOk result (λ run. LeavesAt xs (R.remaining input.new) run.0 run.1) }
     ensures reads { IfOk result (λ run. NamesStop run.1 (R.fault_count input.old) (R.fault_count input.new)) }

@@ -1,4 +1,4 @@
--- What the readers of a description and a plan say, in the terms of a job.
+-- The results of the readers of a description and a plan, in the terms of a job
 use Rattle.std.proofs.Common.{◌≡◌, ℕ, ◌-◌, Bool, true, false, List, length, take, drop, sym, ap, ◌∙◌, Ok, Err}
 use Rattle.std.specs.Prelude.{if◌then◌else◌}
 use Rattle.std.specs.Str.{IsUtf8, is_utf8}
@@ -16,7 +16,7 @@ use Rattle.slot_plan.proofs.TextPlans.{plan-complete}
 use Rattle.std.proofs.lemmas.List.{take_rest}
 use Rattle.checked_jobs.specs.Jobs.{NamesLine, described, planned}
 
--- text that is UTF-8
+-- A text that is UTF-8 is read as a description.
 pub described_text : (bytes text : List ℕ) → text ≡ bytes → IsUtf8 bytes → description_of (parse_document text) ≡ described bytes
 unfolding described
 described_text bytes text e u = ap (λ (x : List ℕ). description_of (parse_document x)) e

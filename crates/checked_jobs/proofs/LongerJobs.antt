@@ -1,4 +1,4 @@
--- A job with more bytes after it: the plans that its front is read as stay, and the bytes after them grow.
+-- A job with more bytes after it: its plans stay the same, and the bytes after the plans grow.
 use Rattle.std.proofs.Common.{◌≡◌, ℕ, suc, ◌+◌, ◌-◌, ◌≤◌, Bool, true, false, List, [], ◌∷◌, ◌++◌, length, take, drop, min, refl, sym, ap, ap₂, subst, ◌∙◌}
 use Rattle.std.proofs.Common.{arith, append_assoc, length-append, Option, Some, None, Result, Ok, Err}
 use Rattle.std.specs.Prelude.{◌&&◌, ◌==◌, if◌then◌else◌, nat_eq, option_map}
@@ -21,7 +21,7 @@ use Rattle.checked_jobs.specs.JobFaults.{IsJobAtFront, is_final, plans_view}
 use Rattle.checked_jobs.specs.declared.jobs.JobPlans.{JobPlans}
 use Rattle.checked_jobs.specs.declared.jobs.JobPlans.TheVariants.{One, Two}
 
--- with more bytes after the plans
+-- The job with more bytes after the plans
 abbrev pub longer : JobView → List ℕ → JobView
 longer j more = record j { rest = j.rest ++ more }
 
@@ -40,7 +40,7 @@ planned_after text rest p e = (plan-sound text p rest e).1
 same_job : (a b : JobView) → ◌≡◌ {A = Result JobView JobFaultView} (Ok a) (Ok b) → a ≡ b
 same_job a b e = cc
 
--- what more bytes leave, and that the bytes after the plans end those that were given
+-- The result with more bytes is the longer job, and the bytes after the plans are the end of the given bytes.
 pub record Keeps (given : List ℕ) (after : List ℕ → Result JobView JobFaultView) (j : JobView) : Type 0 where
   pub more : (more : List ℕ) → after more ≡ Ok (longer j more)
   pub front : List ℕ
@@ -52,7 +52,7 @@ unless_kept : (named : Entry → JobFaultView) (o : Option Entry) (now : Result 
 unless_kept named None now given after j k e = k e
 unless_kept named (Some fault) now given after j k e = absurd cc
 
--- the same bytes before, and what is read of more of them
+-- If bytes are read first, the result for the rest of the bytes is kept.
 kept_before : (front given : List ℕ) (before after : List ℕ → Result JobView JobFaultView) (j : JobView) → Keeps given after j →
     ((more : List ℕ) → before more ≡ after more) → Keeps (front ++ given) before j
 kept_before front given before after j k s = record {
@@ -100,7 +100,7 @@ described_kept switch text j (Err (refused_by.Refused f)) e = absurd cc
 described_kept switch text j (Err refused_by.Memory) e = absurd cc
 described_kept switch text j (Ok d) e = plan_kept switch d text j (planned text) refl e
 
--- 3. Where the plans begin
+-- 3. The start of the plans
 
 same_size : (xs ys : List ℕ) → pointwise nat_eq xs ys ≡ true → length xs ≡ length ys
 same_size [] [] e = refl
@@ -185,7 +185,7 @@ Stays after f = (more : List ℕ) → after more ≡ Err f
 same_fault : (a b : JobFaultView) → ◌≡◌ {A = Result JobView JobFaultView} (Err a) (Err b) → a ≡ b
 same_fault a b e = cc
 
--- a fault that more bytes may change is none of these
+-- A fault that more bytes may change is not a final fault.
 changes : (a b : JobFaultView) → is_final a ≡ false → ◌≡◌ {A = Result JobView JobFaultView} (Err a) (Err b) → is_final b ≡ true → ⊥
 changes a b n e f = false≢true (sym n ∙ ap is_final (same_fault a b e) ∙ f)
 
@@ -253,7 +253,7 @@ view_rest : (plans : JobPlans) (rest : List ℕ) → (plans_view plans rest).res
 view_rest (One c) rest = refl
 view_rest (Two c) rest = refl
 
--- the bytes after the plans end those that were given
+-- The bytes after the plans are the end of the given bytes.
 rest_ends : (switch : Bool) (xs rest : List ℕ) (plans : JobPlans) → Ok (plans_view plans rest) ≡ job_of switch xs → (front : List ℕ) × (xs ≡ front ++ rest)
 rest_ends switch xs rest plans e =
     let k = job_kept switch xs (plans_view plans rest) (sym e) in
@@ -277,7 +277,7 @@ job_at_front switch xs rest plans place p e =
     let left : drop place xs ≡ rest = ap₂ (λ (n : ℕ) (x : List ℕ). drop n x) at k.1 ∙ drop-append_seam k.0 rest in
     (omega (arith, at, size, both), ap (λ (x : List ℕ). Ok (plans_view plans x)) left ∙ e)
 
--- the plans stay where more bytes come after them
+-- The plans stay the same if more bytes follow them.
 pub plans_stay : (switch : Bool) (xs more : List ℕ) (plans : JobPlans) (place : ℕ) → IsJobAtFront (job_of switch xs) xs (Ok (plans, place)) →
     Ok (plans_view plans (drop place xs ++ more)) ≡ job_of switch (xs ++ more)
 plans_stay switch xs more plans place p =

@@ -45,8 +45,8 @@ planned text = plan_at text
 
 -- that is the first bad line of the text; nothing is claimed when out of memory
 abbrev pub NamesLine : Result (Planned × List ℕ) ℕ → PlanTextError → Type 0
-NamesLine standing (bad_text.Line line) = standing ≡ Err line
-NamesLine standing bad_text.Memory = ⊤
+NamesLine expected (bad_text.Line line) = expected ≡ Err line
+NamesLine expected bad_text.Memory = ⊤
 
 -- the first condition that does not hold for a plan
 unfoldable pub fault_of : Described → Planned → Option Entry

@@ -1,4 +1,4 @@
--- Departures of bytes that arrive in parts, and of bytes in a row.
+-- Departures of bytes that arrive in parts, and of bytes in a row
 use Rattle.std.proofs.Common.{ℕ, zero, suc, ◌+◌, ◌*◌, ◌≤◌, max, List, [], ◌∷◌, refl, ap, arith}
 use Rattle.std.proofs.lemmas.List.Elements.{All-nil, All-cons, All-head, All-tail, All-weaker}
 use Rattle.clock27.specs.Arrival.{bytes_from}
@@ -20,7 +20,7 @@ unfolding departures
 length-departures step prev [] = refl
 length-departures step prev (t ∷ ts) = ap suc (length-departures step (max t prev + step) ts)
 
--- one byte, and then the rest
+-- One byte, and then the remaining bytes
 one_before : (step prev r i n last : ℕ) → last ≤ max ((suc i + n) * r) (max (i * r) prev + step) + n * step →
     last ≤ max ((i + suc n) * r) prev + suc n * step
 one_before step prev r i n last h = omega (arith, h)
@@ -30,7 +30,7 @@ unfolding last_left bytes_from
 last_packet step prev r i zero = omega arith
 last_packet step prev r i (suc n) = one_before step prev r i n _ (last_packet step (max (i * r) prev + step) r (suc i) n)
 
--- the last departure is no earlier than the one before the first
+-- The last departure is no earlier than the departure before the first byte.
 prev_le : (step prev : ℕ) (ts : List ℕ) → prev ≤ last_left step prev ts
 unfolding last_left
 prev_le step prev [] = omega arith

@@ -1,4 +1,4 @@
--- The number of bytes in a buffer.
+-- The number of bytes in a buffer
 use Rattle.std.proofs.Common.{◌≡◌, ℕ, suc, ◌+◌, ◌-◌, ◌*◌, ◌<◌, ◌≤◌, ◌⊎◌, max, inl, inr, List, [], ◌∷◌, refl, arith, cond}
 use Rattle.std.proofs.Math.Nat.{mul-le-mul_right}
 use Rattle.std.proofs.lemmas.Bool.{cases_lt}
@@ -17,7 +17,7 @@ fullness-append x (t ∷ ts) ts' (d ∷ ds) ds' e =
     let rest = fullness-append x ts ts' ds ds' (cc) in
     rw rest (omega arith)
 
--- one byte counts at most once
+-- One byte adds at most 1 to the count.
 one_at_most : (x t d : ℕ) → (let n : ℕ = cond (is_in_buffer x t d) 1 0 in n) ≤ 1
 one_at_most x t d = grind (arith, nat_tests)
 
@@ -45,13 +45,12 @@ fullness_after x [] ds a = refl
 fullness_after x (t ∷ ts) [] a = refl
 fullness_after x (t ∷ ts) (d ∷ ds) a = omega (arith, late_one x t d (All-head (λ s. s ≤ x) d ds a), fullness_after x ts ds (All-tail (λ s. s ≤ x) d ds a))
 
--- the number counted by a byte: 1 where it is in the buffer, and then it arrived at or before x and leaves after it;
--- else 0
+-- A byte adds 1 if it is in the buffer: it arrived at or before x and leaves after x. Otherwise it adds 0.
 pub counted_one : (x t d : ℕ) → (let n : ℕ = cond (is_in_buffer x t d) 1 0 in ((n ≡ 1) × (t ≤ x) × (x < d)) ⊎ ((n ≡ 0) × ((x < t) ⊎ (d ≤ x))))
 counted_one x t d = grind (arith, nat_tests)
 
--- of c bytes in the buffer so far the last leaves at prev, and the others a step apart before it; so does one more, at
--- d
+-- Among c bytes in the buffer the last leaves at `prev`, and each leaves a step before its successor; with one more byte, leaving at d, the same is true of c
+-- + 1 bytes.
 one_more : (c step x t prev d : ℕ) → 0 < step → c * step ≤ (prev + step) - (x + 1) → d ≡ max t prev + step → t ≤ x → x < d →
     suc c * step ≤ (d + step) - (x + 1)
 one_more c step x t prev d pos h e come leave = elim (cases_lt x prev) [
@@ -62,14 +61,14 @@ one_more c step x t prev d pos h e come leave = elim (cases_lt x prev) [
   ]
 ]
 
--- and there is room for it
+-- The buffer has room for one more byte.
 one_fits : (c step room x t d : ℕ) → suc c * step ≤ (d + step) - (x + 1) → d ≤ t + room * step → t ≤ x → 0 < step → suc c ≤ room
 one_fits c step room x t d h stay come pos = elim (cases_lt room (suc c)) [
   | inl over ↦ absurd (omega (arith, h, mul-le-mul_right step over))
   | inr within ↦ within
 ]
 
--- with c bytes in the buffer of those before
+-- The room that is left if c earlier bytes are in the buffer
 room_left : (c x step room prev : ℕ) (ts : List ℕ) → 0 < step → c ≤ room → c * step ≤ (prev + step) - (x + 1) →
     Stays (room * step) ts (departures step prev ts) → c + fullness x ts (departures step prev ts) ≤ room
 unfolding departures fullness Stays

@@ -1,4 +1,4 @@
--- What `max` and `min` of two numbers give.
+-- The `max` and the `min` of two numbers
 use Rattle.std.proofs.Common.{◌≡◌, ℕ, min, max, nat_cmp, arith}
 use Rattle.std.specs.Ordering.{ord_max, ord_min}
 use Rattle.std.proofs.lemmas.Bool.Decides.{nat_tests}

@@ -1,4 +1,4 @@
--- The greatest fullness of a queue.
+-- The greatest fullness of a queue
 use Rattle.std.proofs.Common.{◌≡◌, ℕ, zero, suc, ◌+◌, ◌-◌, ◌*◌, ◌/◌, ◌<◌, ◌≤◌, max, cond, List, [], ◌∷◌, ◌++◌, refl, inl, inr, arith, All}
 use Rattle.std.proofs.Math.Nat.{le_trans, mul-le-mul_right, lt-mul-div-succ, div-eq_of_lt, add-div_right}
 use Rattle.std.proofs.lemmas.Bool.{cases_lt}
@@ -9,7 +9,7 @@ use Rattle.clock27.specs.Fullness.{is_in_buffer, fullness, Stays}
 use Rattle.clock27.specs.Peak.{Climbs, found, most_found, PeakLaw, ArrivalsClimb, DeparturesClimb}
 use Rattle.clock27.proofs.Fullness.{room_law, fullness_before, counted_one}
 
--- bytes that take y to leave, rounded up
+-- The number of bytes that take y to leave, rounded up
 abbrev left_in : ℕ → ℕ → ℕ
 left_in step y = (y + (step - 1)) / step
 
@@ -31,7 +31,7 @@ left_more step y pos =
 left_enough : (step y : ℕ) → 0 < step → y ≤ left_in step y * step
 left_enough step y pos = omega (arith, lt-mul-div-succ (y + (step - 1)) pos)
 
--- at a moment x a byte that arrived before it adds itself to those that leave after x
+-- At a moment x, a byte that has arrived adds 1 to the bytes that leave after x.
 counted_in : (step x t prev : ℕ) → 0 < step → t ≤ x →
     (let n : ℕ = cond (is_in_buffer x t (max t prev + step)) 1 0 in n) + left_in step (prev - x) ≡ left_in step ((max t prev + step) - x)
 counted_in step x t prev pos come = elim (counted_one x t (max t prev + step)) [
@@ -54,7 +54,7 @@ counted_in step x t prev pos come = elim (counted_one x t (max t prev + step)) [
   ]
 ]
 
--- times that climb from after x are all after x
+-- If times climb from after x, all of them are after x.
 climbs_after : (x from : ℕ) (ts : List ℕ) → x < from → Climbs from ts → All (λ t. x < t) ts
 unfolding Climbs
 climbs_after x from [] lt climbs = All-nil (λ t. x < t)
@@ -63,13 +63,13 @@ climbs_after x from (t ∷ ts) lt climbs =
     let next : x < suc t = omega arith in
     All-cons (λ t. x < t) t ts here (climbs_after x (suc t) ts next climbs.1)
 
--- a byte alone after the others: it is there, and so are those that leave after it came
+-- When a byte arrives after all earlier bytes, it adds 1 to the bytes that have not left.
 alone : (step t prev : ℕ) → 0 < step → left_in step ((max t prev + step) - t) ≡ left_in step (prev - t) + 1
 alone step t prev pos =
     let e : (max t prev + step) - t ≡ (prev - t) + step = omega arith in
     rw e (left_more step (prev - t) pos)
 
--- the most is found at some arrival
+-- The greatest fullness is found at some arrival.
 record Found (step prev from most : ℕ) (ts : List ℕ) : Type 0 where
   at : ℕ
   after : from ≤ at
@@ -125,7 +125,7 @@ unfolding Climbs
 climbs_from low from [] le climbs = tt
 climbs_from low from (t ∷ ts) le climbs = (le_trans le climbs.0, climbs.1)
 
--- n bytes in a row, and times after them
+-- If times climb after n bytes in a row, the bytes and the times climb together.
 climbs_row : (r i n : ℕ) (ts : List ℕ) → 0 < r → Climbs ((i + n) * r) ts → Climbs (i * r) (bytes_from r i n ++ ts)
 unfolding Climbs bytes_from
 climbs_row r i zero ts pos climbs = let e : i + 0 ≡ i = omega arith in rw e at climbs

@@ -1,4 +1,4 @@
--- Times in smaller units, and greater limits.
+-- Times in smaller units, and greater limits
 use Rattle.std.proofs.Common.{◌≡◌, ℕ, zero, suc, ◌+◌, ◌-◌, ◌*◌, ◌/◌, ◌<◌, ◌≤◌, max, [], ◌∷◌, map, refl, ◌∙◌, sym, inl, inr, arith, nat_le, nat_lt}
 use Rattle.std.proofs.Math.Nat.{mul-le-mul_left, mul-le-mul_right, mul-div-le, lt-mul-div-succ, le_of_lt}
 use Rattle.std.proofs.lemmas.Bool.{cases_lt, lt-ltb, le-ltb, le-leb, lt-leb}
@@ -9,7 +9,7 @@ use Rattle.clock27.specs.Fullness.{fullness}
 use Rattle.clock27.specs.Recurrence.{Recur}
 use Rattle.clock27.specs.Laws.{ScaleLaw, ArrivalsScaleLaw, FullnessScaleLaw, LimitLaw}
 
--- the later of two times, and a step, in smaller units
+-- The later of two times, and a step, in smaller units
 next-scale : (k step a b : ℕ) → max (k * a) (k * b) + k * step ≡ k * (max a b + step)
 next-scale k step a b = elim (cases_lt a b) [
   | inl h ↦ let m : max a b ≡ b = omega arith in let l = mul-le-mul_left k (le_of_lt h) in rw m (omega (arith, l))
@@ -34,7 +34,7 @@ arrivals-scale k r [] = refl
 arrivals-scale k r (slot ∷ slots) =
     rw (bytes_from-scale k r (188 * slot) 188, arrivals-scale k r slots, map-append (λ t. k * t) (bytes_from r (188 * slot) 188) (arrivals r slots)) refl
 
--- a multiple lies at or before a moment exactly where the number lies at or before the moment in greater units
+-- A multiple lies at or before a moment exactly if the number lies at or before the moment in greater units.
 come-scale : (x k t : ℕ) → 0 < k → nat_le (k * t) x ≡ nat_le t (x / k)
 come-scale x k t pos = elim (cases_lt (x / k) t) [
   | inl h ↦ lt-leb (k * t) x (omega (arith, lt-mul-div-succ x pos, mul-le-mul_left k h)) ∙ sym (lt-leb t (x / k) h)

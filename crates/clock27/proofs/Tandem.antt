@@ -1,11 +1,11 @@
--- A queue after another that is no slower.
+-- A queue after a queue that is no slower
 use Rattle.std.proofs.Common.{◌≡◌, ℕ, ◌+◌, ◌-◌, ◌≤◌, max, List, [], ◌∷◌, map, refl, arith, cond}
 use Rattle.std.proofs.lemmas.Bool.Decides.{nat_tests}
 use Rattle.clock27.specs.Departure.{departures}
 use Rattle.clock27.specs.Fullness.{is_in_buffer, fullness}
 use Rattle.clock27.specs.Laws.{TandemLaw, SecondLaw}
 
--- p, e and f are the last departures from the first queue, from the second, and from the second alone
+-- p, e and f are the last departures from the first queue, from the second queue, and from the second queue alone.
 later : (first second p e f : ℕ) (ts : List ℕ) → first ≤ second → p ≤ f → max e first ≡ f + first →
     departures second e (departures first p ts) ≡ map (λ d. d + first) (departures second f ts)
 unfolding departures
@@ -23,7 +23,7 @@ tandem_law first second ts le =
     let start : max 0 first ≡ 0 + first = omega arith in
     later first second 0 0 0 ts le nothing start
 
--- a byte in the second queue would be in it alone, `first` before
+-- A byte that is in the second queue at x would, without the first queue, be in it at x - first.
 one_earlier : (x first prev t f : ℕ) →
     (let n : ℕ = cond (is_in_buffer x (max t prev + first) (f + first)) 1 0 in n) ≤ (let n : ℕ = cond (is_in_buffer (x - first) t f) 1 0 in n)
 one_earlier x first prev t f = grind (arith, nat_tests)

@@ -1,4 +1,4 @@
--- Bytes of a stream, many at a time.
+-- Bytes of a stream, many at a time
 use Rattle.std.proofs.Common.{◌≡◌, ℕ, zero, suc, zero-add, ◌+◌, ◌<◌, ◌≤◌, ◌==◌, true, false, List, [], ◌∷◌, ◌++◌, length, take, drop, slice_index, refl, sym}
 use Rattle.std.proofs.Common.{ap, ◌∙◌, arith, append_assoc, length-append}
 use Rattle.std.proofs.lemmas.List.{length-take-le}
@@ -11,7 +11,7 @@ not_whole n h = grind (arith, nat_tests)
 is_whole : (n : ℕ) → n ≡ 188 → (n == 188) ≡ true
 is_whole n h = grind (arith, nat_tests)
 
--- with these bytes held
+-- The log with these held bytes
 abbrev holding : LogView → List ℕ → LogView
 holding s held = record { packets = s.packets; held = held; found = s.found }
 
@@ -23,7 +23,7 @@ completed_whole : (s : LogView) (held : List ℕ) → length held ≡ 188 → co
 unfolding completed
 completed_whole s held h = rw (is_whole (length held) h) refl
 
--- a byte is held, or makes a packet whole
+-- A byte is held, or it completes a packet.
 pub byte_held : (s t : LogView) (byte : ℕ) → length s.held < 187 → t ≡ record { packets = s.packets; held = s.held ++ byte ∷ []; found = s.found } →
     t ≡ completed s (s.held ++ byte ∷ [])
 byte_held s t byte few e = e ∙ sym (completed_less s (s.held ++ byte ∷ []) (omega (arith, few, length-append s.held (byte ∷ []))))
@@ -33,12 +33,12 @@ pub byte_ends : (s t : LogView) (byte : ℕ) (packet : List ℕ) → length s.he
 byte_ends s t byte packet full is e =
     e ∙ ap (λ (p : List ℕ). with_packet s p) is ∙ sym (completed_whole s (s.held ++ byte ∷ []) (omega (arith, full, length-append s.held (byte ∷ []))))
 
--- one piece after another
+-- Two pieces, one after another, are logged as one piece.
 pub logged_append : (s : LogView) (xs ys : List ℕ) → logged s (xs ++ ys) ≡ logged (logged s xs) ys
 logged_append s [] ys = refl
 logged_append s (x ∷ xs) ys = logged_append (completed s (s.held ++ x ∷ [])) xs ys
 
--- the rest of a packet
+-- The remaining bytes of a packet complete it.
 logged_whole : (s : LogView) (xs : List ℕ) → 0 < length xs → length s.held + length xs ≡ 188 → logged s xs ≡ with_packet s (s.held ++ xs)
 logged_whole s [] p h = absurd (omega arith)
 logged_whole s (x ∷ []) p h =
@@ -56,7 +56,7 @@ none_held : (held : List ℕ) → true ≡ (length held == 0) → held ≡ []
 none_held [] e = refl
 none_held (x ∷ held) e = absurd (grind (arith, nat_tests))
 
--- a whole packet where no byte is held
+-- A whole packet is logged at once, if no byte is held.
 pub packet_logged : (s t : LogView) (bytes packet : List ℕ) → true ≡ (length s.held == 0) → 188 ≤ length bytes → packet ≡ take 188 bytes →
     t ≡ with_packet s packet →
     t ≡ logged s (take 188 bytes)
@@ -71,7 +71,7 @@ take_one : (bytes : List ℕ) → 0 < length bytes → slice_index bytes 0 ∷ [
 take_one [] some = absurd (omega arith)
 take_one (x ∷ xs) some = refl
 
--- one byte
+-- One byte is logged.
 pub byte_logged : (s t : LogView) (bytes : List ℕ) (byte : ℕ) → 0 < length bytes → byte ≡ slice_index bytes 0 → t ≡ completed s (s.held ++ byte ∷ []) →
     t ≡ logged s (take 1 bytes)
 byte_logged s t bytes byte some is e = e ∙ ap (λ (b : ℕ). logged s (b ∷ [])) is ∙ ap (logged s) (take_one bytes some)
@@ -85,6 +85,6 @@ take_add zero m xs = ap (λ (k : ℕ). take k xs) (sym (zero-add m))
 take_add (suc n) m [] = take_none m ∙ sym (take_none (suc n + m))
 take_add (suc n) m (x ∷ xs) = let e : suc n + m ≡ suc (n + m) = omega arith in rw e (ap (λ (ys : List ℕ). x ∷ ys) (take_add n m xs))
 
--- a piece in two
+-- A piece in two parts is logged as one.
 pub logged_take : (s : LogView) (n m : ℕ) (xs : List ℕ) → logged (logged s (take n xs)) (take m (drop n xs)) ≡ logged s (take (n + m) xs)
 logged_take s n m xs = sym (logged_append s (take n xs) (take m (drop n xs))) ∙ ap (logged s) (take_add n m xs)

@@ -1,4 +1,4 @@
--- What is found of a PID that is not timed.
+-- Findings on a PID that is not timed
 use Rattle.std.proofs.Common.{◌≡◌, ℕ, Bool, true, false, if◌then◌else◌, Option, Some, None, List, [], ◌∷◌, refl, ap, ◌∙◌}
 use Rattle.std.proofs.lemmas.Bool.{eqb-true}
 use Rattle.demux.specs.Laws.{found_of, has_pid}
@@ -11,7 +11,7 @@ own_pid : (pid : ℕ) (p : Option ℕ) → has_pid pid p ≡ true → p ≡ Some
 own_pid pid None is = absurd cc
 own_pid pid (Some other) is = ap Some (eqb-true other pid is)
 
--- it has no moment
+-- A finding on this PID has no moment.
 no_moment : (t : TimesView) (clocks : Clocks) (pid : ℕ) (p : Option ℕ) → is_unstamped t.seen pid ≡ false → p ≡ Some pid → moment_on t clocks p ≡ None
 unfolding moment_on moment_of
 no_moment t clocks pid p stamped own = rw (own, stamped) refl

@@ -4,8 +4,8 @@
 //! such a packet is the last reference of its program's clock before it is whole.
 //!
 //! - [`ReferenceLog`]: the clock references in bytes that come (`specs/References`).
-//! - [`text_times`], [`TextTimes`]: which PIDs have such teletext, and the findings of a stream, each PES packet of it with its
-//!   moment as PTS (`specs/DataTimes`).
+//! - [`text_times`], [`TextTimes`]: which PIDs have such teletext, and the findings of a stream, each PES packet of it
+//!   with its moment as PTS (`specs/DataTimes`).
 //! - [`programs_in`], [`stream_on`], [`pcr_of`]: the programs of a stream, and their clocks.
 //! - [`others_stay`]: findings of other PIDs stay as they are.
 #![tactic(auto)]

@@ -1,4 +1,4 @@
--- What is found of one PID, packet by packet of a stream.
+-- The findings on one PID, packet by packet of a stream.
 use Rattle.std.proofs.Common.{◌≡◌, ℕ, ◌+◌, ◌^◌, ◌<◌, ◌==◌, Bool, true, false, cond, List, [], ◌∷◌, ◌++◌, length, map, filter, Result, Ok, Err, refl, sym, ap}
 use Rattle.std.proofs.Common.{ap₂, subst, ◌∙◌, arith, append_assoc}
 use Rattle.std.specs.Prelude.{not, ◌&&◌}
@@ -19,7 +19,7 @@ use Rattle.demux.specs.Stream.{States, StreamState, state_of, with_state, states
 use Rattle.demux.specs.Stream.{found_in}
 use Rattle.demux.specs.Laws.{found_of, with_pid_at}
 
--- 1. Findings of one PID
+-- 1. Findings on one PID
 
 pub same_number : (a b : ℕ) → (a == b) ≡ true → a ≡ b
 same_number a b e = grind (arith, nat_tests)
@@ -36,7 +36,7 @@ turned_test a b = by (a == b) (b == a) refl refl
 pub of_append : (pid : ℕ) (xs ys : List FindingView) → found_of pid (xs ++ ys) ≡ found_of pid xs ++ found_of pid ys
 of_append pid xs ys = filter-append _ xs ys
 
--- those of a PID are all its own
+-- A PID's findings are all on this PID.
 pub of_with_pid : (pid packet : ℕ) (q : ℕ) (t : Bool) → (q == pid) ≡ t → (xs : List Found) →
     found_of pid (map (with_pid q packet) xs) ≡ cond t (map (with_pid q packet) xs) []
 of_with_pid pid packet q true e [] = refl
@@ -71,7 +71,7 @@ state_with pid q state (x ∷ states) t e = by t (state_with pid q state states 
 
 -- 3. One packet
 
--- the packets of a PID among some, from an index on
+-- The packets of a PID in a list whose first packet has this index
 abbrev pub listed : ℕ → ℕ → List (List ℕ) → List Entry
 listed pid index packets =
     filter (λ entry. is_of_pid pid entry.packet) (filter_map (λ p. lists.entry_of p.0 p.1 (packet_at p.1)) (enumerate_from index packets))
@@ -92,7 +92,7 @@ listed_next pid index bytes packets = by (packet_at bytes)
     by (Err e) = refl
     by (Ok p) = refl
 
--- what a packet does to a PID, where it says this
+-- The findings and the state of a PID after a packet with these two tests
 found_by_it : (pid index : ℕ) (states : States) (entry : Entry) (q : ℕ) (e z : Bool) → List FindingView
 found_by_it pid index states entry q e z =
     found_of pid (cond e (without_pid index IsErrored ∷ []) (cond z [] (map (with_pid q index) (found_by (state_of q states) entry))))
@@ -162,7 +162,7 @@ to_next pid index bytes states rest (Ok packet) n =
     to_step pid states (entry_of index bytes packet) packet.header.pid rest packet.header.transport_error_indicator (packet.header.pid == 8191)
     (packet.header.pid == pid) refl refl n
 
--- 4. Packet by packet
+-- 4. All packets, one by one
 
 abbrev pub packets_pushed : StreamState → List (List ℕ) → StreamState
 packets_pushed s [] = s

@@ -1,4 +1,4 @@
--- A stream whose findings are taken away as they come.
+-- A stream whose findings the caller takes away after each step.
 use Rattle.std.proofs.Common.{◌≡◌, ℕ, Bool, true, false, List, [], ◌∷◌, ◌++◌, length, refl, sym, ap, ◌∙◌, append_assoc}
 use Rattle.std.specs.Prelude.{if◌then◌else◌, ◌==◌}
 use Rattle.std.specs.List.{concat}
@@ -12,7 +12,7 @@ use Rattle.demux.specs.FoundSoFar.{with_found}
 use Rattle.demux.proofs.PushedBytes.{pushed_append, taken_as_pushed}
 use Rattle.demux.proofs.WholeStream.{each_pid_alone}
 
--- what was found before stays in front
+-- Earlier findings remain in front.
 completed_if : (b : Bool) (front : List FindingView) (s : StreamState) (held : List ℕ) →
     (if b then packet_pushed (with_found (front ++ s.found) s) held else record (with_found (front ++ s.found) s) { held = held })
     ≡ with_found (front ++ (if b then packet_pushed s held else record s { held = held }).found) (if b then packet_pushed s held else record s { held = held })
@@ -42,7 +42,7 @@ finished_if false front more s = append_assoc front s.found more
 finished_after : (front : List FindingView) (s : StreamState) → (finished (with_found (front ++ s.found) s)).found ≡ front ++ (finished s).found
 finished_after front s = finished_if s.ended front (held_found s.packets s.held ++ ended_found s.packets s.states) s
 
--- a state without findings, with those before
+-- A state without findings is the same with the earlier findings in front.
 pub cleared : (front : List FindingView) (s : StreamState) → s.found ≡ [] → with_found front s ≡ with_found (front ++ s.found) s
 cleared front s e = ap (λ (found : List FindingView). with_found found s) (sym (ap (λ (found : List FindingView). front ++ found) e ∙ append-nil front))
 

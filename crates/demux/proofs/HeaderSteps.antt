@@ -1,4 +1,4 @@
--- A stream of headers alone, step by step.
+-- A stream without the bodies of PES packets, step by step.
 use Rattle.std.proofs.Common.{◌≡◌, ℕ, zero, suc, true, List, [], ◌∷◌, ◌++◌, map, slice_get, Option, Some, None, OnOk, Result, Ok, Err, refl, sym, ap, ◌∙◌}
 use Rattle.std.specs.Prelude.{IfSome}
 use Rattle.std.proofs.lemmas.List.{map-append}
@@ -12,11 +12,11 @@ use Rattle.demux.specs.StreamBodies.{AddsHeaders, bodies_left_out, headers_pushe
 use Rattle.demux.specs.StreamBodies.{without_bodies}
 use Rattle.demux.proofs.StreamBodies.{entry_ends, found_in_same, left_again, none_besides, pushed_same, taken_same}
 
--- bodies that are left out are no part of it
+-- Whether bodies are left out or not, the state without bodies is the same.
 pub left_out_or_not : (old new : StreamState) → new ≡ bodies_left_out old → without_bodies new ≡ without_bodies old
 left_out_or_not old new e = ap without_bodies e ∙ left_again old
 
--- a packet
+-- A packet changes the state without bodies as `headers_taken` does.
 pub taken_besides : (old new : StreamState) (bytes : List ℕ) → new ≡ taken old bytes → without_bodies new ≡ headers_taken (without_bodies old) bytes
 taken_besides old new bytes e = ap without_bodies e ∙ sym (taken_same old bytes)
 
@@ -31,11 +31,11 @@ pub found_besides : (s : StreamState) (bytes : List ℕ) (old new : List Finding
 found_besides s bytes old new e =
     added_besides old new (found_in s bytes) e ∙ ap (λ (x : List FindingView). all_without_body old ++ x) (sym (found_in_same s bytes))
 
--- a piece
+-- A piece changes the state without bodies as `headers_pushed` does.
 pub pushed_besides : (old new : StreamState) (piece : List ℕ) → new ≡ pushed old piece → without_bodies new ≡ headers_pushed (without_bodies old) piece
 pushed_besides old new piece e = ap without_bodies e ∙ sym (pushed_same old piece)
 
--- the end of a PID
+-- The end of a PID adds the same findings, besides bodies.
 ends_by : {V E : Type 0} (result : Result V E) (packet : ℕ) (o : Option (ℕ × PidState)) (x : ℕ × PidState) (old new : List FindingView) →
     ((y : ℕ × PidState) → o ≡ Some y → OnOk result (new ≡ old ++ map (with_pid y.0 packet) (ended true y.1.open_unit))) →
     IfSome o (λ y. (y.0 ≡ x.0) × (

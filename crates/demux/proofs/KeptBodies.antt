@@ -1,4 +1,4 @@
--- What is left out of the bodies of PES packets of some PIDs decides nothing in a stream, besides those.
+-- Leaving out the bodies of PES packets on some PIDs changes nothing else in a stream.
 use Rattle.std.proofs.Common.{◌≡◌, ℕ, ◌==◌, Bool, true, false, cond, List, [], ◌∷◌, ◌++◌, length, map, Result, Ok, Err, refl, sym, ap, ap₂, ◌∙◌}
 use Rattle.std.proofs.lemmas.List.{map-append}
 use Rattle.ts_packet.specs.PidList.{Entry}
@@ -75,7 +75,7 @@ with_left kept pid state [] = refl
 with_left kept pid state (x ∷ states) =
     with_by kept pid x.0 (pid == x.0) state x.1 states (with_state pid state states) _ (same_number pid x.0) (with_left kept pid state states)
 
--- a packet of a PID
+-- The states after a packet of a PID
 stepped_same : (kept : List ℕ) (pid : ℕ) (entry : Entry) (states : States) →
     states_but kept (with_state pid (step (state_of pid (states_but kept states)) entry) (states_but kept states))
     ≡ states_but kept (with_state pid (step (state_of pid states) entry) states)
@@ -102,7 +102,7 @@ states_same kept index bytes states (Ok packet) =
     (same_by kept (packet.header.pid == 8191) _ _ _ _ (states_again kept states)
     (stepped_same kept packet.header.pid (entry_of index bytes packet) states))
 
--- what is found in it
+-- The findings in a packet
 all_if : Bool → List FindingView → List FindingView
 all_if true found = found
 all_if false found = map finding_without_body found
@@ -158,7 +158,7 @@ findings_same kept index bytes states (Ok packet) =
 
 -- 3. A stream
 
--- without the bodies of other PIDs in what is kept and in what was found
+-- A stream without the bodies of other PIDs, both in its states and in its findings
 abbrev lean : List ℕ → StreamState → StreamState
 lean kept s = record s { states = states_but kept s.states; found = all_but kept s.found }
 
@@ -224,7 +224,7 @@ completed_same : (kept : List ℕ) (s : StreamState) (held : List ℕ) → lean 
 unfolding completed
 completed_same kept s held = completed_by kept (length held == 188) s held
 
--- streams that say the same besides bodies of other PIDs say the same after more bytes
+-- Streams that differ only in bodies of other PIDs differ only in these after more bytes.
 pushed_alike : (kept : List ℕ) (s t : StreamState) (bytes : List ℕ) → lean kept s ≡ lean kept t → lean kept (pushed s bytes) ≡ lean kept (pushed t bytes)
 pushed_alike kept s t [] e = e
 pushed_alike kept s t (byte ∷ bytes) e =
@@ -235,7 +235,7 @@ pushed_alike kept s t (byte ∷ bytes) e =
     ∙ completed_same kept t (t.held ++ byte ∷ []) in
     pushed_alike kept (completed s (s.held ++ byte ∷ [])) (completed t (t.held ++ byte ∷ [])) bytes next
 
--- its end
+-- The end of a stream
 flat_same : (kept : List ℕ) (packets : ℕ) (states : States) →
     all_but kept (ended_found packets (states_but kept states)) ≡ all_but kept (ended_found packets states)
 unfolding ended_found

@@ -1,4 +1,4 @@
--- The states of PIDs, of which the first ones have no bodies but those of some PIDs.
+-- The states of PIDs; the first states have bodies only on the kept PIDs.
 use Rattle.std.proofs.Common.{◌≡◌, ℕ, zero, suc, ◌<◌, ◌≤◌, Bool, true, false, List, [], ◌∷◌, ◌++◌, length, take, drop, slice_get, Option, Some, inl, inr, refl}
 use Rattle.std.proofs.Common.{sym, ap, ap₂, ◌∙◌, arith}
 use Rattle.std.specs.Map.{values_of}
@@ -10,7 +10,7 @@ use Rattle.pid_findings.specs.Machine.{PidState}
 use Rattle.demux.specs.Stream.{States}
 use Rattle.demux.specs.KeptBodies.{is_kept, state_if, states_but}
 
--- the first i without bodies of other PIDs
+-- The states, with the first i without bodies of other PIDs
 abbrev pub first_but : List ℕ → ℕ → States → States
 first_but kept i states = states_but kept (take i states) ++ drop i states
 
@@ -26,7 +26,7 @@ first_length kept i [] = by i
 first_length kept zero (x ∷ states) = refl
 first_length kept (suc i) (x ∷ states) = ap suc (first_length kept i states)
 
--- one more
+-- The next state without its body, unless its PID is kept
 next_by : (kept : List ℕ) (i : ℕ) (states : States) (entry : ℕ × PidState) → slice_get (first_but kept i states) i ≡ Some entry →
     set_value_at (first_but kept i states) i (state_if (is_kept kept entry.0) entry.1) ≡ first_but kept (suc i) states
 next_by kept zero [] entry e = absurd cc
@@ -49,7 +49,7 @@ pub all_but_these : (kept : List ℕ) (i : ℕ) (states new : States) → length
 all_but_these kept i states new past e =
     e ∙ ap₂ (λ (xs ys : States). states_but kept xs ++ ys) (take_all i states past) (drop_all i states past) ∙ append-nil (states_but kept states)
 
--- one entry
+-- The value of one entry
 pub value_at : (states : States) (i : ℕ) (entry : ℕ × PidState) → slice_get states i ≡ Some entry → slice_get (values_of states) i ≡ Some entry.1
 value_at [] i entry e = absurd cc
 value_at (x ∷ states) zero entry e = ap (λ (y : ℕ × PidState). Some y.1) (same_entry x entry e)

@@ -1,4 +1,4 @@
--- The states of PIDs, of which the first ones have no bodies.
+-- The states of PIDs; the first states have no bodies.
 use Rattle.std.proofs.Common.{◌≡◌, ℕ, zero, suc, ◌<◌, ◌≤◌, [], ◌∷◌, ◌++◌, length, take, drop, slice_get, Option, Some, inl, inr, refl, sym, ap, ap₂, ◌∙◌, arith}
 use Rattle.std.specs.Map.{values_of}
 use Rattle.std.proofs.lemmas.List.{drop_all, append-nil, take_all}
@@ -9,7 +9,7 @@ use Rattle.demux.specs.Stream.{States}
 use Rattle.pid_findings.specs.Bodies.{state_without_body}
 use Rattle.demux.specs.StreamBodies.{states_without_bodies}
 
--- the first i without bodies
+-- The states, with the first i without bodies
 abbrev pub first_left_out : ℕ → States → States
 first_left_out i states = states_without_bodies (take i states) ++ drop i states
 
@@ -29,7 +29,7 @@ length_values : (states : States) → length (values_of states) ≡ length state
 length_values [] = refl
 length_values (x ∷ states) = ap suc (length_values states)
 
--- one more
+-- The next state without its body
 next_by : (i : ℕ) (states : States) (state : PidState) → slice_get (values_of (first_left_out i states)) i ≡ Some state →
     set_value_at (first_left_out i states) i (state_without_body state) ≡ first_left_out (suc i) states
 next_by zero [] state e = absurd cc

@@ -1,4 +1,4 @@
--- A null packet changes no state, and nothing is found in it.
+-- A null packet changes no state and has no findings.
 use Rattle.std.proofs.Common.{◌≡◌, [], refl}
 use Rattle.ts_packet.specs.Packets.{null_packet}
 use Rattle.ts_packet.proofs.PlainWritten.{null_again}

@@ -1,4 +1,4 @@
--- Bytes of a stream, many at a time.
+-- Many bytes of a stream at a time.
 use Rattle.std.proofs.Common.{◌≡◌, ℕ, zero, suc, zero-add, ◌+◌, ◌<◌, ◌≤◌, ◌==◌, true, false, List, [], ◌∷◌, ◌++◌, length, take, drop, refl, sym, ap, ap₂, ◌∙◌}
 use Rattle.std.proofs.Common.{arith, append_assoc, length-append}
 use Rattle.std.proofs.lemmas.List.{append-nil, length-take-le}
@@ -21,12 +21,12 @@ completed_whole : (s : StreamState) (held : List ℕ) → length held ≡ 188 �
 unfolding completed
 completed_whole s held h = rw (is_whole (length held) h) refl
 
--- one piece after another
+-- Pushing two pieces in turn is pushing them joined.
 pub pushed_append : (s : StreamState) (xs ys : List ℕ) → pushed s (xs ++ ys) ≡ pushed (pushed s xs) ys
 pushed_append s [] ys = refl
 pushed_append s (x ∷ xs) ys = pushed_append (completed s (s.held ++ x ∷ [])) xs ys
 
--- less than a packet
+-- Fewer bytes than a packet are held.
 pub pushed_less : (s : StreamState) (xs : List ℕ) → length s.held + length xs < 188 → pushed s xs ≡ record s { held = s.held ++ xs }
 pushed_less s [] h = ap (λ (x : List ℕ). record s { held = x }) (sym (append-nil s.held))
 pushed_less s (x ∷ xs) h =
@@ -37,7 +37,7 @@ pushed_less s (x ∷ xs) h =
     ∙ pushed_less one xs (omega arith)
     ∙ ap (λ (y : List ℕ). record s { held = y }) (append_assoc s.held (x ∷ []) xs)
 
--- the rest of a packet
+-- The remaining bytes of a packet complete it.
 pub pushed_whole : (s : StreamState) (xs : List ℕ) → 0 < length xs → length s.held + length xs ≡ 188 → pushed s xs ≡ packet_pushed s (s.held ++ xs)
 unfolding taken found_in
 pushed_whole s [] p h = absurd (omega arith)
@@ -61,7 +61,7 @@ take_add zero m xs = ap (λ (k : ℕ). take k xs) (sym (zero-add m))
 take_add (suc n) m [] = take_none m ∙ sym (take_none (suc n + m))
 take_add (suc n) m (x ∷ xs) = let e : suc n + m ≡ suc (n + m) = omega arith in rw e (ap (λ (ys : List ℕ). x ∷ ys) (take_add n m xs))
 
--- a piece in two
+-- A piece can be pushed in two parts.
 pub pushed_take : (s : StreamState) (n m : ℕ) (xs : List ℕ) → pushed (pushed s (take n xs)) (take m (drop n xs)) ≡ pushed s (take (n + m) xs)
 pushed_take s n m xs = sym (pushed_append s (take n xs) (take m (drop n xs))) ∙ ap (pushed s) (take_add n m xs)
 
@@ -69,18 +69,18 @@ take_whole : (xs : List ℕ) → take (length xs) xs ≡ xs
 take_whole [] = refl
 take_whole (x ∷ xs) = ap (λ (ys : List ℕ). x ∷ ys) (take_whole xs)
 
--- bytes that make no packet whole are held
+-- Bytes that complete no packet are held.
 pub held_more : (s t : StreamState) (xs : List ℕ) → length s.held + length xs < 188 → t ≡ record s { held = s.held ++ xs } → t ≡ pushed s (take (length xs) xs)
 held_more s t xs h e = e ∙ sym (pushed_less s xs h) ∙ ap (pushed s) (sym (take_whole xs))
 
--- those up to the end of a packet make it whole
+-- Bytes up to the end of a packet complete it.
 pub packet_whole : (s t : StreamState) (n : ℕ) (xs bytes : List ℕ) → 0 < n → n ≤ length xs → length s.held + n ≡ 188 → bytes ≡ s.held ++ take n xs →
     t ≡ packet_pushed s bytes → t ≡ pushed s (take n xs)
 packet_whole s t n xs bytes p h w b e =
     let m : length (take n xs) ≡ n = length-take-le n xs h in
     e ∙ ap (packet_pushed s) b ∙ sym (pushed_whole s (take n xs) (omega arith) (omega arith))
 
--- a whole packet where none of its bytes are held
+-- If the number of held bytes is 0, no bytes are held.
 pub none_held : (held : List ℕ) → true ≡ (length held == 0) → held ≡ []
 none_held [] e = refl
 none_held (x ∷ held) e = absurd (grind (arith, nat_tests))
@@ -93,7 +93,7 @@ taken_as_pushed s bytes a w =
     pushed_whole s bytes (omega arith) (omega arith)
     ∙ ap₂ (λ (front held : List ℕ). record (packet_pushed s (front ++ bytes)) { held = held }) none (sym none)
 
--- a packet in which nothing is found, whoever held its bytes
+-- Pushing a packet without findings is taking it, whoever held its bytes.
 pub plain_pushed : (s t : StreamState) (bytes : List ℕ) → t ≡ taken s bytes → found_in s bytes ≡ [] → record t { held = [] } ≡ packet_pushed s bytes
 unfolding taken
 plain_pushed s t bytes e none =

@@ -1,4 +1,4 @@
--- What is given of a packet that was read.
+-- The findings in a packet that was read.
 use Rattle.std.proofs.Common.{◌≡◌, ℕ, ◌==◌, Ok, Bool, false, List, [], ◌∷◌, ◌++◌, map, refl, sym, ap, ◌∙◌}
 use Rattle.std.specs.Prelude.{◌&&◌, if◌then◌else◌}
 use Rattle.ts_packet.specs.Views.{PacketView}
@@ -13,7 +13,7 @@ use Rattle.pid_findings.proofs.FoundViews.{says, spans}
 otherwise : {X : Type 0} (a b : Bool) (x y z : X) → a ≡ false → b ≡ false → (if a then x else (if b then y else z)) ≡ z
 otherwise a b x y z e p = rw (e, p) refl
 
--- what a packet that was read without an error, on a PID but that of null packets, finds is what its PID's state finds
+-- The findings in a packet without an error, unless it is a null packet, are the findings of its PID's state.
 pub read_says : {A : Type 0} (index : ℕ) (bytes : List ℕ) (states : States) (packet : PacketView) (borrowed : Bool) (old new : List (Finding A)) →
     packet.header.transport_error_indicator ≡ false → (packet.header.pid == 8191) ≡ false →
     Finds (record { packet = index; pid = packet.header.pid; borrowed = borrowed }) old new

@@ -1,4 +1,4 @@
--- What is left out of the bodies of PES packets decides nothing in a stream.
+-- Leaving out the bodies of PES packets changes nothing else in a stream.
 use Rattle.std.proofs.Common.{◌≡◌, ℕ, zero, suc, ◌==◌, ◌≤◌, Bool, true, false, cond, List, [], ◌∷◌, ◌++◌, length, map, slice_get, Option, None, Some, subst}
 use Rattle.std.proofs.Common.{Result, Ok, Err, refl, sym, ap, ap₂, ◌∙◌, arith}
 use Rattle.std.specs.Prelude.{IfSome}
@@ -66,7 +66,7 @@ with_left pid state [] = refl
 with_left pid state (x ∷ states) =
     with_by (pid == x.0) x.0 state x.1 states (with_state pid state states) _ (with_left pid state states)
 
--- a packet of a PID
+-- The states after a packet of a PID
 stepped_same : (pid : ℕ) (entry : Entry) (states : States) →
     states_without_bodies (with_state pid (step (state_of pid (states_without_bodies states)) entry) (states_without_bodies states))
     ≡ states_without_bodies (with_state pid (step (state_of pid states) entry) states)
@@ -90,7 +90,7 @@ states_same index bytes states (Ok packet) =
     same_by packet.header.transport_error_indicator _ _ _ _ (states_again states)
     (same_by (packet.header.pid == 8191) _ _ _ _ (states_again states) (stepped_same packet.header.pid (entry_of index bytes packet) states))
 
--- what is found in it
+-- The findings in a packet
 placed : (pid packet : ℕ) (found : List Found) → all_without_body (map (with_pid pid packet) found) ≡ map (with_pid pid packet) (map found_without_body found)
 placed pid packet [] = refl
 placed pid packet (x ∷ found) = ap (λ (rest : List FindingView). finding_without_body (with_pid pid packet x) ∷ rest) (placed pid packet found)
@@ -173,7 +173,7 @@ completed_same : (s : StreamState) (held : List ℕ) → without_bodies (complet
 unfolding completed
 completed_same s held = completed_by (length held == 188) s held
 
--- streams that say the same besides bodies say the same after more bytes
+-- Streams that differ only in bodies differ only in bodies after more bytes.
 pushed_alike : (s t : StreamState) (bytes : List ℕ) → without_bodies s ≡ without_bodies t → without_bodies (pushed s bytes) ≡ without_bodies (pushed t bytes)
 pushed_alike s t [] e = e
 pushed_alike s t (byte ∷ bytes) e =
@@ -187,7 +187,7 @@ pushed_alike s t (byte ∷ bytes) e =
 pub pushed_same : (s : StreamState) (bytes : List ℕ) → without_bodies (pushed (without_bodies s) bytes) ≡ without_bodies (pushed s bytes)
 pushed_same s bytes = pushed_alike (without_bodies s) s bytes (stream_again s)
 
--- its end
+-- The end of a stream
 pub flat_same : (packets : ℕ) (states : States) →
     all_without_body (ended_found packets (states_without_bodies states)) ≡ all_without_body (ended_found packets states)
 unfolding ended_found
@@ -219,7 +219,7 @@ finished_same s = finished_by s.ended s
 pub headers_are_alone : HeadersAlone
 headers_are_alone s bytes = (left_again s, taken_same s bytes, found_in_same s bytes, pushed_same s bytes, finished_same s)
 
--- 3. Findings that are taken away as they come
+-- 3. Findings that the caller takes away
 
 pub no_headers_at_first : NoHeadersAtFirst
 no_headers_at_first = record { none = refl; unended = refl; state = refl }
@@ -235,7 +235,7 @@ pushed_ended s [] = refl
 pushed_ended s (byte ∷ bytes) =
     pushed_ended (completed s (s.held ++ byte ∷ [])) bytes ∙ ended_by (length (s.held ++ byte ∷ []) == 188) s (s.held ++ byte ∷ [])
 
--- a piece more
+-- One more piece
 pushed_so_far : (bytes piece : List ℕ) (s : StreamState) (found : List FindingView) → HeadersSoFar bytes s found →
     without_bodies (pushed start (bytes ++ piece)) ≡ with_found (all_without_body (found ++ (pushed s piece).found)) (headers_pushed s piece)
 pushed_so_far bytes piece s found h =
@@ -265,7 +265,7 @@ headers_are_found bytes piece s found h = (
   ended_so_far bytes s found h,
 )
 
--- no finding besides bodies is no finding
+-- If the findings without bodies are an empty list, there are no findings.
 pub none_besides : (found : List FindingView) → all_without_body found ≡ [] → found ≡ []
 none_besides [] e = refl
 none_besides (x ∷ found) e = absurd cc
@@ -273,7 +273,7 @@ none_besides (x ∷ found) e = absurd cc
 same_entry : (x y : ℕ × PidState) → ◌≡◌ {A = Option (ℕ × PidState)} (Some x) (Some y) → x ≡ y
 same_entry x y e = cc
 
--- the end of a PID
+-- The end of a PID gives the same findings, besides bodies.
 pub entry_ends : (packet index : ℕ) (states : States) (x : ℕ × PidState) → slice_get (states_without_bodies states) index ≡ Some x →
     IfSome (slice_get states index) (λ y. (y.0 ≡ x.0) × (
     all_without_body (map (with_pid y.0 packet) (ended true y.1.open_unit)) ≡ all_without_body (map (with_pid x.0 packet) (ended true x.1.open_unit))))
@@ -287,7 +287,7 @@ entry_ends packet zero (y ∷ states) x e = by x (same_entry (y.0, state_without
         (refl, placed_same y.0 packet (ended true y.1.open_unit) (ended true (state_without_body y.1).open_unit) (sym (ended_same true y.1.open_unit)))
 entry_ends packet (suc index) (y ∷ states) x e = entry_ends packet index states x e
 
--- 4. How much is kept
+-- 4. The number of bytes that a state keeps
 
 pes_few : (bytes : List ℕ) (r : Result (PesHeader × ℕ) PesError) → IsBytes bytes → header_at bytes ≡ r → of_pes bytes r ≡ None →
     length (header_bytes bytes r) ≤ 4098

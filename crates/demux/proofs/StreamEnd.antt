@@ -1,4 +1,4 @@
--- What the end of the stream decides, PID by PID.
+-- The findings at the end of the stream, PID by PID.
 use Rattle.std.proofs.Common.{◌≡◌, ℕ, suc, zero, List, [], ◌∷◌, ◌++◌, map, drop, length, ◌≤◌, slice_get, true, Option, Some, sym, ap, ◌∙◌, append_assoc}
 use Rattle.std.proofs.lemmas.List.{append-nil, drop_all}
 use Rattle.pid_findings.specs.Views.{FindingView}
@@ -10,7 +10,7 @@ use Rattle.pid_findings.specs.Shown.{with_pid}
 same_entry : (x y : ℕ × PidState) → ◌≡◌ {A = Option (ℕ × PidState)} (Some x) (Some y) → x ≡ y
 same_entry x y e = cc
 
--- the end of one more PID
+-- The end of one more PID
 pub ended_next : (packet i : ℕ) (states : States) (entry : ℕ × PidState) → slice_get states i ≡ Some entry →
     ended_found packet (drop i states) ≡ map (with_pid entry.0 packet) (ended true entry.1.open_unit) ++ ended_found packet (drop (suc i) states)
 unfolding ended_found
@@ -29,7 +29,7 @@ ended_more packet i j states entry noted more all h k m a =
     ∙ ap (λ (ys : List FindingView). ys ++ rest) m ∙ append_assoc noted one rest
     ∙ ap (λ (xs : List FindingView). noted ++ xs) (sym (ended_next packet i states entry h)) ∙ a
 
--- no PID is left
+-- After the last PID no findings are added.
 pub ended_none : (packet i : ℕ) (states : States) (noted all : List FindingView) → length states ≤ i → noted ++ ended_found packet (drop i states) ≡ all →
     noted ≡ all
 unfolding ended_found

@@ -1,4 +1,4 @@
--- What is found of one PID in a whole stream.
+-- The findings on one PID in a whole stream.
 use Rattle.std.proofs.Common.{◌≡◌, ℕ, zero, suc, zero-add, ◌+◌, ◌-◌, ◌*◌, ◌/◌, ◌^◌, ◌<◌, ◌≤◌, ◌==◌, Bool, true, false, cond, List, [], ◌∷◌, ◌++◌, length, take}
 use Rattle.std.proofs.Common.{drop, map, Result, Ok, Err, refl, sym, ap, ap₂, subst, ◌∙◌, arith, length-drop}
 use Rattle.std.specs.Simd.{first_chunks}
@@ -34,7 +34,7 @@ drop_drop n zero xs = ap (λ (k : ℕ). drop k xs) (sym (zero-add n))
 drop_drop n (suc m) [] = drop_none n ∙ sym (drop_none (suc m + n))
 drop_drop n (suc m) (x ∷ xs) = let e : suc m + n ≡ suc (m + n) = omega arith in rw e (drop_drop n m xs)
 
--- the whole packets are taken one by one, and the rest is held
+-- The whole packets are taken one by one, and the remaining bytes are held.
 pushed_packets : (k : ℕ) (s : StreamState) (bytes : List ℕ) → s.held ≡ [] → 188 * k ≤ length bytes → length bytes < 188 * k + 188 →
     pushed s bytes ≡ record (packets_pushed s (first_chunks 188 k bytes)) { held = drop (188 * k) bytes }
 pushed_packets zero s bytes e h g =
@@ -63,7 +63,7 @@ pushed_whole_packets bytes =
     let n = length bytes in
     pushed_packets (n / 188) start bytes refl (omega arith) (omega arith)
 
--- 2. No PID stands twice among the states
+-- 2. The states, with one entry for each PID
 
 abbrev absent : ℕ → States → Type 0
 absent pid [] = Unit {0}

@@ -311,6 +311,8 @@ impl<A: Allocator + Copy> Demux<A> {
     }
 
     /// Appends what the end of the stream decides of the bytes of a packet that is not whole. Nothing changes.
+    ///
+    /// After an `AllocError` drop `found`: nothing is promised of its contents.
     pub fn end_of_packet(
         &self,
         alloc: A,
@@ -324,6 +326,8 @@ impl<A: Allocator + Copy> Demux<A> {
 
     /// Appends what the end of the stream decides of the PID at an index, in the order of each PID's first packet.
     /// Nothing changes: `finish` notes the end of all PIDs at once.
+    ///
+    /// After an `AllocError` drop `found`: nothing is promised of its contents.
     pub fn end_of_pid(
         &self,
         index: usize,

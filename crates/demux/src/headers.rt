@@ -81,6 +81,8 @@ impl<A: Allocator + Copy> HeaderDemux<A> {
     }
 
     /// Takes a packet as `Demux::take_read` does; `read` is what `read_packet` gives of its bytes.
+    ///
+    /// After an `AllocError` drop the state and `found`: nothing is promised of their contents.
     pub fn take_read<'a>(
         &mut self,
         bytes: &'a [u8; 188],
@@ -111,6 +113,8 @@ impl<A: Allocator + Copy> HeaderDemux<A> {
     }
 
     /// Takes a piece of the stream, of any size, and adds what it finds to the findings.
+    ///
+    /// After an `AllocError` drop the state: nothing is promised of its contents.
     pub fn push(&mut self, piece: &[u8]) -> Result<(), AllocError>
         ensures { OnOk result (self.new ≡ headers_pushed self.old piece.now) }
     {
@@ -136,6 +140,8 @@ impl<A: Allocator + Copy> HeaderDemux<A> {
     }
 
     /// Appends what the end of the stream decides of the bytes of a packet that is not whole.
+    ///
+    /// After an `AllocError` drop `found`: nothing is promised of its contents.
     pub fn end_of_packet(
         &self,
         alloc: A,
@@ -156,6 +162,8 @@ impl<A: Allocator + Copy> HeaderDemux<A> {
 
     /// Appends what the end of the stream decides of the PID at an index, in the order of each PID's first packet.
     /// Nothing changes. The bodies of one PID are written as zeros, until the finding is dropped.
+    ///
+    /// After an `AllocError` drop `found`: nothing is promised of its contents.
     pub fn end_of_pid(
         &self,
         index: usize,

@@ -217,7 +217,7 @@ impl<A: Allocator + Copy> States<A> {
         }
     }
 
-    /// Returns the allocator of the states.
+    /// Returns the allocator of the states. It has no clause: a contract sees the states without their allocator.
     pub fn allocator(&self) -> &A {
         self.by_pid.entries().allocator()
     }

@@ -1,4 +1,4 @@
--- The numbers of what a stream in its ranges declares of its packets: both kinds of declaration as one.
+-- The bounds of a stream's allowance, for both kinds of declaration, if the stream is in its ranges.
 use Rattle.std.proofs.Common.{ℕ, ◌*◌, ◌/◌, ◌%◌, ◌^◌, ◌<◌, ◌≤◌, min, arith}
 use Rattle.std.proofs.Math.Nat.{le_trans, min-le_right, div-le_self}
 use Rattle.std.proofs.lemmas.Nat.{mul-le}
@@ -9,14 +9,14 @@ use Rattle.description_parts.specs.Described.{DescribedStream}
 use Rattle.description_parts.specs.Ranges.{IsAllowance, IsStream}
 use Rattle.description_parts.specs.Tables.{greatest_unit_packets}
 
--- a unit has a packet, and at most those of 4,000,000 bytes
+-- A unit has at least one packet, and at most the packets of 4,000,000 bytes.
 pub unit_some : (s : DescribedStream) → 1 ≤ greatest_unit_packets s
 unit_some s = omega arith
 
 pub unit_few : (s : DescribedStream) → IsStream s → greatest_unit_packets s ≤ 21740
 unit_few s is = omega (arith, is.most_size)
 
--- ---- of any allowance in its range, n being the packets of the greatest unit
+-- Bounds for any allowance in its range; n is the number of packets of the greatest unit
 
 rows_some_of : (n : ℕ) (a : Allowance) → IsAllowance n a → 1 ≤ allowance_rows a
 rows_some_of n (Groups units packets) is = is.some_units
@@ -26,7 +26,7 @@ rows_most_of : (n : ℕ) (a : Allowance) → IsAllowance n a → allowance_rows 
 rows_most_of n (Groups units packets) is = is.most_units
 rows_most_of n (Pace burst pace) is = omega arith
 
--- the packets of a group are few
+-- A group has at most 1,391,360 packets.
 group_few : (n units packets : ℕ) → packets ≤ units * n → units ≤ 64 → n ≤ 21740 → packets ≤ 1391360
 group_few n units packets within most few = omega (arith, within, mul-le units n 64 21740 most few)
 
@@ -57,25 +57,25 @@ time_few_of : (n : ℕ) (a : Allowance) (apart : ℕ) → IsAllowance n a → ap
 time_few_of n (Groups units packets) apart is few = omega (arith, mul-le units apart 64 90000 is.most_units few)
 time_few_of n (Pace burst pace) apart is few = omega arith
 
--- ---- of a stream
+-- Bounds for a stream
 
--- how many units in a row its lead pays for one by one
+-- The number of successive units whose packets the lead covers one by one is 1 to 64.
 pub rows_some : (s : DescribedStream) → IsStream s → 1 ≤ allowance_rows s.allowance
 rows_some s is = rows_some_of (greatest_unit_packets s) s.allowance is.allowance
 
 pub rows_most : (s : DescribedStream) → IsStream s → allowance_rows s.allowance ≤ 64
 rows_most s is = rows_most_of (greatest_unit_packets s) s.allowance is.allowance
 
--- the most packets of m of them
+-- The greatest number of packets of m units is bounded.
 pub at_once_few : (s : DescribedStream) (m : ℕ) → IsStream s → packets_at_once s.allowance (greatest_unit_packets s) m ≤ 1391360
 at_once_few s m is = at_once_few_of (greatest_unit_packets s) s.allowance m is.allowance (unit_few s is)
 
--- the most packets of units that are due within less than so much time of one another
+-- The greatest number of packets of units that are due within a bounded time is below 2^40.
 pub within_few : (s : DescribedStream) (units lead : ℕ) → IsStream s → units ≤ 90000 → lead ≤ 90000 →
     packets_within s.allowance (greatest_unit_packets s) units lead < 2 ^ 40
 within_few s units lead is counted near = within_few_of (greatest_unit_packets s) s.allowance units lead is.allowance (unit_few s is) counted near
 
--- in the long run, packets over time
+-- The numbers of packets and of time in the long run are bounded.
 pub steady_some : (s : DescribedStream) → IsStream s → 1 ≤ steady_packets s.allowance
 steady_some s is = steady_some_of (greatest_unit_packets s) s.allowance is.allowance (unit_some s)
 

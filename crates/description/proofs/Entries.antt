@@ -1,4 +1,4 @@
--- What the PMTs say beside a program's own streams.
+-- The entries of the PMTs, beyond a program's own streams.
 use Rattle.std.proofs.Common.{◌≡◌, ◌<◌, ℕ, zero, suc, ◌==◌, ◌||◌, Bool, true, false, cond, List, [], ◌∷◌, ◌++◌, length, map, filter, Option, Some, None}
 use Rattle.std.proofs.Common.{slice_get, option_map, option_and_then, All, Contains, refl, sym, ap, subst, ◌∙◌, arith, append-nil, if◌then◌else◌}
 use Rattle.std.specs.Prelude.{slice_index_or}
@@ -45,7 +45,7 @@ entries d p k t e at is of =
     Contains-append_right (pmt_streams p.number d.streams ++ pmt_shared p.number d.streams) (pmt_tables p.number d.tables) (table_stream t.pid e)
     (table_there p.number d.tables k t e at is of)
 
--- the streams that a program shares
+-- The streams that a program shares
 any_there : (n : ℕ) (ns : List ℕ) (k : ℕ) → k < length ns → slice_index_or ns k n ≡ n → list_any (λ m. m == n) ns ≡ true
 any_there n [] k lt is = absurd (omega (arith, lt))
 any_there n (m ∷ ms) zero lt is = rw (eq-eqb m n is) refl

@@ -1,4 +1,4 @@
--- The present and the following event by their places.
+-- The present and the following event, by their places in the list.
 use Rattle.std.proofs.Common.{◌≡◌, ℕ, nat_lt, Bool, true, false, cond, List, [], ◌∷◌, map, length, find, position, Bor, slice_get, Option, None, Some}
 use Rattle.std.proofs.Common.{option_map, refl, ap, sym, ◌∙◌, arith, inl, inr}
 use Rattle.std.proofs.lemmas.Bool.{cases_lt}
@@ -49,7 +49,7 @@ pub no_following : (moment : ℕ) (es : List Event) → position (is_following m
 unfolding is_following
 no_following moment es h = sym (find-map (is_following_event moment) event_view es ∙ ap (option_map event_view) (missed (is_following moment) es h))
 
--- what is after a reference
+-- The view of an optional reference is the view of the value behind it.
 pub after : (r : Option (Bor Event)) → option_map (λ e. event_view e.now) r ≡ option_map event_view (option_map (λ e. e.now) r)
 after None = refl
 after (Some e) = refl

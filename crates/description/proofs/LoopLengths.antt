@@ -1,4 +1,4 @@
--- How long loops of entries are, and their descriptors.
+-- The lengths of loops of entries and of their descriptors.
 use Rattle.std.proofs.Common.{◌≡◌, ℕ, ◌+◌, ◌*◌, ◌/◌, ◌%◌, ◌≤◌, List, [], ◌∷◌, ◌++◌, length, flat_map, Option, None, Some, All, arith, ap, ◌∙◌, length-append}
 use Rattle.std.proofs.Common.{refl, is_some, if◌then◌else◌}
 use Rattle.std.proofs.lemmas.List.Elements.{All-head}
@@ -16,7 +16,7 @@ use Rattle.description_parts.specs.Ranges.{IsLanguage, IsStream}
 use Rattle.description_parts.specs.Tables.{es_info_length}
 use Rattle.description.specs.SectionBytes.{tag_bytes, language_bytes, stream_descriptors}
 
--- one more entry
+-- One more entry adds its length to the length of the loop.
 flat_push : {X : Type 0} (f : X → List ℕ) (xs : List X) (x : X) → length (flat_map f (xs ++ x ∷ [])) ≡ length (flat_map f xs) + length (f x)
 flat_push f [] x = omega (arith, length-append (f x) [])
 flat_push f (y ∷ ys) x = omega (arith, length-append (f y) (flat_map f (ys ++ x ∷ [])), length-append (f y) (flat_map f ys), flat_push f ys x)
@@ -51,7 +51,7 @@ pub network_name_descriptor-length : (name : List ℕ) → length (network_name_
 unfolding network_name_descriptor
 network_name_descriptor-length name = omega arith
 
--- the descriptors of a stream
+-- The lengths of a stream's descriptors
 tag-length : (o : Option ℕ) → length (tag_bytes o) ≡ (if is_some o then 3 else 0)
 unfolding stream_identifier_descriptor
 tag-length None = refl
@@ -82,12 +82,12 @@ pub language-most : (o : Option (List ℕ)) → All IsLanguage (option_to_list o
 language-most None h = omega arith
 language-most (Some language) h = let is = language-length (Some language) h in omega (arith, is)
 
--- the number of bytes once an entry was pushed
+-- The number of bytes after an entry was pushed
 pub encoded_length : {X : Type 0} (encode : List X → List ℕ) (entries after : List X) (n : ℕ) → entries ≡ after → length (encode after) ≡ n →
     length (encode entries) ≡ n
 encoded_length {X = X} encode entries after n is h = ap (λ (xs : List X). length (encode xs)) is ∙ h
 
--- an empty loop
+-- The lengths of empty loops
 pub no_stream_bytes : length (streams_bytes []) ≡ 0
 unfolding streams_bytes
 no_stream_bytes = refl

@@ -1,4 +1,4 @@
--- Which facts of a description its writers rest on.
+-- The facts about a description that its writers need.
 use Rattle.std.proofs.Common.{◌≡◌, Option, None, Some, All, [], subst}
 use Rattle.std.proofs.lemmas.List.Elements.{All-head}
 use Rattle.std.specs.Option.{option_to_list}

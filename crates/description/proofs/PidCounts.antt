@@ -1,4 +1,4 @@
--- How often a number stands in a list, and that no PID stands twice among those of an output.
+-- The number of times a number is in a list; no PID is twice among the PIDs of an output.
 use Rattle.std.proofs.Common.{◌≡◌, ◌⊎◌, ℕ, zero, suc, ◌+◌, ◌<◌, ◌≤◌, ◌==◌, nat_eq, nat_lt, Bool, true, false, cond, List, [], ◌∷◌, ◌++◌, map, slice_get, Some}
 use Rattle.std.proofs.Common.{refl, ap, sym, ◌∙◌, arith, sum_by, All, inl, inr, eq-eqb}
 use Rattle.std.proofs.lemmas.Bool.{and_parts, eqb-true, ltb-true, ne_eqb, cases_Bool}
@@ -8,7 +8,7 @@ use Rattle.std.proofs.lemmas.Map.Keys.{IsDistinct-head, IsDistinct-tail}
 use Rattle.std.specs.List.{IsDistinct, AllByRecursion, list_all}
 use Rattle.description_parts.specs.Ranges.{IsPid}
 
--- how often x stands in a list
+-- The number of times x is in the list
 unfoldable pub times : ℕ → List ℕ → ℕ
 times x ys = sum_by (λ y. cond (x == y) 1 0) ys
 
@@ -27,7 +27,7 @@ not_here : (x y : ℕ) (ys : List ℕ) → (x == y) ≡ false → times x (y ∷
 not_here x y ys n = let z : cond {A = ℕ} false 1 0 + times x ys ≡ times x ys =
     omega arith in times-cons x y ys ∙ ap (λ (b : Bool). cond {A = ℕ} b 1 0 + times x ys) n ∙ z
 
--- a place of the list has it
+-- If x is at some place of the list, it is there at least once.
 pub some_times : (x : ℕ) (ys : List ℕ) (i : ℕ) → slice_get ys i ≡ Some x → 0 < times x ys
 some_times x [] i e = absurd (cc)
 some_times x (y ∷ ys) zero e = omega (arith, here x y ys (sym (some_inj e)))
@@ -36,14 +36,14 @@ some_times x (y ∷ ys) zero e = omega (arith, here x y ys (sym (some_inj e)))
     some_inj e = cc
 some_times x (y ∷ ys) (suc i) e = omega (arith, times-cons x y ys, some_times x ys i e)
 
--- two places of it
+-- If x is at two places of the list, it is there at least twice.
 pub two_times : (x : ℕ) (ys : List ℕ) (i j : ℕ) → i < j → slice_get ys i ≡ Some x → slice_get ys j ≡ Some x → 1 < times x ys
 two_times x [] i j lt e f = absurd (cc)
 two_times x (y ∷ ys) i zero lt e f = absurd (omega (arith, lt))
 two_times x (y ∷ ys) zero (suc j) lt e f = let same : x ≡ y = cc in omega (arith, here x y ys same, some_times x ys j f)
 two_times x (y ∷ ys) (suc i) (suc j) lt e f = omega (arith, times-cons x y ys, two_times x ys i j (omega (arith, lt)) e f)
 
--- of distinct numbers
+-- In a list of distinct numbers each number occurs at most once.
 absent : (x y : ℕ) (ys : List ℕ) → x ≡ y → AllByRecursion (λ z. nat_eq y z ≡ false) ys → times x ys ≡ 0
 unfolding times
 absent x y [] same h = refl
@@ -57,7 +57,7 @@ at_most_once x (y ∷ ys) h = elim (cases_Bool (x == y)) [
   | inr n ↦ omega (arith, not_here x y ys n, at_most_once x ys (IsDistinct-tail nat_eq y ys h))
 ]
 
--- numbers below 32 and others
+-- If all numbers of the list are below 32, a greater number is not there.
 pub none_low : (x : ℕ) (ys : List ℕ) → list_all (λ y. nat_lt y 32) ys ≡ true → 32 ≤ x → times x ys ≡ 0
 unfolding times
 none_low x [] h le = refl
@@ -66,7 +66,7 @@ none_low x (y ∷ ys) h le =
     let low : y < 32 = ltb-true y 32 parts.0 in
     not_here x y ys (ne_eqb x y (λ e. omega (arith, e, low, le))) ∙ none_low x ys parts.1 le
 
--- what is no PID of a description
+-- A number that cannot be a PID of a description is not among its PIDs.
 pub none_outside : {X : Type 0} (f : X → ℕ) (x : ℕ) (es : List X) → (x < 32) ⊎ (8190 < x) → All (λ e. IsPid (f e)) es → times x (map f es) ≡ 0
 unfolding times
 none_outside f x [] out h = refl

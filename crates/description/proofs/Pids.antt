@@ -1,4 +1,4 @@
--- No two parts of a description share a PID, and where the PIDs stand.
+-- No two parts of a description share a PID, and all PIDs are below 8191.
 use Rattle.std.proofs.Common.{◌≡◌, ◌⊎◌, ℕ, zero, suc, ◌+◌, ◌<◌, ◌≤◌, Bool, true, false, List, [], ◌∷◌, ◌++◌, length, map, slice_get, Option, None, Some}
 use Rattle.std.proofs.Common.{is_some, refl, ap, sym, subst, ◌∙◌, arith, All, inl, inr, add-zero, zero-add}
 use Rattle.std.proofs.lemmas.Bool.{cases_lt}
@@ -14,7 +14,7 @@ use Rattle.description.specs.Pids.{all_pids, PidsApartLaw, PidsBelowLaw, PidPosi
 use Rattle.description_parts.proofs.Distinct.{IsDistinct-is}
 use Rattle.description.proofs.PidCounts.{times, times-append, some_times, two_times, at_most_once, none_low, none_outside}
 
--- elements that are numbered
+-- Elements that are looked up by their numbers, from n on
 numbered : {X K : Type 0} (f : K → ℕ) (c : ℕ → K) (g : X → ℕ) (n : ℕ) (xs : List X) → ((i : ℕ) (x : X) → slice_get xs i ≡ Some x → f (c (n + i)) ≡ g x)
     → map f (map c (numbers_from n xs)) ≡ map g xs
 numbered f c g n [] h = refl
@@ -30,7 +30,7 @@ pmt_pids d = numbered (kind_pid d) Pmt (λ p. p.pmt_pid) 0 d.programs (λ i p e.
 private_pids : (d : Described) → map (kind_pid d) (map Private (numbers_from 0 d.tables)) ≡ map (λ t. t.pid) d.tables
 private_pids d = numbered (kind_pid d) Private (λ t. t.pid) 0 d.tables (λ i t e. rw (zero-add i, e, kind_pid) refl)
 
--- the fixed PIDs (EN 300 468, 5.1.3)
+-- The fixed PIDs (EN 300 468, 5.1.3)
 fixed : List ℕ
 fixed = 0 ∷ 0x10 ∷ 0x11 ∷ 0x12 ∷ 0x14 ∷ []
 
@@ -66,7 +66,7 @@ service_times d x =
       times-append x (0x12 ∷ []) (0x14 ∷ []),
     )
 
--- the PIDs of a description, counted
+-- The number of times x is among the PIDs of a description
 record Counts (d : Described) (x : ℕ) : Type 0 where
   all : times x (all_pids d) ≤ times x fixed + times x (named_pids d)
   named : times x (named_pids d) ≡ times x (map (λ p. p.pmt_pid) d.programs) + times x (map (λ p. p.pcr_pid) d.programs) + times x (map (λ s. s.pid) d.streams)
@@ -126,7 +126,7 @@ each : {X : Type 0} {P Q : X → Type 0} → ((x : X) → P x → Q x) → (xs :
 each {P} {Q} f [] h = All-nil Q
 each {P} {Q} f (x ∷ xs) h = All-cons Q x xs (f x (All-head P x xs h)) (each f xs (All-tail P x xs h))
 
--- what is no PID of a description is none of those that it names
+-- A number that cannot be a PID is not among the PIDs that a description names.
 named_outside : (d : Described) (x : ℕ) → IsInRange d → (x < 32) ⊎ (8190 < x) → times x (named_pids d) ≡ 0
 named_outside d x r out =
     omega (
@@ -168,7 +168,7 @@ pids_below d i pid r e = elim (cases_lt pid 8191) [
       ))
 ]
 
--- an element by its place in a list of which all are alike
+-- An element at a place of a list satisfies what all its elements satisfy.
 pub at_place : {X : Type 0} (P : X → Type 0) (xs : List X) (i : ℕ) (x : X) → All P xs → slice_get xs i ≡ Some x → P x
 at_place P [] i x h e = absurd (cc)
 at_place P (y ∷ ys) zero x h e = let same : y ≡ x = cc in subst P same (All-head P y ys h)

@@ -1,4 +1,4 @@
--- What a document is read as, by its refusals.
+-- The result of reading a document, by its refusals.
 use Rattle.std.proofs.Common.{◌≡◌, Option, None, Some, Result, Ok, Err, refl, ap, sym, subst, ◌∙◌}
 use Rattle.std.specs.Option.{option_or}
 use Rattle.toml.specs.Data.{Data}
@@ -25,7 +25,7 @@ decided d o p h = ap (λ (q : Option DescFault). elim q as (λ _. Result Describ
 abbrev ok : Described → Result Described DescError
 ok d = Ok d
 
--- with contents that are what the document describes
+-- If no fault is found, the result is the contents that the document describes.
 pub is_described : (document : Data) (contents : Described) → key_fault document ≡ None → contents ≡ described document
     → joint_fault contents document ≡ None → Ok contents ≡ read_document document
 is_described document contents keys is joint =

@@ -37,7 +37,7 @@ use Rattle.description_parts.specs.declared.table_kind.TableKind.TheVariants as 
 use Rattle.description.proofs.LoopLengths.{stream_descriptors-length, transport_streams_bytes-one, network_name_descriptor-length, service_descriptor-length}
 use Rattle.description.proofs.LoopLengths.{length_service_bytes, length_event_bytes}
 
--- a section of the long form
+-- The length of a section of the long form
 long_section_length : (table_id : ℕ) (private : Bool) (h : LongHeader) (body : List ℕ)
     → length (section_bytes (record { header = record { table_id = table_id; private_indicator = private; long = Some h }; body = body })) ≡ 12 + length body
 unfolding section_bytes with_crc header_bytes front_bytes start_bytes long_header_bytes check_word_bytes
@@ -61,7 +61,7 @@ pat_fits d =
       first,
     )
 
--- the streams of a program, and those that it shares
+-- The streams of a program, and the streams that it shares
 one_stream : (b : Bool) (s : DescribedStream) (rest : List DescribedStream) → IsStream s
     → length (flat_map stream_bytes (map pmt_stream (cond b (s ∷ rest) rest))) ≡ (if b then 5 + es_info_length s else 0)
     + length (flat_map stream_bytes (map pmt_stream rest))
@@ -86,7 +86,7 @@ streams_length p (s ∷ ss) h =
       sum_by-cons (λ x. if p x then 5 + es_info_length x else 0) s ss,
     )
 
--- the tables that a program's PMT names
+-- The tables that a program's PMT names
 one_table : (pid : ℕ) (o : Option DescribedEntry) (rest : List StreamView)
     → length (flat_map stream_bytes (cons_option (option_map (table_stream pid) o) rest))
     ≡ (elim o as (λ _. ℕ) [ None ↦ 0 | Some e ↦ 5 + length e.descriptors ]) + length (flat_map stream_bytes rest)
@@ -152,7 +152,7 @@ sdt_fits : (d : Described) → length (section_bytes (sdt_section (sdt_says d)))
 unfolding sdt_section
 sdt_fits d = omega (arith, long_section_length 0x42 true (sdt_says d).header (sdt_body (sdt_says d)), sdt_body_length (sdt_says d), services_length d.programs)
 
--- an event's entry
+-- The length of an event's entry
 entry_length_is : (status : RunningStatus) (e : DescribedEvent) → IsEvent e → length (event_bytes (event_says status e)) ≡ event_length e
 unfolding short_event_descriptor
 entry_length_is status e h =
@@ -224,7 +224,7 @@ private_fits [] j = omega arith
 private_fits (s ∷ ss) zero = omega arith
 private_fits (s ∷ ss) (suc j) = private_fits ss j
 
--- the one section of a table
+-- A table with one section
 first_of : (n section : ℕ) → section < 1 → get_or (n ∷ []) section 0 ≡ n
 first_of n zero h = refl
 first_of n (suc k) h = absurd (omega arith)

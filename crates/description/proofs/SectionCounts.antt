@@ -1,4 +1,4 @@
--- Each table has a section, and at most 32.
+-- Each table has at least one section, and at most 32.
 use Rattle.std.proofs.Common.{◌≡◌, ℕ, zero, suc, ◌+◌, ◌*◌, ◌<◌, ◌≤◌, Bool, true, false, List, [], ◌∷◌, ◌++◌, length, map, filter, slice_get, sum_by, Option}
 use Rattle.std.proofs.Common.{None, Some, is_some, refl, ap, sym, subst, ◌∙◌, arith, All, zero-add}
 use Rattle.std.proofs.lemmas.List.{length-map}
@@ -14,7 +14,7 @@ use Rattle.description_parts.specs.declared.table_kind.TableKind.TheVariants.{Pa
 use Rattle.description.specs.Pids.{SectionsLaw}
 use Rattle.description.proofs.Pids.{at_place}
 
--- a table of this kind has 1 to 32 sections
+-- A table of this kind has 1 to 32 sections.
 record Some32 (d : Described) (k : TableKind) : Type 0 where
   some : 0 < length (kind_lengths d k)
   most : length (kind_lengths d k) ≤ 32

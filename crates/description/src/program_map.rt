@@ -104,7 +104,8 @@ fn push_if_shared(entries: &mut StreamLoop, number: u16, stream: &StreamDescript
 // Adds the streams that the program of a number shares.
 fn push_shared(entries: &mut StreamLoop, number: u16, streams: &[StreamDescription])
     requires ranges { All IsStream streams.now }
-    requires room { length (streams_bytes (stream_loop_of entries.old)) + sum_by (shared_length number) streams.now ≤ 1012 }
+    requires room { length (streams_bytes (stream_loop_of entries.old))
+        + sum_by (shared_length number) streams.now ≤ 1012 }
     ensures value { stream_loop_of entries.new ≡ stream_loop_of entries.old ++ spec.pmt_shared number streams.now }
     ensures length { length (streams_bytes (stream_loop_of entries.new))
         ≡ length (streams_bytes (stream_loop_of entries.old)) + sum_by (shared_length number) streams.now }
@@ -151,7 +152,8 @@ fn push_table(entries: &mut StreamLoop, number: u16, table: &PrivateTable)
 // Adds the tables that the program of a number names.
 fn push_tables(entries: &mut StreamLoop, number: u16, tables: &[PrivateTable])
     requires ranges { All IsTable tables.now }
-    requires room { length (streams_bytes (stream_loop_of entries.old)) + sum_by (listed_length number) tables.now ≤ 1012 }
+    requires room { length (streams_bytes (stream_loop_of entries.old))
+        + sum_by (listed_length number) tables.now ≤ 1012 }
     ensures value { stream_loop_of entries.new ≡ stream_loop_of entries.old ++ spec.pmt_tables number tables.now }
     ensures length { length (streams_bytes (stream_loop_of entries.new))
         ≡ length (streams_bytes (stream_loop_of entries.old)) + sum_by (listed_length number) tables.now }

@@ -1,4 +1,4 @@
--- A document whose keys are all in their ranges has as many parts as a description may have.
+-- If all keys of a document are in range, the document has as many parts as a description may have.
 use Rattle.std.proofs.Common.{◌≡◌, ℕ, get_or, inl, inr, suc, ◌≤◌, ◌&&◌, not, nat_le, Bool, true, false, List, [], ◌∷◌, length, Option, None, Some, unwrap_or}
 use Rattle.std.proofs.Common.{option_map, refl, ap, sym, ◌∙◌, arith, if◌then◌else◌, All, position, codes, is_some}
 use Rattle.std.proofs.lemmas.Bool.{and_parts, cases_lt, leb-true}
@@ -21,12 +21,12 @@ use Rattle.description_keys.specs.TableKeys.{refuses_table}
 use Rattle.description_keys.specs.declared.fault.DescFault.{DescFault}
 use Rattle.description_keys.specs.declared.fault.DescFault.TheVariants.{Programs, Streams, Tables, Table}
 
--- where the first of two is None and the second is, both are
+-- If the choice of two options is `None`, both options are `None`.
 pub or_none : {X : Type 0} (a b : Option X) → option_or a b ≡ None → (a ≡ None) × (b ≡ None)
 or_none None b h = (refl, h)
 or_none (Some x) b h = absurd (cc)
 
--- no key of the document is refused
+-- No key of the document is refused.
 pub record NoFault (d : Data) : Type 0 where
   pub top : top_fault d ≡ None
   pub network : network_fault d ≡ None
@@ -50,12 +50,12 @@ no_fault d h =
     let two = or_none (unknown_key_fault d) (top_fault d) three.0 in
     record { top = two.1; network = three.1; program = four.1; stream = five.1; event = six.1; table = seven.1 }
 
--- a test that is not refused passed, and what is after it is not refused
+-- If neither a test nor the result after it refuses, the test passed.
 pub if_none : {X : Type 0} (b : Bool) (a : Option X) (x : X) → (if b then a else Some x) ≡ None → (b ≡ true) × (a ≡ None)
 if_none true a x h = (refl, h)
 if_none false a x h = absurd (cc)
 
--- an array of low to high tables has so many elements
+-- The number of elements of an array of `low` to `high` tables
 pub record HasLength (low high n : ℕ) : Type 0 where
   pub least : low ≤ n
   pub most : n ≤ high
@@ -80,12 +80,12 @@ pub elements-length : (absent : Bool) (key : List ℕ) (low high : ℕ) (d : Dat
     → HasLength low high (length (elements key d))
 elements-length absent key low high d zero h = tables_of_value absent low high (get key d) zero h
 
--- what is after a map that gives nothing is nothing
+-- If a mapped option is `None`, the option is `None`.
 pub map_none : {X Y : Type 0} (f : X → Y) (o : Option X) → option_map f o ≡ None → o ≡ None
 map_none f None h = refl
 map_none f (Some x) h = absurd (cc)
 
--- each of the keys accepts each of the parts
+-- Every key accepts every part.
 abbrev pub AllAccept : {K : Type 0} → (K → Data → Bool) → List K → List Data → Type 0
 AllAccept refuses keys parts = AllByRecursion (λ key. All (λ part. refuses key part ≡ false) parts) keys
 
@@ -115,7 +115,7 @@ all_accept refuses (key ∷ keys) parts h =
     let both = first_none key (position (refuses key) parts) (first_refused refuses keys parts) h in
     (no_position (refuses key) parts both.0, all_accept refuses keys parts both.1)
 
--- an array of sections
+-- An array of sections
 pub record AreSections (ds : List Data) : Type 0 where
   pub counted : HasLength 1 8 (length ds)
   pub sections : list_all is_section ds ≡ true
@@ -142,7 +142,7 @@ filtered_length (d ∷ ds) h =
     let parts = and_parts (is_section d) (list_all is_section ds) h in
     cons_length (section_in d) (filter_map section_in ds) parts.0 ∙ ap suc (filtered_length ds parts.1)
 
--- a private table has 1 to 8 sections
+-- A private table has 1 to 8 sections.
 pub sections-length : (part : Data) → sections_at (codes "sections") part ≡ true → HasLength 1 8 (length (described_sections part))
 sections-length part h =
     let are = sections_of_value (get (codes "sections") part) h in
@@ -153,7 +153,7 @@ pub not_false : (b : Bool) → not b ≡ false → b ≡ true
 not_false true h = refl
 not_false false h = absurd (cc)
 
--- no key of a table is refused
+-- No key of a table is refused.
 pub tables_accepted : (d : Data) → NoFault d → AllAccept (λ key. refuses_table key d) table_keys (tables_of d)
 tables_accepted d none =
     let arrays = if_none (tables_at true (codes "table") 0 16 d)
@@ -166,7 +166,7 @@ table_sections d none =
     λ k other within. sections-length (get_or (tables_of d) k other)
     (not_false (sections_at (codes "sections") (get_or (tables_of d) k other)) ((tables_accepted d none).1.1.0 k other within))
 
--- how many of each there are
+-- The numbers of programs, streams and tables are in range.
 pub has_counts : (d : Data) → NoFault d → HasCounts (described d)
 has_counts d none =
     let programs =
@@ -185,7 +185,7 @@ has_counts d none =
           All-map (λ table. length table.sections ≤ 8) described_table (tables_of d) (λ k other within. (table_sections d none k other within).most);
     }
 
--- the counts are those of the parts alone
+-- The counts depend only on the programs, streams and tables.
 pub counts_of : (d e : Described) → d.programs ≡ e.programs → d.streams ≡ e.streams → d.tables ≡ e.tables → HasCounts d → HasCounts e
 counts_of d e p s t h = record {
   some_programs = rw (← p) h.some_programs;

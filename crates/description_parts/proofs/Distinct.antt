@@ -1,4 +1,4 @@
--- Numbers of which none stands twice, and how many events their programs have together.
+-- Distinct numbers, and the events of their programs taken together
 use Rattle.std.proofs.Common.{◌≡◌, ℕ, ◌+◌, ◌≤◌, ◌==◌, not, nat_eq, Bool, true, false, cond, List, [], ◌∷◌, length, map, filter, Option, None, Some, refl, sym}
 use Rattle.std.proofs.Common.{◌∙◌, arith, sum_by}
 use Rattle.std.proofs.lemmas.Bool.{and_parts, or_parts, eqb-true, eqb-false, ne_eqb}
@@ -26,7 +26,7 @@ IsDistinct-is (n ∷ ns) h =
     let parts = and_parts (not (list_any (λ m. m == n) ns)) (is_distinct ns) h in
     IsDistinct-cons nat_eq n ns (apart n ns (not_true (list_any (λ m. m == n) ns) parts.0)) (IsDistinct-is ns parts.1)
 
--- of distinct numbers at most one is m
+-- Among distinct numbers at most one equals m.
 none_equal : (m n : ℕ) (ns : List ℕ) → m ≡ n → AllByRecursion (λ y. nat_eq n y ≡ false) ns → sum_by (λ k. cond (m == k) 1 0) ns ≡ 0
 none_equal m n [] same h = refl
 none_equal m n (k ∷ ks) same h =
@@ -49,7 +49,7 @@ at_most_one : (m : ℕ) (ns : List ℕ) → IsDistinct nat_eq ns → sum_by (λ 
 at_most_one m [] h = omega arith
 at_most_one m (n ∷ ns) h = this_or_later m n ns (m == n) refl (IsDistinct-head nat_eq n ns h) (at_most_one m ns (IsDistinct-tail nat_eq n ns h))
 
--- of distinct program numbers at most one owns an event
+-- Among distinct program numbers at most one owns an event.
 nobody : (ns : List ℕ) → sum_by (λ (n : ℕ). 0) ns ≡ 0
 nobody [] = refl
 nobody (n ∷ ns) = let all = sum_by-cons (λ (n : ℕ). 0) n ns in let rest = nobody ns in omega (arith, all, rest)
@@ -72,7 +72,7 @@ sum_split f g h (n ∷ ns) same =
     let rest = sum_split f g h ns same in
     omega (arith, a, b, c, d, rest)
 
--- programs of distinct numbers have together no more events than there are
+-- Programs with distinct numbers together own at most all events.
 owned_by_all : (ns : List ℕ) (es : List Data) → IsDistinct nat_eq ns → sum_by (λ n. length (filter (is_owned_by n) es)) ns ≤ length es
 owned_by_all ns [] h = let zero = nobody ns in omega (arith, zero)
 owned_by_all ns (e ∷ es) h =

@@ -1,4 +1,4 @@
--- What a key gives is in its range.
+-- The value that a key gives is in the key's range.
 use Rattle.std.proofs.Common.{◌≡◌, ℕ, ℤ, pos, negsuc, ◌≤◌, ◌&&◌, nat_le, Bool, true, false, List, Option, None, Some, IfSome, unwrap_or, option_map}
 use Rattle.std.proofs.Common.{option_and_then, refl, arith, if◌then◌else◌}
 use Rattle.std.proofs.lemmas.Bool.Decides.{nat_tests}
@@ -7,12 +7,12 @@ use Rattle.description_values.specs.Moments.{has_time_shape, text_seconds, momen
 use Rattle.description_parts.specs.Ranges.{last_moment}
 use Rattle.description_values.specs.Values.{at_key, in_range, integer_in, integer_at, integer_or}
 
--- a number from low to high
+-- A number from `low` to `high`
 pub record Within (low high n : ℕ) : Type 0 where
   pub least : low ≤ n
   pub most : n ≤ high
 
--- what holds of a value that is there, and of the value in its place
+-- If a value and its default satisfy P, so does the result.
 pub holds_of : {X : Type 0} (P : X → Type 0) (o : Option X) (x : X) → IfSome o P → P x → P (unwrap_or o x)
 holds_of P None x h p = p
 holds_of P (Some y) x h p = h
@@ -22,7 +22,7 @@ at_value : {X : Type 0} (P : X → Type 0) (absent : Option X) (read : Data → 
 at_value P absent read None a r = a
 at_value P absent read (Some v) a r = r v
 
--- at a key: what holds where it is absent, and of each value that is read
+-- If the default of a key and each value that is read satisfy P, so does the key's result.
 pub at_key-all : {X : Type 0} (P : X → Type 0) (key : List ℕ) (absent : Option X) (read : Data → Option X) (d : Data)
     → IfSome absent P → ((v : Data) → IfSome (read v) P) → IfSome (at_key key absent read d) P
 at_key-all P key absent read d a r = at_value P absent read (get key d) a r
@@ -47,7 +47,7 @@ in_range-within low high (pos k) = tested low high k (nat_le low k) (nat_le k hi
 pub integer_in-within : (low high : ℕ) (d : Data) → IfSome (integer_in (pos low) (pos high) d) (Within low high)
 integer_in-within low high d = then_all (Within low high) (in_range (pos low) (pos high)) (as_integer d) (in_range-within low high)
 
--- the number at a key, with what stands in its place
+-- The number at a key, or the default if the key is absent
 pub integer_at-within : (key : List ℕ) (low high other : ℕ) (d : Data) → low ≤ other → other ≤ high
     → Within low high (unwrap_or (integer_at key (pos low) (pos high) d) other)
 integer_at-within key low high other d l h =

@@ -1,4 +1,4 @@
--- What `shared_with` names: declared programs, each once, and not the stream's own.
+-- `shared_with` names declared programs, each once, and not the stream's own.
 use Rattle.std.proofs.Common.{◌≡◌, ℕ, ◌==◌, ◌&&◌, not, nat_eq, nat_le, Bool, true, false, List, [], ◌∷◌, length, map, Option, None, Some, unwrap_or, refl, sym}
 use Rattle.std.proofs.Common.{subst, ap, All, Contains, codes, if◌then◌else◌}
 use Rattle.std.proofs.lemmas.Bool.{and_parts, eqb-false}
@@ -24,7 +24,7 @@ another : (document : Data) (n : ℕ) (o : Option ℕ) → (elim o as (λ _. Boo
 another document n None own not_own same = absurd (cc)
 another document n (Some m) own not_own same = eqb-false m n not_own (sym same)
 
--- one element, and the rest
+-- One element, and the remaining elements
 one_declared : (document stream : Data) (o : Option ℕ) (ns : List ℕ)
     → (elim o as (λ _. Bool) [ None ↦ false | Some n ↦ declares document n && not (is_owned_by n stream) ]) ≡ true
     → All (Contains (program_numbers (described document))) ns → All (Contains (program_numbers (described document))) (cons_option o ns)

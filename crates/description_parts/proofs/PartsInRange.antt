@@ -70,7 +70,7 @@ program_is document d =
           (λ k other within. event_is (get_or (filter (is_owned_by (described_number d)) (events_of document)) k other));
     }
 
--- stream_id
+-- The stream_id of a stream
 id_tested : (id : ℕ) → Within 189 239 id → is_stream_id id ≡ true → IsStreamId id
 id_tested id w h = elim (or_cases (id == 189) (nat_le 192 id) h) [
   | inl is ↦ inl (eqb-true id 189 is)
@@ -85,7 +85,7 @@ id_is d =
     (at_key-all (Within 189 239) (codes "id") None (integer_in (pos 189) (pos 239)) d tt (integer_in-within 189 239))))
     (inl refl)
 
--- the greatest unit
+-- The largest unit
 record SizeBounds (id most : ℕ) : Type 0 where
   some : 1 ≤ most
   any : most ≤ 4000000
@@ -95,7 +95,7 @@ size_bounds : (id : ℕ) (b : Bool) → nat_le 224 id ≡ b → SizeBounds id (i
 size_bounds id true is = let above = leb-true 224 id is in record { some = omega arith; any = omega arith; bounded = λ low. absurd (omega arith) }
 size_bounds id false is = record { some = omega arith; any = omega arith; bounded = λ low. omega arith }
 
--- a group of as many units has no fewer packets than one
+-- A group of units has no fewer packets than one unit.
 group_most : (g u : ℕ) → 1 ≤ g → u ≤ g * u
 group_most zero u h = absurd (omega arith)
 group_most (suc g) u h = omega arith
@@ -177,7 +177,7 @@ buffer_if : (rx : ℕ) (b : Bool) (m : MultiplexingBuffer) → IsMultiplexingBuf
 buffer_if rx true m is = All-cons (IsMultiplexingBuffer rx) m [] is (All-nil (IsMultiplexingBuffer rx))
 buffer_if rx false m is = All-nil (IsMultiplexingBuffer rx)
 
--- so many times the longest time are within the interval
+-- If each of n times is at most interval / n, together they are within the interval.
 in_turn : (n t interval : ℕ) → t ≤ interval / max n 1 → n * t ≤ interval
 in_turn n t interval le =
     le_trans (mul-le-mul_right t (most_of n)) (le_trans (mul-le-mul_left (max n 1) le) (mul-div-le interval (max n 1)))

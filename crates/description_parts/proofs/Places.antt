@@ -1,4 +1,4 @@
--- One more element of a search by place.
+-- One more element of a search by place
 use Rattle.std.proofs.Common.{◌≡◌, ℕ, zero, suc, ◌+◌, ◌<◌, Bool, true, false, List, [], ◌∷◌, map, take, drop, length, get_or, slice_get, None, Some, refl, sym}
 use Rattle.std.proofs.Common.{◌∙◌, arith, add-one, if◌then◌else◌}
 use Rattle.std.proofs.lemmas.List.{drop_more, take_more, map-append}
@@ -14,12 +14,12 @@ at_place p n [] i x h = absurd (cc)
 at_place p n (y ∷ ys) zero x h = let same : y ≡ x = cc in rw same refl
 at_place p n (y ∷ ys) (suc i) x h = at_place p n ys i x h
 
--- the element at a place, then those after it
+-- The element at a place, then the elements after it
 pub first_place-step : {X : Type 0} (p : X → Bool) (xs : List X) (i : ℕ) (x : X) → slice_get xs i ≡ Some x
     → first_place p i (drop i xs) ≡ (if p x then Some i else first_place p (i + 1) (drop (i + 1) xs))
 first_place-step p xs i x h = rw (add-one i) (rw (add-one i) at (at_place p i xs i x h))
 
--- the event at a place, then those after it
+-- The event at a place, then the events after it
 pub first_overlap-step : (events : List Value) (i : ℕ) (d : Value) → i < length events
     → first_overlap i (map view (take i events)) (map view (drop i events))
     ≡ (if list_any (overlaps (view (get_or events i d))) (map view (take i events)) then Some i
@@ -50,7 +50,7 @@ pub first_place-next : {X : Type 0} (p : X → Bool) (xs : List X) (i : ℕ) (x 
     → first_place p i (drop i xs) ≡ first_place p (i + 1) (drop (i + 1) xs)
 first_place-next p xs i x h e = first_place-step p xs i x h ∙ rw e refl
 
--- each place of a list has an element
+-- Each place of a list has an element.
 pub none_within : {X : Type 0} (xs : List X) (i : ℕ) → i < length xs → slice_get xs i ≡ None → ⊥
 none_within [] i h e = omega arith
 none_within (x ∷ xs) zero h e = cc

@@ -1,4 +1,4 @@
--- Which table has which number.
+-- The number of each table
 use Rattle.std.proofs.Common.{◌≡◌, ℕ, zero, suc, ◌+◌, ◌-◌, ◌<◌, ◌≤◌, List, [], ◌∷◌, ◌++◌, length, map, get_or, slice_get, None, Some, refl, ap, sym, ◌∙◌, arith}
 use Rattle.std.proofs.Common.{zero-add, add-zero}
 use Rattle.std.proofs.lemmas.List.{length-append, length-map}
@@ -33,7 +33,7 @@ slice_get-numbers_from f n (x ∷ xs) (suc i) h =
 length-first : (d : Described) → length (Pat ∷ map Pmt (numbers_from 0 d.programs)) ≡ suc (length d.programs)
 length-first d = ap suc (length-map (numbers_from 0 d.programs) Pmt ∙ length-numbers_from 0 d.programs)
 
--- the PMTs follow the PAT
+-- The PMTs follow the PAT.
 pub table_kind-pmt : (d : Described) (t : ℕ) → 1 ≤ t → t ≤ length d.programs → Some (Pmt (t - 1)) ≡ table_kind d t
 table_kind-pmt d zero some most = absurd (omega arith)
 table_kind-pmt d (suc i) some most =
@@ -42,7 +42,7 @@ table_kind-pmt d (suc i) some most =
     rw (is, slice_get-append_left (Pat ∷ map Pmt (numbers_from 0 d.programs)) (service_tables d ++ map Private (numbers_from 0 d.tables)) (suc i) within)
     (sym (slice_get-numbers_from Pmt 0 d.programs i (omega arith)))
 
--- the others follow the PMTs
+-- The service tables and the private tables follow the PMTs.
 after : (d : Described) (i : ℕ) → table_kind d (suc (length d.programs) + i) ≡ slice_get (service_tables d ++ map Private (numbers_from 0 d.tables)) i
 after d i = rw (sym (length-first d))
     (slice_get-append_right (Pat ∷ map Pmt (numbers_from 0 d.programs)) (service_tables d ++ map Private (numbers_from 0 d.tables)) i)
@@ -56,7 +56,7 @@ table_kind-service d t low high =
     ∙ slice_get-append_left (service_tables d) (map Private (numbers_from 0 d.tables)) (t - 1 - length d.programs) high
     ∙ slice_get-get_or (service_tables d) (t - 1 - length d.programs) Pat high)
 
--- the private tables are the last
+-- The private tables are last.
 privates : (d : Described) (i : ℕ) →
     table_kind d (suc (length d.programs) + (length (service_tables d) + i)) ≡ slice_get (map Private (numbers_from 0 d.tables)) i
 privates d i = after d (length (service_tables d) + i) ∙ slice_get-append_right (service_tables d) (map Private (numbers_from 0 d.tables)) i

@@ -1,4 +1,4 @@
--- Texts, languages, descriptors and sections that a key gives are as long as they may be, and octets.
+-- The texts, languages, descriptors and sections at keys have allowed lengths and consist of octets.
 use Rattle.std.proofs.Common.{◌≡◌, ℕ, ◌≤◌, ◌<◌, ◌&&◌, nat_le, Bool, true, false, List, [], ◌∷◌, length, Option, None, Some, IfSome, unwrap_or, option_map}
 use Rattle.std.proofs.Common.{option_and_then, refl, arith, if◌then◌else◌, All, Result, Ok, Err, codes}
 use Rattle.std.proofs.lemmas.Bool.{and_parts, leb-true}
@@ -19,7 +19,7 @@ use Rattle.description_values.specs.Values.{optional_language, hex_bytes, descri
 use Rattle.description_parts.proofs.KeyRanges.{holds_of, at_key-all, then_all, map_all}
 use Rattle.description_values.proofs.Octets.{All_octets}
 
--- no bytes
+-- An empty list of bytes
 pub no_bytes : (most : ℕ) → IsBytes most []
 no_bytes most = record { fits = omega arith; octets = All-nil (λ b. b < 256) }
 
@@ -48,7 +48,7 @@ pub text_or-is : (most : ℕ) (key : List ℕ) (d : Data) → IsBytes most (unwr
 text_or-is most key d =
     holds_of (IsBytes most) (text_or most key d) [] (at_key-all (IsBytes most) key (Some []) (text_in most) d (no_bytes most) (text_in-is most)) (no_bytes most)
 
--- hexadecimal bytes
+-- Hexadecimal bytes
 fitting : (most : ℕ) (bytes : List ℕ) (fits : Bool) → (fits ≡ true → length bytes ≤ most) → All (λ b. b < 256) bytes
     → IfSome (if fits then Some bytes else None) (IsBytes most)
 fitting most bytes true f o = record { fits = f refl; octets = o }
@@ -64,7 +64,7 @@ hex_of most text (Ok bytes) is =
 hex_bytes-is : (most : ℕ) (text : List ℕ) → IfSome (hex_bytes most text) (IsBytes most)
 hex_bytes-is most text = hex_of most text (decode_of text) refl
 
--- what holds of what is read first is kept by a test of it
+-- A value that passes a test keeps its property.
 passed : {X : Type 0} (P : X → Type 0) (test : X → Bool) (x : X) (b : Bool) → test x ≡ b → P x
     → IfSome (if b then Some x else None) (λ x. P x × (test x ≡ true))
 passed P test x true is h = (h, is)
@@ -94,7 +94,7 @@ pub descriptors_at-is : (key : List ℕ) (d : Data) → IsBytes 700 (unwrap_or (
 descriptors_at-is key d = holds_of (IsBytes 700) (descriptors_at key d) [] (at_key-all (IsBytes 700) key None descriptors_in d tt descriptors_in-is)
     (no_bytes 700)
 
--- a section has at least its first three bytes
+-- A section has at least its first three bytes.
 at_least_three : (bytes : List ℕ) → is_one_section bytes ≡ true → 3 ≤ length bytes
 unfolding section_at section_start_at
 at_least_three [] h = absurd (cc)
@@ -122,7 +122,7 @@ pub sections-are : (ds : List Data) → All IsSectionBytes (filter_map section_i
 sections-are [] = All-nil IsSectionBytes
 sections-are (d ∷ ds) = one_more (section_in d) (filter_map section_in ds) (section_in-is d) (sections-are ds)
 
--- languages
+-- Languages
 letter_below : (c : ℕ) → is_letter c ≡ true → c < 128
 letter_below c h = grind (arith, nat_tests, h)
 
@@ -154,7 +154,7 @@ undefined = language_of-is (codes "und")
 pub language_at-is : (key : List ℕ) (d : Data) → IsLanguage (unwrap_or (language_at key d) (codes "und"))
 language_at-is key d = holds_of IsLanguage (language_at key d) (codes "und") (at_key-all IsLanguage key None language_in d tt language_in-is) undefined
 
--- a language that may be absent
+-- A language that may be absent
 
 pub optional_language-is : (key : List ℕ) (d : Data) → All IsLanguage (option_to_list (unwrap_or (optional_language key d) None))
 optional_language-is key d =

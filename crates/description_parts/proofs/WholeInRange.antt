@@ -1,4 +1,4 @@
--- A document that is not refused describes what is in all its ranges.
+-- If a document is not refused, every part of its description is in range.
 use Rattle.std.proofs.Common.{◌≡◌, ℕ, suc, zero, ◌+◌, ◌-◌, ◌≤◌, ◌==◌, ◌||◌, ◌&&◌, not, nat_lt, Bool, true, false, List, [], ◌∷◌, ◌++◌, map, get_or, slice_get}
 use Rattle.std.proofs.Common.{Option, None, Some, unwrap_or, option_map, refl, ap, sym, ◌∙◌, arith, if◌then◌else◌, All, Contains, codes, is_some, IsTrue, inl}
 use Rattle.std.proofs.Common.{inr}
@@ -34,7 +34,7 @@ use Rattle.description_parts.proofs.NamedSharers.{AreSharers, sharers_are}
 use Rattle.description_parts.proofs.Distinct.{IsDistinct-is, most_events}
 use Rattle.description_parts.proofs.TableNumbers.{table_kind-pmt}
 
--- no refusal of the parts together
+-- The parts together cause no refusal.
 pub record NoJointFault (d : Described) : Type 0 where
   pub pids : is_distinct (named_pids d) ≡ true
   pub numbers : is_distinct (program_numbers d) ≡ true
@@ -65,7 +65,7 @@ no_joint_fault d document h =
       lengths = no_place (is_too_long d) 0 (table_kinds d) (map_none TooLong (first_place (is_too_long d) 0 (table_kinds d)) three.1);
     }
 
--- no PMT is too long
+-- No PMT is too long.
 none_at : {X : Type 0} (p : X → Bool) (xs : List X) (i : ℕ) (x : X) → list_any p xs ≡ false → slice_get xs i ≡ Some x → p x ≡ false
 none_at p [] i x h is = absurd (cc)
 none_at p (y ∷ ys) zero x h is = let same : y ≡ x = cc in rw (← same) (or_parts (p y) (list_any p ys) h).0
@@ -85,7 +85,7 @@ pmt_fits d h = λ k other within.
     one_length (pmt_length d) (slice_get d.programs k) (get_or d.programs k other) (slice_get-get_or d.programs k other within)
     (none_at (is_too_long d) (table_kinds d) (suc k) (Pmt k) h at)
 
--- nor the NIT or the SDT
+-- Neither the NIT nor the SDT is too long.
 only_none : {X : Type 0} (p : X → Bool) (b : Bool) (x : X) → list_any p (only_if b x) ≡ false → b ≡ true → p x ≡ false
 only_none p true x h is = (or_parts (p x) false h).0
 only_none p false x h is = absurd (cc)
@@ -119,7 +119,7 @@ services_fit d h =
       sdt = λ is. one_length (λ (e : Described). sdt_length e) (Some d) d refl (only_none p d.has_sdt Sdt one.1 is);
     }
 
--- each stream's program is declared, and so are those that share it
+-- The program of each stream is declared, and so are the programs that share the stream.
 streams_accepted : (d : Data) → NoFault d → AllAccept (λ key. refuses_stream key d) stream_keys (streams_of d)
 streams_accepted d none =
     let arrays = if_none (tables_at true (codes "stream") 0 32 d)
@@ -142,7 +142,7 @@ streams_shared d none = λ k other within.
     let there : has_sharers d part ≡ true = not_false (has_sharers d part) ((streams_accepted d none).1.1.1.1.1.1.1.1.1.1.1.1.1.1.1.1.0 k other within) in
     sharing_of d part (sharers_are d part (owners_there d none k other within) there)
 
--- so is that of each table's entry
+-- The program of each table's entry is declared.
 listed_declared : (document part : Data) (b : Bool) → (b && not (has_owner document part)) ≡ false
     → All (λ e. Contains (program_numbers (described document)) e.program) (option_to_list (if b then Some (described_entry part) else None))
 listed_declared document part false h = All-nil (λ e. Contains (program_numbers (described document)) e.program)
@@ -163,7 +163,7 @@ network_in_range : (o : Option Data) → All IsNetwork (option_to_list (option_m
 network_in_range None = All-nil IsNetwork
 network_in_range (Some n) = All-cons IsNetwork (described_network n) [] (network_is n) (All-nil IsNetwork)
 
--- what a document describes that is not refused is in range
+-- A document that is not refused describes values in range.
 pub described-in_range : (document : Data) → key_fault document ≡ None → joint_fault (described document) document ≡ None → IsInRange (described document)
 described-in_range document keys joint =
     let none = no_fault document keys in

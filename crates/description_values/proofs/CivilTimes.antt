@@ -1,4 +1,4 @@
--- The civil dates and times that jiff accepts are those of the test, and their seconds are those of the definition.
+-- The test accepts exactly the civil dates and times that jiff accepts, and jiff's seconds equal the seconds of the definition.
 use Rattle.std.proofs.Common.{◌≡◌, ℕ, pos, ◌≤◌, ◌≤ℤ◌, true, false, ◌&&◌, refl, arith, Some, None, inl, inr}
 use Rattle.std.proofs.lemmas.Bool.{and_parts, le-leb, leb-true, cases_Bool, false≢true}
 use Rattle.std.proofs.lemmas.Int.{ints}
@@ -44,7 +44,7 @@ time_found h mi s test =
       (omega (arith, ints), omega (arith, ints)),
     )
 
--- the seconds of a civil time are a function of its parts
+-- The seconds of a civil time are a function of its parts.
 pub seconds_of_parts : (y mo d h mi s : ℕ) (dt : DateTime) → IsYmd (pos y) (pos mo) (pos d) dt.date → IsHms (pos h) (pos mi) (pos s) (pos 0) dt.time
     → civil_seconds dt ≡ seconds_of y mo d h mi s
 unfolding civil_seconds

@@ -1,4 +1,4 @@
--- The elements of an array as the view has them.
+-- The elements of an array in the view
 use Rattle.std.proofs.Common.{◌≡◌, List, [], ◌∷◌, map, refl, ap, sym, Bool, ◌||◌}
 use Rattle.std.specs.List.{list_any}
 use Rattle.toml.specs.View.{view, items_of, items_view}
@@ -10,7 +10,7 @@ pub list_of-items_of : (ds : List Data) → list_of (items_of ds) ≡ ds
 list_of-items_of [] = refl
 list_of-items_of (d ∷ ds) = ap (λ rest. d ∷ rest) (list_of-items_of ds)
 
--- an array's elements, in the view
+-- The views of an array's elements are the elements of its view.
 pub list_of-items_view : (vs : List Value) → map view vs ≡ list_of (items_view vs)
 list_of-items_view vs = sym (list_of-items_of (map view vs))
 

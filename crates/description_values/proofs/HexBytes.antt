@@ -1,4 +1,4 @@
--- A text of more than twice as many digits writes too many bytes.
+-- If a text has more digits than twice the most bytes, it writes too many bytes.
 use Rattle.std.proofs.Common.{◌≡◌, ℕ, ◌<◌, ◌/◌, List, length, Option, None, Some, Result, Ok, Err, refl, arith, nat_le, if◌then◌else◌}
 use Rattle.std.proofs.lemmas.Bool.{lt-leb}
 use Rattle.hex.specs.Hex.{decode_of}

@@ -1,4 +1,4 @@
--- A coded text is octets.
+-- A coded text consists of octets.
 use Rattle.std.proofs.Common.{◌≡◌, ℕ, ◌<◌, nat_lt, Bool, true, false, List, ◌∷◌, arith, if◌then◌else◌, All, get_or}
 use Rattle.std.proofs.lemmas.Bool.Decides.{nat_tests}
 use Rattle.std.proofs.lemmas.List.Sums.{list_all-from_AllPass, AllPass-from_list_all}

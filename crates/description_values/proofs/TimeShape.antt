@@ -1,4 +1,4 @@
--- Where a text of the shape YYYY-MM-DDThh:mm:ss has its digits.
+-- The places of the digits in a text of the shape YYYY-MM-DDThh:mm:ss
 use Rattle.std.proofs.Common.{◌≡◌, ℕ, List, true}
 use Rattle.std.proofs.lemmas.Bool.{and_parts}
 use Rattle.description_values.specs.Moments.{has_two_digits, has_time_shape}

@@ -1,4 +1,4 @@
--- The descriptor at the front of a loop, and those after it.
+-- The descriptor at the front of a loop, and the later descriptors.
 use Rattle.std.proofs.Common.{◌≡◌, ◌≤◌, ℕ, zero, suc, ◌+◌, nat_lt, Bool, true, false, cond, refl, ap, arith, List, [], ◌∷◌, length, drop, Option, None, Some}
 use Rattle.std.specs.Option.{option_map_or}
 use Rattle.std.proofs.lemmas.List.{length-drop}
@@ -10,7 +10,7 @@ some_is : {A : Type 0} (b : Bool) (o : Option A) (x : A) → cond b None o ≡ S
 some_is true o x e = absurd cc
 some_is false o x e = e
 
--- what follows a descriptor is shorter
+-- The bytes after a descriptor are fewer than all bytes.
 shorter : (bytes : List ℕ) (p : DescriptorView × List ℕ) → first_descriptor bytes ≡ Some p → length p.1 + 2 ≤ length bytes
 unfolding first_descriptor
 shorter [] p e = absurd cc
@@ -25,7 +25,7 @@ same_after : (o : Option (DescriptorView × List ℕ)) (f g : List ℕ → List 
 same_after None f g same = refl
 same_after (Some p) f g same = ap (λ (ds : List DescriptorView). p.0 ∷ ds) (same p refl)
 
--- more than as many as there are bytes make no difference
+-- A greater limit than the number of bytes makes no difference.
 enough : (n m : ℕ) (bytes : List ℕ) → length bytes ≤ n → length bytes ≤ m → descriptors_from n bytes ≡ descriptors_from m bytes
 unfolding descriptors_from first_descriptor
 enough zero zero bytes one two = refl

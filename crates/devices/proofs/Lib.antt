@@ -1,5 +1,5 @@
 pub mod Numerals
 pub mod TakenInput
 pub mod Performances
-pub mod Telling
+pub mod ReportedTexts
 pub mod NamedReaders

@@ -1,4 +1,4 @@
--- Decimal digits as std's `parse` reads them.
+-- Decimal digits, as `parse` of the standard library reads them.
 use Rattle.std.proofs.Common.{◌≡◌, ℕ, ◌+◌, ◌^◌, ◌<◌, Bool, true, false, List, [], ◌∷◌, length, None, refl, sym, ap, subst, ◌∙◌, arith, inl, inr}
 use Rattle.std.proofs.lemmas.Bool.{cases_lt}
 use Rattle.std.proofs.lemmas.Bool.Decides.{nat_tests}
@@ -47,7 +47,7 @@ some_digit (c ∷ bs) e = omega arith
 is_numeral : (bs : List ℕ) → is_decimal bs ≡ true → IsNumeral 10 bs
 is_numeral bs e = (some_digit bs e, all_digits bs (both (nat_lt 0 (length bs)) (list_all is_ascii_digit bs) e).1)
 
--- digits that make a number of 64 bits are read as that number
+-- Digits whose number fits 64 bits are read as that number.
 pub read_as : (bs : List ℕ) (n low high : ℕ) → is_decimal bs ≡ true → n ≡ digits_value 10 (without_leading_plus bs) →
     option_and_then (within low high) (decimal bs) ≡ within low high n
 unfolding decimal
@@ -55,7 +55,7 @@ read_as bs n low high d p =
     let v : n ≡ digits_value 10 bs = p ∙ ap (digits_value 10) (no_plus bs d) in
     rw (d, v) refl
 
--- and others lie past every limit of 64 bits
+-- A number that does not fit 64 bits is above every limit of 64 bits.
 pub too_great : (bs : List ℕ) (low high : ℕ) → high < 2 ^ 64 → is_decimal bs ≡ true →
     ¬ (IsNumeral 10 (without_leading_plus bs) × (digits_value 10 (without_leading_plus bs) < 2 ^ 64)) → option_and_then (within low high) (decimal bs) ≡ None
 unfolding decimal
@@ -66,7 +66,7 @@ too_great bs low high h d p =
       | inr le ↦ let t : nat_le (digits_value 10 bs) high ≡ false = grind (arith, nat_tests) in rw d (outside low high (digits_value 10 bs) t)
     ]
 
--- no decimal, no number
+-- Bytes that are not decimal give no number.
 pub no_decimal : (bs : List ℕ) (low high : ℕ) → is_decimal bs ≡ false → option_and_then (within low high) (decimal bs) ≡ None
 unfolding decimal
 no_decimal bs low high d = rw d refl

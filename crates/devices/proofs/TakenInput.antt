@@ -1,5 +1,4 @@
--- An input that is read to its end piece by piece: the next bytes stand at the front of each piece, fewer than it holds only where
--- the input ends.
+-- An input that is read piece by piece to its end: the next bytes are at the front of each piece, and only the last piece may be partly filled.
 use Rattle.std.proofs.Common.{◌≡◌, ℕ, ◌+◌, ◌%◌, ◌<◌, ◌≤◌, List, [], ◌++◌, length, take, drop, min, refl, sym, ap, subst, ◌∙◌, arith, append_assoc}
 use Rattle.std.proofs.Common.{length-append, Option, Some, None, Result, Ok, Err, inr}
 use Rattle.std.proofs.lemmas.List.{append-nil, drop_all, length-take-le, take-append-drop}
@@ -12,16 +11,16 @@ use Rattle.devices.specs.WholeInput.{IsLong, IsShort, IsWhole, ReadsFront, Reads
 use Rattle.devices.specs.declared.halt.Halt.{Halt}
 use Rattle.devices.specs.declared.halt.Halt.TheVariants.{Read}
 
--- 1. Of an input whose bytes are known, some were read and the rest is left
+-- 1. If the bytes of the input are known, these bytes were read and the rest is left
 
 abbrev pub IsAfter : Port → Port → List ℕ → Type 0
 IsAfter old now bytes = (xs : List ℕ) → old.bytes ≡ Some xs → (left : List ℕ) × (xs ≡ bytes ++ left) × (now.bytes ≡ Some left)
 
--- the next n bytes of it stand at the front of the piece
+-- The next n bytes of the input are at the front of the piece.
 abbrev IsRead : Port → Port → List ℕ → ℕ → Type 0
 IsRead mid new piece n = (xs : List ℕ) → mid.bytes ≡ Some xs → (n ≡ min (length piece) (length xs)) × IsFront xs new.bytes piece n
 
--- all of it was read
+-- The whole input was read.
 abbrev IsEnd : Port → Port → List ℕ → Type 0
 IsEnd old new bytes = (xs : List ℕ) → old.bytes ≡ Some xs → (xs ≡ bytes) × (new.bytes ≡ Some [])
 
@@ -38,7 +37,7 @@ after_more old mid new bytes piece n b p xs e =
       k.1.rest,
     )
 
--- where the piece is not full, the input ended
+-- If the piece is not full, the input ended.
 end_read : (old mid new : Port) (bytes piece : List ℕ) (n : ℕ) → IsAfter old mid bytes → IsRead mid new piece n → n < length piece →
     IsEnd old new (bytes ++ take n piece)
 unfolding after_more
@@ -67,7 +66,7 @@ long_if (Some xs) bytes s h =
     let all : length xs ≡ length bytes + length k.0 = ap length k.1 ∙ length-append bytes k.0 in
     omega (arith, all, s)
 
--- 2. Some of the input was taken
+-- 2. A part of the input was taken
 
 pub record TakesFront (HasTaken : List ℕ → Type 0) (unit : ℕ) (old now : Port) (size : ℕ) : Type 0 where
   pub bytes : List ℕ
@@ -97,7 +96,7 @@ whole_more : (unit a b c : ℕ) → a % unit ≡ 0 → b % unit ≡ 0 → c ≡ 
 whole_more unit a b c p q e =
     subst (λ (n : ℕ). n % unit ≡ 0) (sym e) (mod-eq-zero_of_dvd unit (dvd-add unit (dvd_of_mod-eq-zero unit p) (dvd_of_mod-eq-zero unit q)))
 
--- a full piece more
+-- One more full piece was taken.
 pub front_more : (HasTaken Then : List ℕ → Type 0) (unit : ℕ) (old mid new : Port) (size n : ℕ) (piece : List ℕ) → TakesFront HasTaken unit old mid size →
     ReadsFront (between mid new) piece n → ((bytes : List ℕ) → length bytes % unit ≡ 0 → HasTaken bytes → Then (bytes ++ take n piece)) →
     length piece % unit ≡ 0 → length piece ≤ n → TakesFront Then unit old new (size + n)
@@ -114,7 +113,7 @@ front_more HasTaken Then unit old mid new size n piece f r t u full =
       clean = r.clean ∙ f.clean;
     }
 
--- to the end of the input
+-- The last piece was taken, to the end of the input.
 pub front_end : (HasTaken Then : List ℕ → Type 0) (unit : ℕ) (old mid new : Port) (size n : ℕ) (piece : List ℕ) (r : Result ℕ Halt) →
     TakesFront HasTaken unit old mid size →
     ReadsFront (between mid new) piece n → ((bytes : List ℕ) → length bytes % unit ≡ 0 → HasTaken bytes → Then (bytes ++ take n piece)) → n < length piece →

@@ -20,9 +20,9 @@ pub record Reports (faults : Device) (text : List ℕ) : Type 0 where
   pub whole : (taken ≡ length text) ⊎ HasFailed faults
 
 -- texts were reported one after another
-unfoldable pub Tells : Port → Port → List (List ℕ) → Type 0
-Tells before after [] = after ≡ before
-Tells before after (text ∷ texts) = (mid : Port) × Reports (between before mid) text × Tells mid after texts
+unfoldable pub ReportsAll : Port → Port → List (List ℕ) → Type 0
+ReportsAll before after [] = after ≡ before
+ReportsAll before after (text ∷ texts) = (mid : Port) × Reports (between before mid) text × ReportsAll mid after texts
 
 -- a front of the text is written
 pub record Stopped (text : List ℕ) (output : Device) : Type 0 where

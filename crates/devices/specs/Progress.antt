@@ -47,13 +47,13 @@ end_text taken = read_text taken None ++ erase_text ++ codes "\n"
 
 -- the bytes so far are shown once a second
 abbrev pub is_due : Meter → ℕ → Bool
-is_due m ms = nat_le 1000 (ms - m.told)
+is_due m ms = nat_le 1000 (ms - m.shown_at)
 
 abbrev pub taken_after : Meter → ℕ → ℕ
 taken_after m n = min (m.taken + n) (2 ^ 64 - 1)
 
 abbrev pub counted : Meter → ℕ → ℕ → Meter
-counted m n ms = record { taken = taken_after m n; size = m.size; told = if is_due m ms then ms else m.told }
+counted m n ms = record { taken = taken_after m n; size = m.size; shown_at = if is_due m ms then ms else m.shown_at }
 
 -- a read of no bytes is the last
 unfoldable pub meter_after : Meter → ℕ → ℕ → Option Meter

@@ -1,20 +1,19 @@
 -- A subcommand that reads its whole input: its outcome if no device fails, and if a device does.
-use Rattle.std.specs.Prelude.{◌≡◌, ◌⊎◌, ℕ, List, take, Some}
+use Rattle.std.specs.Prelude.{◌≡◌, ◌⊎◌, ℕ, List, take}
 use Rattle.devices.specs.Devices.{Device, HasFailed, IsClean, IsUntouched, Takes}
 use Rattle.devices.specs.Lines.{Reports}
 use Rattle.devices.specs.Outcomes.{Outcome, halt_line}
-use Rattle.devices.specs.WholeInput.{IsAllRead, IsLong}
+use Rattle.devices.specs.WholeInput.{IsLong, IsReadAs}
 use Rattle.devices.specs.declared.halt.Halt.TheVariants.{Read, Write, Memory}
 
--- the input leads to this outcome, if its bytes are known
+-- the input was read to its end, and bytes lead to this outcome: the input's own bytes if these are known, and otherwise some bytes, as at a standard input
 abbrev pub IsLedTo : (List ℕ → Outcome → Type 0) → Device → Outcome → Type 0
-IsLedTo Leads input outcome = (xs : List ℕ) → input.before.bytes ≡ Some xs → Leads xs outcome
+IsLedTo Leads input outcome = IsReadAs input (λ bytes. Leads bytes outcome)
 
 -- it ran to its end
 pub record Ends (Leads : List ℕ → Outcome → Type 0) (input output faults : Device) (status : ℕ) : Type 0 where
   pub outcome : Outcome
   pub leads : IsLedTo Leads input outcome
-  pub read : IsAllRead input
   pub written : Takes output outcome.output
   pub clean : IsClean output
   pub reports : Reports faults outcome.report
@@ -38,7 +37,6 @@ pub record LacksMemory (input output faults : Device) (status : ℕ) : Type 0 wh
 pub record FailsToWrite (Leads : List ℕ → Outcome → Type 0) (input output faults : Device) (status : ℕ) : Type 0 where
   pub outcome : Outcome
   pub leads : IsLedTo Leads input outcome
-  pub read : IsAllRead input
   pub taken : ℕ
   pub written : Takes output (take taken outcome.output)
   pub failed : HasFailed output

@@ -10,7 +10,7 @@ pub record IsUsage (input output : Device) (status : ℕ) : Type 0 where
   pub status_is : status ≡ 2
 
 -- a usage error with this text, as far as the second writer takes it
-pub record TellsUsage (text : List ℕ) (input output faults : Device) (status : ℕ) : Type 0 where
+pub record ReportsUsage (text : List ℕ) (input output faults : Device) (status : ℕ) : Type 0 where
   pub is : IsUsage input output status
   pub reports : Reports faults text
 

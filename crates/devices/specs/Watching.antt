@@ -20,7 +20,7 @@ meter_of watched = watched.meter
 
 -- a meter before the first read
 abbrev pub first : Option ℕ → Meter
-first size = record { taken = 0; size = size; told = 0 }
+first size = record { taken = 0; size = size; shown_at = 0 }
 
 -- the bytes of a read; 0 if it failed
 abbrev pub bytes_read : {E : Type 0} → Result ℕ E → ℕ
@@ -28,12 +28,12 @@ bytes_read (Ok n) = n
 bytes_read (Err e) = 0
 
 -- at some moment after a read of n bytes the text that is due was shown
-pub record ToldAt (m : Meter) (after : Option Meter) (n : ℕ) (to : Device) : Type 0 where
+pub record ShowsAt (m : Meter) (after : Option Meter) (n : ℕ) (to : Device) : Type 0 where
   pub ms : ℕ
   pub meter : after ≡ meter_after m n ms
   pub text : Reports to (text_after m n ms)
 
 -- the text after a read of n bytes; nothing without a meter
-abbrev pub Tells : Option Meter → Option Meter → ℕ → Device → Type 0
-Tells None after n to = (after ≡ None) × IsUntouched to
-Tells (Some m) after n to = ToldAt m after n to
+abbrev pub ShowsProgress : Option Meter → Option Meter → ℕ → Device → Type 0
+ShowsProgress None after n to = (after ≡ None) × IsUntouched to
+ShowsProgress (Some m) after n to = ShowsAt m after n to

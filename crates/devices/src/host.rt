@@ -24,7 +24,7 @@ const INPUT_ROOM: usize = 1 << 16;
 /// A program over any files, a reader that shows which bytes it holds, and two writers.
 pub trait Program {
     /// Reads the input, writes the output, reports faults, and returns the exit status. It may open files by name, and
-    /// write files by name.
+    /// write files by name. It has no clause here: the call of each program has its own, as `tsmux_cli::run`.
     fn run<F: NamedFiles + OutputFiles, R: HeldInput, W: Sink, E: Sink>(
         alloc: Global,
         words: &[&str],
@@ -143,7 +143,7 @@ fn input_of<'a>(
 ) -> Watched<Stdin, Counted<Stderr>, &'a HostRuntime> {
     let to = Counted::new(rt.stderr());
     if ask_for_progress(words) && rt.stderr().is_terminal() {
-        Watched::telling(rt.stdin(), to, rt, input_size(rt))
+        Watched::showing(rt.stdin(), to, rt, input_size(rt))
     } else {
         Watched::silent(rt.stdin(), to, rt)
     }
@@ -178,7 +178,9 @@ fn status_of<P: Program, W: Write, E: Write>(rt: &HostRuntime, writers: &mut Wri
 }
 
 /// Runs a program with the words of the command line, from standard input to standard output and standard error. If the
-/// reader of standard output goes away, as of the pipe `tsview FILE | head`, nothing more is reported.
+/// reader of standard output goes away, as of the pipe `tsview FILE | head`, nothing more is reported. The
+/// function has no clause: its status depends on the words, files and devices of the process, and no contract knows
+/// these.
 pub fn run_program<P: Program>(rt: &HostRuntime) -> ExitCode {
     let is_gone = Cell::new(false);
     let output = PipedOutput {
@@ -196,7 +198,8 @@ pub fn run_program<P: Program>(rt: &HostRuntime) -> ExitCode {
     exit_code(status_of::<P, _, _>(rt, &mut writers))
 }
 
-/// Runs a program in the same way, except that it also reports that the reader of standard output has gone away.
+/// Runs a program in the same way, except that it also reports that the reader of standard output has gone away. The
+/// function has no clause, for the same reason.
 pub fn run_reporting_program<P: Program>(rt: &HostRuntime) -> ExitCode {
     let mut writers = Writers {
         output: Counted::new(rt.stdout()),

@@ -17,7 +17,7 @@ pub struct Meter {
     /// The number of the whole input's bytes, if known.
     pub size: Option<u64>,
     /// When it was last reported, in ms after the beginning.
-    pub told: u64,
+    pub shown_at: u64,
 }
 
 // Returns the bytes a second.
@@ -110,7 +110,7 @@ impl Meter {
     fn is_due(self, ms: u64) -> bool
         ensures { result ≡ spec.is_due self ms }
     {
-        ms.saturating_sub(self.told) >= APART
+        ms.saturating_sub(self.shown_at) >= APART
     }
 
     // Returns the bytes after a read.
@@ -131,7 +131,7 @@ impl Meter {
         Some(Meter {
             taken: self.taken_after(n),
             size: self.size,
-            told: if self.is_due(ms) { ms } else { self.told },
+            shown_at: if self.is_due(ms) { ms } else { self.shown_at },
         })
     }
 

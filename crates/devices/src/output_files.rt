@@ -22,14 +22,15 @@ pub trait OutputFiles {
 
     /// Returns a writer of a new file that is to have this name; none if it can't be created.
     fn create_named(&self, name: &str) -> Option<Self::Writer>
-        ensures empty { IfSome result (λ writer. (bytes : List ℕ) → Self.Writer.contents writer ≡ Some bytes → bytes ≡ []) }
+        ensures empty { IfSome result (λ writer. (bytes : List ℕ) →
+            Self.Writer.contents writer ≡ Some bytes → bytes ≡ []) }
         ensures creates { IsAsKnown (creates self.now name.now) (is_some result) };
 
     /// Gives a new file its name, in place of a file that had it. Returns whether it has the name now.
     fn keep_file(&self, name: &str, writer: Self::Writer) -> bool
         ensures { IsAsKnown (keeps self.now name.now) result };
 
-    /// Removes a new file.
+    /// Removes a new file. It has no clause: no contract sees the files of a folder.
     fn discard_file(&self, writer: Self::Writer);
 
     /// Returns whether standard output is a terminal.

@@ -22,13 +22,13 @@ pub struct Watched<R, W, C> {
 }
 
 // Returns the time since a moment in ms; if the clock can't be read, the time of the last text.
-fn ms_since<C: Clock>(begun: Option<Instant>, clock: &C, told: u64) -> u64 {
+fn ms_since<C: Clock>(begun: Option<Instant>, clock: &C, shown_at: u64) -> u64 {
     let Some(begun) = begun else {
-        return told;
+        return shown_at;
     };
     match begun.elapsed(clock) {
-        Ok(time) => u64::try_from(time.as_millis()).unwrap_or(told),
-        Err(_) => told,
+        Ok(time) => u64::try_from(time.as_millis()).unwrap_or(shown_at),
+        Err(_) => shown_at,
     }
 }
 
@@ -49,7 +49,7 @@ impl<R, W: Sink, C: Clock> Watched<R, W, C> {
     }
 
     /// Reports its progress from now on, out of `size` bytes if the size is known.
-    pub fn telling(inner: R, to: W, clock: C, size: Option<u64>) -> Watched<R, W, C>
+    pub fn showing(inner: R, to: W, clock: C, size: Option<u64>) -> Watched<R, W, C>
         ensures inner { spec.inner_of result ≡ inner }
         ensures writer { spec.writer_of result ≡ to }
         ensures meter { spec.meter_of result ≡ Some (spec.first size) }
@@ -58,7 +58,7 @@ impl<R, W: Sink, C: Clock> Watched<R, W, C> {
         let meter = Meter {
             taken: 0,
             size,
-            told: 0,
+            shown_at: 0,
         };
         Watched {
             inner,
@@ -70,15 +70,15 @@ impl<R, W: Sink, C: Clock> Watched<R, W, C> {
     }
 
     // Writes the text that is due after a read of `n` bytes.
-    fn tell(&mut self, n: usize)
+    fn show(&mut self, n: usize)
         ensures inner { spec.inner_of self.new ≡ spec.inner_of self.old }
-        ensures tells { spec.Tells (spec.meter_of self.old) (spec.meter_of self.new) n
+        ensures shows { spec.ShowsProgress (spec.meter_of self.old) (spec.meter_of self.new) n
             (writes W.Sink (spec.writer_of self.old) (spec.writer_of self.new)) }
     {
         let Some(meter) = self.meter else {
             return;
         };
-        let ms = ms_since(self.begun, &self.clock, meter.told);
+        let ms = ms_since(self.begun, &self.clock, meter.shown_at);
         self.meter = meter.after(n, ms);
         report_bytes(&mut self.to, meter.text_after(n, ms).as_slice());
     }
@@ -91,13 +91,13 @@ impl<R: Read, W: Sink, C: Clock> Read for Watched<R, W, C> {
         ensures bound { ReadsAtMost result buf.new }
         ensures bytes { ReadConsumes (R.remaining (spec.inner_of self.old))
             (R.remaining (spec.inner_of self.new)) result buf.new }
-        ensures tells { spec.Tells (spec.meter_of self.old) (spec.meter_of self.new) (spec.bytes_read result)
+        ensures shows { spec.ShowsProgress (spec.meter_of self.old) (spec.meter_of self.new) (spec.bytes_read result)
             (writes W.Sink (spec.writer_of self.old) (spec.writer_of self.new)) }
     {
         let result = self.inner.read(buf);
         match result {
-            Ok(n) => self.tell(n),
-            Err(_) => self.tell(0),
+            Ok(n) => self.show(n),
+            Err(_) => self.show(0),
         }
         result
     }

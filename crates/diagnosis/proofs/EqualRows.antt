@@ -1,4 +1,4 @@
--- Lines whose values are equal, line by line.
+-- Lines whose values are equal, line by line
 use Rattle.std.proofs.Common.{◌≡◌, ◌∙◌, ◌<◌, ◌≤◌, ◌+◌, ℕ, List, [], ◌∷◌, ◌++◌, length, drop, take, get_or, Bool, true, false, Option, Some, None, refl, sym, ap}
 use Rattle.std.proofs.Common.{add-one}
 use Rattle.std.specs.Prelude.{if◌then◌else◌}
@@ -9,7 +9,7 @@ use Rattle.diagnosis.specs.EqualKeys.{ends_value, equal_rows, first_word, is_val
 use Rattle.diagnosis.specs.declared.equal_keys.EqualKeys.{EqualKeys}
 use Rattle.diagnosis.proofs.KeyRows.{shown, shown_from}
 
--- 1. The word at the front
+-- 1. The word at the front of a line
 
 word_step : (b : ℕ) (bs : List ℕ) (ends : Bool) → ends_value b ≡ ends → first_word (b ∷ bs) ≡ (if ends then [] else b ∷ first_word bs)
 unfolding first_word
@@ -19,7 +19,7 @@ no_word : first_word [] ≡ []
 unfolding first_word
 no_word = refl
 
--- the bytes before number i are of it
+-- The word of a line, if its first i bytes belong to the word
 abbrev pub word_from : List ℕ → ℕ → List ℕ
 word_from bytes i = take i bytes ++ first_word (drop i bytes)
 
@@ -48,7 +48,7 @@ whole_word bytes i over so =
     sym (so ∙ ap (λ (bs : List ℕ). take i bytes ++ first_word bs) (drop_all i bytes over) ∙ ap (λ (bs : List ℕ). take i bytes ++ bs) no_word
     ∙ append-nil (take i bytes) ∙ take_all i bytes over)
 
--- 2. The lines from one on
+-- 2. The lines from a number on
 
 with_here : (keys : EqualKeys) (value l : List ℕ) (n : ℕ) (ls : List (List ℕ)) (b : Bool) → is_value value (value_on keys l) ≡ b →
     row_with keys value n (l ∷ ls) ≡ (if b then Some (n, l) else row_with keys value (n + 1) ls)
@@ -112,7 +112,7 @@ equal_step keys line other i lines d all below at is so =
     ∙ ap (λ (l : List ℕ). paired (i + 1, l) (row_like keys (value_on keys l) (i + 1 + 1) rest) (equal_rows keys (i + 1 + 1) rest)) at
     ∙ sym (ap (λ (ls : List (List ℕ)). equal_rows keys (i + 1) ls) (shown_from lines i d below) ∙ equal_here keys (get_or lines i d).now (i + 1) rest) ∙ so
 
--- its value comes again
+-- A later line has the same value.
 pub equal_found : (keys : EqualKeys) (line : List ℕ) (other : Option (ℕ × List ℕ)) (found : ℕ × List ℕ) (i : ℕ) (lines : List (Bor (List ℕ))) (d : Bor (List ℕ))
     (all : Option Pair) →
     i < length lines → line ≡ (get_or lines i d).now → other ≡ row_like keys (value_on keys line) (i + 1 + 1) (shown (drop (i + 1) lines)) →
@@ -122,7 +122,7 @@ equal_found keys line other found i lines d all below at is e so =
     sym (ap (λ (o : Option (ℕ × List ℕ)). paired (i + 1, line) o (equal_rows keys (i + 1 + 1) (shown (drop (i + 1) lines)))) e)
     ∙ equal_step keys line other i lines d all below at is so
 
--- it does not
+-- No later line has the same value.
 pub equal_goes_on : (keys : EqualKeys) (line : List ℕ) (other : Option (ℕ × List ℕ)) (i : ℕ) (lines : List (Bor (List ℕ))) (d : Bor (List ℕ))
     (all : Option Pair) →
     i < length lines → line ≡ (get_or lines i d).now → other ≡ row_like keys (value_on keys line) (i + 1 + 1) (shown (drop (i + 1) lines)) → other ≡ None →

@@ -1,4 +1,4 @@
--- What is said of the parts of a text, by what reads them.
+-- What the report says of the parts of a text, by the reader of each part
 use Rattle.std.proofs.Common.{◌≡◌, ◌∙◌, ℕ, List, [], Bool, true, false, Result, Ok, Err, drop, sym, ap, subst}
 use Rattle.std.specs.Prelude.{if◌then◌else◌}
 use Rattle.std.specs.Str.{IsUtf8, is_utf8}
@@ -28,7 +28,7 @@ pub no_lines : (bytes : List ℕ) → ¬ (IsUtf8 bytes) → [] ≡ text_lines by
 no_lines bytes n =
     sym (ap (λ (b : Bool). if b then lines_of bytes else []) (not_utf8 bytes (is_utf8 bytes) (let same : is_utf8 bytes ≡ is_utf8 bytes = cc in same) n))
 
--- a word of a line
+-- The words of a line
 
 pub named_text : (head : Head) (bytes word : List ℕ) → word ≡ bytes → IsUtf8 bytes → named_words head word ≡ word_words head bytes
 named_text head bytes word e u =
@@ -39,7 +39,7 @@ unnamed_bytes head bytes n =
     sym (ap (λ (b : Bool). if b then named_words head bytes else unnamed_words)
     (not_utf8 bytes (is_utf8 bytes) (let same : is_utf8 bytes ≡ is_utf8 bytes = cc in same) n))
 
--- 2. A plan
+-- 2. The words of a plan
 
 words_read : (d : Described) (r : Result (Planned × List ℕ) ℕ) (p : Planned) (rest : List ℕ) → r ≡ Ok (p, rest) → served_words d p ≡ plan_words d r
 unfolding plan_words
@@ -52,7 +52,8 @@ words_bad d r line e = sym (ap (plan_words d) e)
 pub of_plan : (d : Described) (text : List ℕ) (p : Planned) (size : ℕ) → BeginsWithPlan text p size → served_words d p ≡ plan_words d (planned text)
 of_plan d text p size b = words_read d (planned text) p (drop size text) (planned_front text p size b)
 
-pub of_bad_line : (d : Described) (text : List ℕ) (error : PlanTextError) (line told : ℕ) → error ≡ bad_text.Line line → line ≡ told → Refuses text error →
-    bad_line_words told ≡ plan_words d (planned text)
-of_bad_line d text error line told e same r =
+pub of_bad_line : (d : Described) (text : List ℕ) (error : PlanTextError) (line reported : ℕ) → error ≡ bad_text.Line line → line ≡ reported →
+    Refuses text error →
+    bad_line_words reported ≡ plan_words d (planned text)
+of_bad_line d text error line reported e same r =
     ap bad_line_words (sym same) ∙ words_bad d (planned text) line (names_line text (bad_text.Line line) (subst (λ (x : PlanTextError). Refuses text x) e r))

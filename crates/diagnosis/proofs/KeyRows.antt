@@ -1,4 +1,4 @@
--- The line of a key, line by line.
+-- The line of a key, line by line
 use Rattle.std.proofs.Common.{◌≡◌, ◌∙◌, ◌<◌, ◌≤◌, ◌+◌, ℕ, List, [], ◌∷◌, length, drop, map, get_or, Bool, true, false, Option, Some, None, refl, sym, ap}
 use Rattle.std.proofs.Common.{add-one}
 use Rattle.std.specs.Prelude.{codes, if◌then◌else◌}

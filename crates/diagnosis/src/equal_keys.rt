@@ -102,7 +102,8 @@ fn row_like<'a>(
     lines: &[&'a str],
 ) -> Option<Row<'a>>
     ensures { option_map (λ row. (row.0, row.1.now)) result
-        ≡ spec.row_like keys (option_map (λ s. s.now) value.entry) (first + 1) (map (λ s. s.now) (drop first lines.now)) }
+        ≡ spec.row_like keys (option_map (λ s. s.now) value.entry) (first + 1)
+        (map (λ s. s.now) (drop first lines.now)) }
 {
     match value {
         Some(value) => row_with(keys, value, first, lines),

@@ -1,4 +1,4 @@
--- How long the bodies of tables are.
+-- The lengths of the bodies of tables
 use Rattle.std.proofs.Common.{◌≡◌, ◌+◌, ◌/◌, ◌%◌, [], ◌∷◌, ◌++◌, length, arith, length-append}
 use Rattle.dvb_tables.specs.Services.{services_bytes}
 use Rattle.dvb_tables.specs.ServiceDescription.{SdtView, sdt_body}

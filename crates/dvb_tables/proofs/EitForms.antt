@@ -1,4 +1,4 @@
--- The event information table: what is read stands there, and what stands there is read.
+-- The event information table: reading finds exactly the bytes' fields
 use Rattle.std.proofs.Common.{◌≡◌, ℕ, ◌+◌, ◌*◌, ◌^◌, ◌<◌, ◌≤◌, nat_lt, false, refl, sym, ap, ◌∙◌, subst, arith, List, [], ◌∷◌, ◌++◌, length, take, drop, Ok}
 use Rattle.std.proofs.Common.{length-append}
 use Rattle.std.proofs.lemmas.Bool.{ltb-false, le-ltb}
@@ -18,7 +18,7 @@ use Rattle.dvb_tables.proofs.Heads.{six}
 use Rattle.dvb_tables.proofs.Seams.{taken, dropped}
 use Rattle.dvb_tables.proofs.EventLoops.{events_is, events_only}
 
--- what a body says that begins with these six bytes
+-- The fields of a body that begins with these six bytes
 parts_found : (s : SectionView) (header : LongHeader) (a b c d f g : ℕ) (loop : List ℕ) (es : List EventView) → HasHeader 0x4E 4093 s header
     → s.body ≡ (a ∷ b ∷ c ∷ d ∷ f ∷ g ∷ []) ++ loop → a < 256 → b < 256 → c < 256 → d < 256 → f < 256 → g < 256 → IsSequence IsEvent loop es
     → IsEit s (record {
@@ -62,7 +62,7 @@ front_found s header front loop es fits h is len events =
     loop es h
     (is ∙ ap (λ (f : List ℕ). f ++ loop) (six front len)) (bytes 0) (bytes 1) (bytes 2) (bytes 3) (bytes 4) (bytes 5) events
 
--- what was read is an event information table
+-- A table that is read from the bytes is an event information table.
 pub eit_is : (s : SectionView) (t : EitView) → IsBytes s.body → eit_at s ≡ Ok t → IsEit s t
 unfolding eit_at eit_body_at eit_after
 eit_is s t fits e =
@@ -74,7 +74,7 @@ eit_is s t fits e =
     (front_found s q.0 (take 6 s.body) (drop 6 s.body) r.0 fits (table_header_at-is 0x4E 4093 s q.0 q.1) (sym (take-append-drop 6 s.body))
     (omega (arith, length-take 6 s.body)) (events_is (drop 6 s.body) r.0 (IsBytes-drop 6 s.body fits) r.1))
 
--- the numbers of six bytes that spell a front
+-- The numbers that the six bytes of a front spell
 pub record Numbers (front : List ℕ) (t : EitView) : Type 0 where
   pub transport_stream_id : slice_index front 0 * 256 + slice_index front 1 ≡ t.transport_stream_id
   pub original_network_id : slice_index front 2 * 256 + slice_index front 3 ≡ t.original_network_id
@@ -115,7 +115,7 @@ body_read t body front loop is len n events =
     let second : drop 6 (front ++ loop) ≡ loop = dropped 6 front loop len in
     rw (is, room, first, second) (after_read t front loop n events)
 
--- an event information table is read
+-- An event information table is read back.
 pub eit_again : (s : SectionView) (t : EitView) → IsBytes s.body → IsEit s t → eit_at s ≡ Ok t
 unfolding eit_at
 eit_again s t fits h =

@@ -1,4 +1,4 @@
--- The fields of an event: in the bytes of an entry, and back.
+-- The fields of an event: from the bytes of an entry, and back
 use Rattle.std.proofs.Common.{◌≡◌, ℕ, ◌+◌, ◌*◌, ◌/◌, ◌%◌, ◌^◌, ◌<◌, refl, List, [], ◌∷◌, ◌++◌, length, sym, ap, ap₂, ◌∙◌, subst, arith}
 use Rattle.std.specs.Prelude.{slice_index}
 use Rattle.bit_fields.specs.Fields.{number, fields, bit, flag, IsBytes}
@@ -35,7 +35,7 @@ here a b s1 s2 s3 s4 s5 d1 d2 d3 f g descriptors ha hb hf hg n = record {
   descriptors_loop_length = omega (arith, n);
 }
 
--- an entry is an event
+-- An entry encodes an event.
 pub event_found : (e : EntryView) → IsEntry 12 e → IsBytes (entry_bytes e) → IsEvent (entry_bytes e) (event_of e)
 unfolding entry_bytes descriptors_length
 event_found e entry fits =
@@ -45,11 +45,11 @@ event_found e entry fits =
     subst (λ (h : List ℕ). IsEvent (h ++ e.descriptors) (event_of (record { head = h; descriptors = e.descriptors }))) (sym h)
     (here _ _ _ _ _ _ _ _ _ _ _ _ e.descriptors (head 0) (head 1) (head 10) (head 11) n)
 
--- twelve bytes made of the parts of an event
+-- Twelve bytes made of the parts of an event
 unfoldable pub head_of : ℕ → ℕ → List ℕ → List ℕ → ℕ → ℕ → List ℕ
 head_of a b start duration f g = (a ∷ b ∷ []) ++ start ++ duration ++ (f ∷ g ∷ [])
 
--- the parts that stand in them
+-- The parts of an event in its twelve bytes
 pub record HeadSays (a b : ℕ) (start duration : List ℕ) (f g : ℕ) : Type 0 where
   pub len : length (head_of a b start duration f g) ≡ 12
   pub count : descriptors_length (head_of a b start duration f g) ≡ f % 16 * 256 + g
@@ -72,7 +72,7 @@ head_says a b start duration f g hs hd =
     g) (sym (three duration hd))
     (record { len = refl; count = refl; value = λ descriptors. refl }))
 
--- the numbers of four bytes that spell an event
+-- The numbers that four bytes of an event spell
 pub record Numbers (a b f g : ℕ) (e : EventView) : Type 0 where
   pub id : a * 256 + b ≡ e.event_id
   pub status : f / 32 ≡ status_code e.running_status
@@ -105,7 +105,7 @@ said a b f g e n h =
     } = cc in
     whole
 
--- an event is what an entry says
+-- The bytes of an event are an entry that encodes it.
 pub event_only : (bytes : List ℕ) (e : EventView) → IsEvent bytes e → IsBytes bytes → Says 12 event_of bytes e
 unfolding entry_bytes head_of
 event_only bytes e h fits =
@@ -144,7 +144,7 @@ same a b s1 s2 s3 s4 s5 d1 d2 d3 f g descriptors ha hb hf hg n =
     let u : length descriptors % 256 ≡ g = omega (arith, n) in
     cc
 
--- what is written of an entry is the entry: no bit of it is reserved
+-- Writing an entry's event yields the entry, because no bit is reserved.
 pub event_same : (e : EntryView) → IsEntry 12 e → IsBytes (entry_bytes e) → event_bytes (event_of e) ≡ entry_bytes e
 unfolding entry_bytes descriptors_length
 event_same e entry fits =

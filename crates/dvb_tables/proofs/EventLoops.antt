@@ -1,4 +1,4 @@
--- The events of a loop: in its bytes, and back.
+-- The events of a loop: from its bytes, and back
 use Rattle.std.proofs.Common.{◌≡◌, ℕ, ◌+◌, ◌/◌, ◌%◌, true, Ok, List, [], ◌∷◌, ◌++◌, length, drop, map, ap, ◌∙◌, arith, append-nil, length-append}
 use Rattle.std.proofs.lemmas.List.{length-take, length-drop}
 use Rattle.std.proofs.lemmas.List.Concat.{flat_map-append}
@@ -17,7 +17,7 @@ use Rattle.dvb_tables.proofs.EntrySequences.{entries_whole, values_read, values_
 use Rattle.dvb_tables.proofs.EventFields.{event_found, event_only, event_same}
 use Rattle.dvb_tables.proofs.EventWritten.{event_written, event_said}
 
--- a whole loop is events
+-- A whole loop is a sequence of events.
 pub events_found : (bytes : List ℕ) → IsBytes bytes → is_some (loop_at 12 bytes) ≡ true → IsSequence IsEvent bytes (events_in bytes)
 unfolding events_in
 events_found bytes fits whole = sequence_of 12 IsEvent event_of event_found bytes (entries_in 12 bytes) fits (whole_entries 12 bytes whole)
@@ -28,31 +28,31 @@ read bytes es h =
     let whole : is_some (loop_at 12 bytes) ≡ true = entries_whole 12 bytes h.es (omega arith) h.entries in
     rw whole (ap Ok (values_read 12 event_of bytes es (omega arith) h))
 
--- events are read
+-- A sequence of events is read back.
 pub events_only : (bytes : List ℕ) (es : List EventView) → IsBytes bytes → IsSequence IsEvent bytes es → events_at bytes ≡ Ok es
 events_only bytes es fits h = read bytes es (entries_of 12 IsEvent event_of event_only bytes es fits h)
 
--- events that are written are read again
+-- Written events are read back.
 pub events_again : (es : List EventView) → All EventFits es → events_at (events_bytes es) ≡ Ok es
 unfolding events_bytes
 events_again es h = read (flat_map event_bytes es) es (written_entries 12 event_of event_bytes EventFits event_said es h)
 
--- what is written is events
+-- Written events are a sequence of events.
 pub events_written : (es : List EventView) → All EventFits es → IsSequence IsEvent (events_bytes es) es
 unfolding events_bytes
 events_written es h = written_sequence IsEvent event_bytes EventFits event_written es h
 
--- what is written of a whole loop is the loop: no bit of it is reserved
+-- Writing the events of a whole loop yields the loop, because no bit is reserved.
 pub events_same : (bytes : List ℕ) → IsBytes bytes → is_some (loop_at 12 bytes) ≡ true → events_bytes (events_in bytes) ≡ bytes
 unfolding events_in events_bytes
 events_same bytes fits whole = written_same 12 event_of event_bytes event_same bytes (entries_in 12 bytes) fits (whole_entries 12 bytes whole)
 
--- no bytes are no events
+-- An empty loop has no events.
 pub no_events : events_in [] ≡ []
 unfolding events_in
 no_events = ap (λ o. map event_of (unwrap_or o [])) (loop_at-end 12)
 
--- a loop with one event more
+-- A loop with one more event
 pub record OneMore (bytes : List ℕ) (e : EventView) : Type 0 where
   pub whole : is_some (loop_at 12 (bytes ++ event_bytes e)) ≡ true
   pub events : events_in (bytes ++ event_bytes e) ≡ events_in bytes ++ e ∷ []
@@ -82,7 +82,7 @@ event_size e five three =
       length-append id e.start_time,
     )
 
--- an event is written with twelve bytes before its descriptors
+-- An event is written with twelve bytes before its descriptors.
 event_length : (e : EntryView) → IsEntry 12 e → length (event_bytes (event_of e)) ≡ length (entry_bytes e)
 unfolding event_of entry_bytes
 event_length e entry =
@@ -91,7 +91,7 @@ event_length e entry =
     (omega (arith, h, length-take 3 (drop 7 e.head), length-drop 7 e.head))
     ∙ omega (arith, h, length-append e.head e.descriptors)
 
--- what is written of a whole loop is as long as it is
+-- Writing the events of a whole loop yields as many bytes as the loop has.
 pub events_length : (bytes : List ℕ) → is_some (loop_at 12 bytes) ≡ true → length (events_bytes (events_in bytes)) ≡ length bytes
 unfolding events_in events_bytes
 events_length bytes whole = written_length 12 event_of event_bytes event_length bytes (entries_in 12 bytes) (whole_entries 12 bytes whole)
@@ -100,7 +100,7 @@ more_bytes : (es : List EventView) (e : EventView) → events_bytes (es ++ e ∷
 unfolding events_bytes
 more_bytes es e = flat_map-append event_bytes es (e ∷ []) ∙ ap (λ (t : List ℕ). flat_map event_bytes es ++ t) (append-nil (event_bytes e))
 
--- how many bytes a loop takes with one event more
+-- The length of a loop with one more event
 pub more_length : (bytes : List ℕ) (e : EventView) → is_some (loop_at 12 bytes) ≡ true → length e.start_time ≡ 5 → length e.duration ≡ 3
     → length (events_bytes (events_in bytes ++ e ∷ [])) ≡ length bytes + (12 + length e.descriptors)
 more_length bytes e whole five three =
@@ -108,7 +108,7 @@ more_length bytes e whole five three =
     ap (length {A = ℕ}) (more_bytes (events_in bytes) e) in
     omega (arith, all, event_size e five three, events_length bytes whole, length-append (events_bytes (events_in bytes)) (event_bytes e))
 
--- what was read of a loop stands there
+-- Events that are read from a loop are the sequence in its bytes.
 pub events_is : (bytes : List ℕ) (xs : List EventView) → IsBytes bytes → events_at bytes ≡ Ok xs → IsSequence IsEvent bytes xs
 unfolding events_at
 events_is bytes xs fits e =

@@ -1,4 +1,4 @@
--- An event as it is written.
+-- An event as it is written
 use Rattle.std.proofs.Common.{◌≡◌, ℕ, ◌+◌, ◌*◌, ◌/◌, ◌%◌, ◌^◌, ◌<◌, refl, [], ◌∷◌, length, ◌∙◌, arith}
 use Rattle.bit_fields.specs.Fields.{number, fields, bit}
 use Rattle.psi_tables.specs.Loops.{entry_bytes}
@@ -13,7 +13,7 @@ status_spelled : (status ca n : ℕ) → status < 8 → ca < 2 → n < 2 ^ 12
     → number (((status * 2 + ca) * 16 + n / 256) ∷ (n % 256) ∷ []) ≡ fields ((3, status) ∷ (1, ca) ∷ (12, n) ∷ [])
 status_spelled status ca n a b c = omega arith
 
--- what is written is an event
+-- The bytes that are written for an event are an event.
 pub event_written : (e : EventView) → EventFits e → IsEvent (event_bytes e) e
 unfolding event_bytes event_status
 event_written e h = record {
@@ -31,7 +31,7 @@ event_written e h = record {
   descriptors_loop_length = h.descriptors;
 }
 
--- what is written is an entry that says the event
+-- The bytes that are written for an event are an entry that encodes it.
 pub event_said : (e : EventView) → EventFits e → Says 12 event_of (event_bytes e) e
 unfolding event_bytes event_status entry_bytes head_of event_written
 event_said e h =

@@ -1,4 +1,4 @@
--- Lists of few bytes, and numbers of single bits.
+-- Lists of a few bytes, and numbers of single bits
 use Rattle.std.proofs.Common.{◌≡◌, ℕ, zero, suc, ◌/◌, ◌%◌, ◌<◌, Bool, true, false, refl, List, [], ◌∷◌, length, arith}
 use Rattle.std.specs.Prelude.{slice_index}
 use Rattle.bit_fields.specs.Fields.{bit, flag}
@@ -59,7 +59,7 @@ twelve (a ∷ b ∷ c ∷ d ∷ f ∷ g ∷ h ∷ i ∷ j ∷ k ∷ l ∷ []) e 
 twelve (a ∷ b ∷ c ∷ d ∷ f ∷ g ∷ h ∷ i ∷ j ∷ k ∷ l ∷ m ∷ []) e = refl
 twelve (a ∷ b ∷ c ∷ d ∷ f ∷ g ∷ h ∷ i ∷ j ∷ k ∷ l ∷ m ∷ n ∷ xs) e = absurd (omega arith)
 
--- a flag is the bit that stands there
+-- A flag is the bit of the byte.
 pub flag_bit : (byte value : ℕ) → bit (flag byte value) ≡ byte / value % 2
 flag_bit byte value = bit_test (byte / value % 2) (omega arith)
 
@@ -76,7 +76,7 @@ code_below OffAir = omega arith
 code_below Reserved6 = omega arith
 code_below Reserved7 = omega arith
 
--- three bits are read as a status and written as the same bits
+-- A running status is read back from its three bits.
 pub status_again : (r : RunningStatus) → status_of (status_code r) ≡ r
 status_again Undefined = refl
 status_again NotRunning = refl

@@ -1,4 +1,4 @@
--- The network information table: what is read stands there, and what stands there is read.
+-- The network information table: reading finds exactly the bytes' fields
 use Rattle.std.proofs.Common.{◌≡◌, ℕ, ◌+◌, ◌*◌, ◌/◌, ◌%◌, ◌^◌, ◌<◌, ◌==◌, refl, sym, ap, ◌∙◌, subst, arith, List, [], ◌∷◌, ◌++◌, length, Option, None, Some, Ok}
 use Rattle.std.proofs.Common.{append-nil, eqb-true}
 use Rattle.std.specs.Prelude.{slice_index}
@@ -21,7 +21,7 @@ use Rattle.dvb_tables.proofs.TransportStreamLoops.{transport_streams_is, transpo
 count_is : (a b : ℕ) → a < 256 → b < 256 → IsLoopLength (a ∷ b ∷ []) (a % 16 * 256 + b)
 count_is a b ha hb = record { len = refl; reserved = a / 16; spelled = omega arith; four_bits = omega arith; twelve_bits = omega arith }
 
--- the head of an entry of two bytes is a count of what follows it
+-- The head of an entry with two bytes is the length of the bytes after it.
 count_found : (e : EntryView) → IsEntry 2 e → IsBytes e.head → IsLoopLength e.head (length e.descriptors)
 unfolding descriptors_length
 count_found e entry fits =
@@ -35,7 +35,7 @@ count_said : (a b n reserved : ℕ) → a < 256 → b < 256 → reserved < 2 ^ 4
     a % 16 * 256 + b ≡ n
 count_said a b n reserved ha hb hr hn e = omega arith
 
--- a count and what it counts are an entry
+-- A length and the bytes that it counts are an entry.
 pub count_entry : (head rest : List ℕ) → IsLoopLength head (length rest) → IsBytes head → IsEntry 2 (record { head = head; descriptors = rest })
 unfolding descriptors_length
 count_entry head rest h fits =
@@ -46,7 +46,7 @@ count_entry head rest h fits =
           h.twelve_bits (ap number (sym l) ∙ h.spelled);
     }
 
--- what was found to the end of bytes
+-- An entry that reaches to the end of the bytes
 record ToTheEnd (o : Option (EntryView × List ℕ)) (loop : List ℕ) : Type 0 where
   front : EntryView × List ℕ
   there : o ≡ Some front
@@ -64,7 +64,7 @@ to_the_end_is (Some p) loop e =
     let a = accepted (length p.1 == 0) p.0.descriptors Body loop e in
     record { front = p; there = refl; ends = empty p.1 (eqb-true (length p.1) 0 a.0); is = a.1 }
 
--- what was found after the header
+-- The parts of the body after the section's header
 record After (header : LongHeader) (o : Option (EntryView × List ℕ)) (t : NitView) : Type 0 where
   front : EntryView × List ℕ
   there : o ≡ Some front
@@ -82,7 +82,7 @@ after_is header (Some p) t e =
     let r = bind_ok (transport_streams_at q.0) _ t q.2 in
     record { front = p; there = refl; loop = q.0; ends = q.1; streams = r.0; read = r.1; is = ok_is _ t r.2 }
 
--- a body of two entries of two bytes each
+-- A body of two entries, each with a head of two bytes
 two_entries : (s : SectionView) (header : LongHeader) (e f : EntryView) (streams : List TransportStreamView) → IsBytes s.body → HasHeader 0x40 1021 s header
     → s.body ≡ (e.head ++ e.descriptors) ++ (f.head ++ f.descriptors) → IsEntry 2 e → IsEntry 2 f → transport_streams_at f.descriptors ≡ Ok streams
     → IsNit s (record { header = header; network_descriptors = e.descriptors; transport_streams = streams })
@@ -103,7 +103,7 @@ two_entries s header e f streams fits h is first second read =
       transport_streams = transport_streams_is f.descriptors streams (IsBytes-append_right f.head f.descriptors right) read;
     }
 
--- what was read is a network information table
+-- A table that is read from the bytes is a network information table.
 pub nit_is : (s : SectionView) (t : NitView) → IsBytes s.body → nit_at s ≡ Ok t → IsNit s t
 unfolding nit_at entry_bytes
 nit_is s t fits e =
@@ -120,7 +120,7 @@ nit_is s t fits e =
     (two_entries s q.0 b.front.0 end.front.0 b.streams fits (table_header_at-is 0x40 1021 s q.0 q.1) is first.entry second.entry
     (ap transport_streams_at end.is ∙ b.read))
 
--- a body of two counts and what they count is read
+-- A body of two lengths, each followed by the bytes that it counts, is read.
 pub body_read : (t : NitView) (body first second loop : List ℕ) → body ≡ (first ++ t.network_descriptors) ++ (second ++ loop)
     → IsEntry 2 (record { head = first; descriptors = t.network_descriptors }) → IsEntry 2 (record { head = second; descriptors = loop })
     → transport_streams_at loop ≡ Ok t.transport_streams → nit_after t.header (entry_at 2 body) ≡ Ok t
@@ -133,7 +133,7 @@ body_read t body first second loop is one two streams =
     = ap (λ (b : List ℕ). entry_at 2 b) (sym (append-nil (second ++ loop))) ∙ entry_at-read 2 (record { head = second; descriptors = loop }) [] two in
     rw (is, front, end, streams) refl
 
--- a network information table is read
+-- A network information table is read back.
 pub nit_again : (s : SectionView) (t : NitView) → IsBytes s.body → IsNit s t → nit_at s ≡ Ok t
 unfolding nit_at
 nit_again s t fits h =

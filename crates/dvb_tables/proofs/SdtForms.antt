@@ -1,4 +1,4 @@
--- The service description table: what is read stands there, and what stands there is read.
+-- The service description table: reading finds exactly the bytes' fields
 use Rattle.std.proofs.Common.{◌≡◌, ℕ, ◌+◌, ◌*◌, ◌^◌, ◌<◌, ◌≤◌, nat_lt, false, refl, sym, ap, ◌∙◌, subst, arith, List, [], ◌∷◌, ◌++◌, length, take, drop, Ok}
 use Rattle.std.proofs.Common.{length-append}
 use Rattle.std.proofs.lemmas.Bool.{ltb-false, le-ltb}
@@ -18,7 +18,7 @@ use Rattle.dvb_tables.proofs.Heads.{three}
 use Rattle.dvb_tables.proofs.Seams.{taken, dropped}
 use Rattle.dvb_tables.proofs.ServiceLoops.{services_is, services_only}
 
--- what a body says that begins with these three bytes
+-- The fields of a body that begins with these three bytes
 parts_found : (s : SectionView) (header : LongHeader) (a b c : ℕ) (loop : List ℕ) (ss : List ServiceView) → HasHeader 0x42 1021 s header
     → s.body ≡ (a ∷ b ∷ c ∷ []) ++ loop → a < 256 → b < 256 → c < 256 → IsSequence IsService loop ss
     → IsSdt s (record { header = header; original_network_id = a * 256 + b; services = ss })
@@ -45,7 +45,7 @@ front_found s header front loop ss fits h is len services =
     parts_found s header (slice_index front 0) (slice_index front 1) (slice_index front 2) loop ss h (is ∙ ap (λ (f : List ℕ). f ++ loop) (three front len))
     (bytes 0) (bytes 1) (bytes 2) services
 
--- what was read is a service description table
+-- A table that is read from the bytes is a service description table.
 pub sdt_is : (s : SectionView) (t : SdtView) → IsBytes s.body → sdt_at s ≡ Ok t → IsSdt s t
 unfolding sdt_at sdt_body_at sdt_after
 sdt_is s t fits e =
@@ -78,7 +78,7 @@ body_read t body front loop is len id services =
     let second : drop 3 (front ++ loop) ≡ loop = dropped 3 front loop len in
     rw (is, room, first, second) (after_read t front loop id services)
 
--- a service description table is read
+-- A service description table is read back.
 pub sdt_again : (s : SectionView) (t : SdtView) → IsBytes s.body → IsSdt s t → sdt_at s ≡ Ok t
 unfolding sdt_at
 sdt_again s t fits h =

@@ -1,8 +1,8 @@
--- What tests of a reader tell, and parts of joined lists.
+-- The meaning of a reader's tests, and parts of joined lists
 use Rattle.std.proofs.Common.{◌≡◌, ℕ, Bool, true, false, cond, Ok, Err, refl, List, ◌++◌, length, take, drop, sym}
 use Rattle.std.proofs.Math.Seq.{take-append_seam, drop-append_seam}
 
--- an accepting test that let a value pass
+-- An accepting test that let a value pass
 pub accepted : {A E : Type 0} (b : Bool) (x : A) (d : E) (y : A) → cond b (Ok x) (Err d) ≡ Ok y → (b ≡ true) × (x ≡ y)
 accepted true x d y e = (refl, cc)
 accepted false x d y e = absurd cc

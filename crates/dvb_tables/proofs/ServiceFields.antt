@@ -1,4 +1,4 @@
--- The fields of a service: in the bytes of an entry, and back.
+-- The fields of a service: from the bytes of an entry, and back
 use Rattle.std.proofs.Common.{◌≡◌, ℕ, ◌+◌, ◌*◌, ◌/◌, ◌%◌, ◌^◌, ◌<◌, refl, List, [], ◌∷◌, ◌++◌, length, sym, ap, ◌∙◌, subst, arith, length-append}
 use Rattle.std.specs.Prelude.{slice_index}
 use Rattle.bit_fields.specs.Fields.{number, fields, bit, flag, IsBytes}
@@ -35,7 +35,7 @@ here a b c d f descriptors ha hb hc hd hf n = record {
   descriptors_loop_length = omega (arith, n);
 }
 
--- an entry is a service
+-- An entry encodes a service.
 pub service_found : (e : EntryView) → IsEntry 5 e → IsBytes (entry_bytes e) → IsService (entry_bytes e) (service_of e)
 unfolding entry_bytes descriptors_length
 service_found e entry fits =
@@ -48,7 +48,7 @@ service_found e entry fits =
     (here (slice_index e.head 0) (slice_index e.head 1) (slice_index e.head 2) (slice_index e.head 3) (slice_index e.head 4) e.descriptors
     (head 0) (head 1) (head 2) (head 3) (head 4) n)
 
--- the numbers of five bytes that spell a service
+-- The numbers that five bytes of a service spell
 pub record Numbers (a b c d f : ℕ) (s : ServiceView) : Type 0 where
   pub id : a * 256 + b ≡ s.service_id
   pub schedule : c / 2 % 2 ≡ bit s.eit_schedule
@@ -94,7 +94,7 @@ said a b c d f s n =
     } = cc in
     whole
 
--- a service is what an entry says
+-- The bytes of a service are an entry that encodes it.
 pub service_only : (bytes : List ℕ) (s : ServiceView) → IsService bytes s → IsBytes bytes → Says 5 service_of bytes s
 unfolding entry_bytes descriptors_length
 service_only bytes s h fits =
@@ -110,7 +110,7 @@ service_only bytes s h fits =
           ∙ said (slice_index h.head 0) (slice_index h.head 1) (slice_index h.head 2) (slice_index h.head 3) (slice_index h.head 4) s n;
     }
 
--- a service is written with five bytes before its descriptors
+-- A service is written with five bytes before its descriptors.
 pub service_length : (e : EntryView) → IsEntry 5 e → length (service_bytes (service_of e)) ≡ length (entry_bytes e)
 unfolding service_bytes service_front entry_bytes service_of
 service_length e entry = omega (arith, entry.head_length, length-append e.head e.descriptors)

@@ -1,4 +1,4 @@
--- The services of a loop: in its bytes, and back.
+-- The services of a loop: from its bytes, and back
 use Rattle.std.proofs.Common.{◌≡◌, ℕ, true, Ok, List, [], ◌∷◌, ◌++◌, ◌+◌, ◌≤◌, append_assoc, length-append, length, map, ap, ◌∙◌, subst, arith}
 use Rattle.std.specs.Prelude.{flat_map, is_some, All}
 use Rattle.std.specs.Prelude.{unwrap_or}
@@ -17,7 +17,7 @@ use Rattle.dvb_tables.proofs.EntrySequences.{values_read, values_after}
 use Rattle.dvb_tables.proofs.ServiceFields.{service_found, service_only, service_length}
 use Rattle.dvb_tables.proofs.ServiceWritten.{service_written, service_said}
 
--- a whole loop is services
+-- A whole loop is a sequence of services.
 pub services_found : (bytes : List ℕ) → IsBytes bytes → is_some (loop_at 5 bytes) ≡ true → IsSequence IsService bytes (services_in bytes)
 unfolding services_in
 services_found bytes fits whole = sequence_of 5 IsService service_of service_found bytes (entries_in 5 bytes) fits (whole_entries 5 bytes whole)
@@ -28,31 +28,31 @@ read bytes ss h =
     let whole : is_some (loop_at 5 bytes) ≡ true = entries_whole 5 bytes h.es (omega arith) h.entries in
     rw whole (ap Ok (values_read 5 service_of bytes ss (omega arith) h))
 
--- services are read
+-- A sequence of services is read back.
 pub services_only : (bytes : List ℕ) (ss : List ServiceView) → IsBytes bytes → IsSequence IsService bytes ss → services_at bytes ≡ Ok ss
 services_only bytes ss fits h = read bytes ss (entries_of 5 IsService service_of service_only bytes ss fits h)
 
--- services that are written are read again
+-- Written services are read back.
 pub services_again : (ss : List ServiceView) → All ServiceFits ss → services_at (services_bytes ss) ≡ Ok ss
 unfolding services_bytes
 services_again ss h = read (flat_map service_bytes ss) ss (written_entries 5 service_of service_bytes ServiceFits service_said ss h)
 
--- what is written is services
+-- Written services are a sequence of services.
 pub services_written : (ss : List ServiceView) → All ServiceFits ss → IsSequence IsService (services_bytes ss) ss
 unfolding services_bytes
 services_written ss h = written_sequence IsService service_bytes ServiceFits service_written ss h
 
--- what is written of a whole loop is as long as it is
+-- Writing the services of a whole loop yields as many bytes as the loop has.
 pub services_length : (bytes : List ℕ) → is_some (loop_at 5 bytes) ≡ true → length (services_bytes (services_in bytes)) ≡ length bytes
 unfolding services_in services_bytes
 services_length bytes whole = written_length 5 service_of service_bytes service_length bytes (entries_in 5 bytes) (whole_entries 5 bytes whole)
 
--- one written, the others to be written
+-- Writing one service and then the remaining services writes them all.
 pub service_step : (out : List ℕ) (x : ServiceView) (xs : List ServiceView) → (out ++ service_bytes x) ++ services_bytes xs ≡ out ++ services_bytes (x ∷ xs)
 unfolding services_bytes
 service_step out x xs = append_assoc out (service_bytes x) (services_bytes xs)
 
--- room for one where there is room for all
+-- If there is room for all services, there is room for the first.
 pub service_room : (out : List ℕ) (x : ServiceView) (xs : List ServiceView) (n : ℕ) → length (out ++ services_bytes (x ∷ xs)) ≤ n →
     length out + (5 + length x.descriptors) ≤ n
 unfolding services_bytes service_bytes service_front
@@ -65,12 +65,12 @@ service_room out x xs n h =
       length-append (service_front x) x.descriptors,
     )
 
--- no bytes are no services
+-- An empty loop has no services.
 pub no_services : services_in [] ≡ []
 unfolding services_in
 no_services = ap (λ o. map service_of (unwrap_or o [])) (loop_at-end 5)
 
--- a loop with one more
+-- A loop with one more service
 pub record OneMore (bytes : List ℕ) (x : ServiceView) : Type 0 where
   pub whole : is_some (loop_at 5 (bytes ++ service_bytes x)) ≡ true
   pub values : services_in (bytes ++ service_bytes x) ≡ services_in bytes ++ x ∷ []
@@ -92,7 +92,7 @@ size : (x : ServiceView) → length (service_bytes x) ≡ 5 + length x.descripto
 unfolding service_bytes service_front
 size x = omega arith
 
--- how many bytes a loop takes with one more
+-- The length of a loop with one more service
 pub more_length : (bytes : List ℕ) (x : ServiceView) → is_some (loop_at 5 bytes) ≡ true → length (services_bytes (services_in bytes ++ x ∷ [])) ≡ length bytes
     + (5 + length x.descriptors)
 more_length bytes x whole =
@@ -100,7 +100,7 @@ more_length bytes x whole =
     ap (length {A = ℕ}) (more_bytes (services_in bytes) x) in
     omega (arith, all, size x, services_length bytes whole, length-append (services_bytes (services_in bytes)) (service_bytes x))
 
--- what was read of a loop stands there
+-- Services that are read from a loop are the sequence in its bytes.
 pub services_is : (bytes : List ℕ) (xs : List ServiceView) → IsBytes bytes → services_at bytes ≡ Ok xs → IsSequence IsService bytes xs
 unfolding services_at
 services_is bytes xs fits e =

@@ -1,4 +1,4 @@
--- A service as it is written.
+-- A service as it is written
 use Rattle.std.proofs.Common.{◌≡◌, ℕ, ◌+◌, ◌*◌, ◌/◌, ◌%◌, ◌^◌, ◌<◌, refl, [], ◌∷◌, length, arith}
 use Rattle.bit_fields.specs.Fields.{number, fields, bit}
 use Rattle.psi_tables.specs.Loops.{EntryView, entry_bytes, descriptors_length}
@@ -14,7 +14,7 @@ spelled : (id sched pf status ca n : ℕ) → id < 2 ^ 16 → sched < 2 → pf <
     ≡ fields ((16, id) ∷ (6, 63) ∷ (1, sched) ∷ (1, pf) ∷ (3, status) ∷ (1, ca) ∷ (12, n) ∷ [])
 spelled id sched pf status ca n a b c d e f = omega arith
 
--- what is written is a service
+-- The bytes that are written for a service are a service.
 pub service_written : (s : ServiceView) → ServiceFits s → IsService (service_bytes s) s
 unfolding service_bytes service_front
 service_written s h = record {
@@ -29,11 +29,11 @@ service_written s h = record {
   descriptors_loop_length = h.descriptors;
 }
 
--- the entry that is written
+-- The entry that is written for a service
 pub service_entry : ServiceView → EntryView
 service_entry s = record { head = service_front s; descriptors = s.descriptors }
 
--- what is written is an entry that says the service
+-- The bytes that are written for a service are an entry that encodes it.
 pub service_said : (s : ServiceView) → ServiceFits s → Says 5 service_of (service_bytes s) s
 unfolding service_bytes service_front service_entry entry_bytes descriptors_length service_written
 service_said s h =

@@ -1,4 +1,4 @@
--- What is written of a table is the table, and is read again.
+-- The bytes that are written for a table are the table, and are read back.
 use Rattle.std.proofs.Common.{◌≡◌, ℕ, ◌+◌, ◌*◌, ◌/◌, ◌%◌, ◌^◌, ◌<◌, ◌==◌, Bool, true, false, cond, refl, subst, eqb-true, arith, List, [], ◌∷◌, ◌++◌, length}
 use Rattle.std.proofs.Common.{lit<, append_assoc}
 use Rattle.psi_tables.specs.Loops.{IsEntry, descriptors_length}
@@ -25,7 +25,7 @@ use Rattle.dvb_tables.proofs.TdtForms.{tdt_again}
 pub times_are_digits : TimesAreDigits
 times_are_digits moment = omega arith
 
--- a text of plain characters begins with no 0x15
+-- A text of plain characters does not begin with 0x15.
 unquoted : (t : Bool) (b : ℕ) (bytes : List ℕ) → (b == 0x15) ≡ t → is_plain (b ∷ bytes) ≡ true → cond t bytes (b ∷ bytes) ≡ b ∷ bytes
 unfolding is_plain is_plain_character
 unquoted false b bytes t e = refl
@@ -46,7 +46,7 @@ coded false text h = refl
 pub texts_are_decoded : TextsAreDecoded
 texts_are_decoded text = coded (is_plain text) text (plain_decoded text)
 
--- a service description table
+-- A service description table
 pub sdt_written : (t : SdtView) → SdtFits t → SdtIsRead t
 unfolding sdt_section sdt_body sdt_at
 sdt_written t h =
@@ -74,7 +74,7 @@ sdt_written t h =
       read = rw read (Sdts.body_read t (sdt_body t) front (services_bytes t.services) refl refl number_is (services_again t.services h.services));
     }
 
--- an event information table
+-- An event information table
 pub eit_written : (t : EitView) → EitFits t → EitIsRead t
 unfolding eit_section eit_body eit_at two_numbers
 eit_written t h =
@@ -116,7 +116,7 @@ count_entry : (rest : List ℕ) → length rest < 2 ^ 12 → IsEntry 2 (record {
 unfolding loop_length_bytes descriptors_length
 count_entry rest h = record { head_length = refl; named = omega arith }
 
--- a network information table
+-- A network information table
 pub nit_written : (t : NitView) → NitFits t → NitIsRead t
 unfolding nit_section nit_body nit_at
 nit_written t h =
@@ -147,7 +147,7 @@ nit_written t h =
           (count_entry t.network_descriptors few) (count_entry loop less) (transport_streams_again t.transport_streams h.transport_streams));
     }
 
--- a time and date table
+-- A time and date table
 pub tdt_written : (t : Tdt) → length t.utc_time ≡ 5 → TdtIsRead t
 unfolding tdt_section
 tdt_written t h =

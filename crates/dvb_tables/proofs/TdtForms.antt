@@ -1,4 +1,4 @@
--- The time and date table: what is read stands there, and what stands there is read.
+-- The time and date table: reading finds exactly the bytes' fields
 use Rattle.std.proofs.Common.{◌≡◌, ℕ, ◌==◌, true, refl, ap, List, length, Option, None, Some, Ok, Err, inl, inr, eq-eqb, eqb-true}
 use Rattle.bit_fields.proofs.Bind.{chosen}
 use Rattle.psi_tables.specs.Views.{SectionView}
@@ -20,7 +20,7 @@ form_is None body t e =
     record { short = refl; len = eqb-true (length body) 5 a.0; is = ap (λ (t : Tdt). t.utc_time) a.1 }
 form_is (Some h) body t e = absurd cc
 
--- what was read is a time and date table
+-- A table that is read from the bytes is a time and date table.
 pub tdt_is : (s : SectionView) (t : Tdt) → tdt_at s ≡ Ok t → IsTdt s t
 unfolding tdt_at
 tdt_is s t e =
@@ -37,7 +37,7 @@ form_read body t len is =
     let whole : ◌≡◌ {A = Tdt} (record { utc_time = body }) t = ap (λ (b : List ℕ). record { utc_time = b }) is in
     rw five (ap (λ (t : Tdt). Ok t) whole)
 
--- a time and date table is read
+-- A time and date table is read back.
 pub tdt_again : (s : SectionView) (t : Tdt) → IsTdt s t → tdt_at s ≡ Ok t
 unfolding tdt_at
 tdt_again s t h =

@@ -1,4 +1,4 @@
--- The fields of a transport stream: in the bytes of an entry, and back.
+-- The fields of a transport stream: from the bytes of an entry, and back
 use Rattle.std.proofs.Common.{◌≡◌, ℕ, ◌+◌, ◌*◌, ◌/◌, ◌%◌, ◌^◌, ◌<◌, refl, List, [], ◌∷◌, ◌++◌, length, sym, ap, ◌∙◌, subst, arith, length-append}
 use Rattle.std.specs.Prelude.{slice_index}
 use Rattle.bit_fields.specs.Fields.{number, fields, IsBytes}
@@ -24,7 +24,7 @@ here a b c d f g descriptors ha hb hc hd hf hg n = record {
   transport_descriptors_length = omega (arith, n);
 }
 
--- an entry is a transport stream
+-- An entry encodes a transport stream.
 pub transport_stream_found : (e : EntryView) → IsEntry 6 e → IsBytes (entry_bytes e) → IsTransportStream (entry_bytes e) (transport_stream_of e)
 unfolding entry_bytes descriptors_length
 transport_stream_found e entry fits =
@@ -39,7 +39,7 @@ transport_stream_found e entry fits =
     e.descriptors
     (head 0) (head 1) (head 2) (head 3) (head 4) (head 5) n)
 
--- the numbers of six bytes that spell a transport stream
+-- The numbers that six bytes of a transport stream spell
 pub record Numbers (a b c d f g : ℕ) (t : TransportStreamView) : Type 0 where
   pub id : a * 256 + b ≡ t.transport_stream_id
   pub network : c * 256 + d ≡ t.original_network_id
@@ -61,7 +61,7 @@ said a b c d f g t n =
     ≡ record { transport_stream_id = t.transport_stream_id; original_network_id = t.original_network_id; descriptors = t.descriptors } = cc in
     whole
 
--- a transport stream is what an entry says
+-- The bytes of a transport stream are an entry that encodes it.
 pub transport_stream_only : (bytes : List ℕ) (t : TransportStreamView) → IsTransportStream bytes t → IsBytes bytes → Says 6 transport_stream_of bytes t
 unfolding entry_bytes descriptors_length
 transport_stream_only bytes t h fits =
@@ -79,7 +79,7 @@ transport_stream_only bytes t h fits =
           ∙ said (slice_index h.head 0) (slice_index h.head 1) (slice_index h.head 2) (slice_index h.head 3) (slice_index h.head 4) (slice_index h.head 5) t n;
     }
 
--- a transport stream is written with six bytes before its descriptors
+-- A transport stream is written with six bytes before its descriptors.
 pub transport_stream_length : (e : EntryView) → IsEntry 6 e → length (transport_stream_bytes (transport_stream_of e)) ≡ length (entry_bytes e)
 unfolding transport_stream_bytes transport_stream_front entry_bytes transport_stream_of
 transport_stream_length e entry = omega (arith, entry.head_length, length-append e.head e.descriptors)

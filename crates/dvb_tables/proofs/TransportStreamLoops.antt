@@ -1,4 +1,4 @@
--- The transport streams of a loop: in its bytes, and back.
+-- The transport streams of a loop: from its bytes, and back
 use Rattle.std.proofs.Common.{◌≡◌, ℕ, true, Ok, List, [], ◌∷◌, ◌++◌, ◌+◌, ◌≤◌, append_assoc, length-append, length, map, ap, ◌∙◌, arith}
 use Rattle.std.specs.Prelude.{flat_map, is_some, All}
 use Rattle.std.specs.Prelude.{unwrap_or}
@@ -19,7 +19,7 @@ use Rattle.dvb_tables.proofs.EntrySequences.{values_read, values_after}
 use Rattle.dvb_tables.proofs.TransportStreamFields.{transport_stream_found, transport_stream_only, transport_stream_length}
 use Rattle.dvb_tables.proofs.TransportStreamWritten.{transport_stream_written, transport_stream_said}
 
--- a whole loop is transport streams
+-- A whole loop is a sequence of transport streams.
 pub transport_streams_found : (bytes : List ℕ) → IsBytes bytes → is_some (loop_at 6 bytes) ≡ true →
     IsSequence IsTransportStream bytes (transport_streams_in bytes)
 unfolding transport_streams_in
@@ -32,36 +32,36 @@ read bytes ts h =
     let whole : is_some (loop_at 6 bytes) ≡ true = entries_whole 6 bytes h.es (omega arith) h.entries in
     rw whole (ap Ok (values_read 6 transport_stream_of bytes ts (omega arith) h))
 
--- transport streams are read
+-- A sequence of transport streams is read back.
 pub transport_streams_only : (bytes : List ℕ) (ts : List TransportStreamView) → IsBytes bytes → IsSequence IsTransportStream bytes ts →
     transport_streams_at bytes ≡ Ok ts
 transport_streams_only bytes ts fits h = read bytes ts (entries_of 6 IsTransportStream transport_stream_of transport_stream_only bytes ts fits h)
 
--- transport streams that are written are read again
+-- Written transport streams are read back.
 pub transport_streams_again : (ts : List TransportStreamView) → All TransportStreamFits ts → transport_streams_at (transport_streams_bytes ts) ≡ Ok ts
 unfolding transport_streams_bytes
 transport_streams_again ts h =
     read (flat_map transport_stream_bytes ts) ts (written_entries 6 transport_stream_of transport_stream_bytes TransportStreamFits transport_stream_said ts h)
 
--- what is written is transport streams
+-- Written transport streams are a sequence of transport streams.
 pub transport_streams_written : (ts : List TransportStreamView) → All TransportStreamFits ts → IsSequence IsTransportStream (transport_streams_bytes ts) ts
 unfolding transport_streams_bytes
 transport_streams_written ts h = written_sequence IsTransportStream transport_stream_bytes TransportStreamFits transport_stream_written ts h
 
--- what is written of a whole loop is as long as it is
+-- Writing the transport streams of a whole loop yields as many bytes as the loop has.
 pub transport_streams_length : (bytes : List ℕ) → is_some (loop_at 6 bytes) ≡ true →
     length (transport_streams_bytes (transport_streams_in bytes)) ≡ length bytes
 unfolding transport_streams_in transport_streams_bytes
 transport_streams_length bytes whole =
     written_length 6 transport_stream_of transport_stream_bytes transport_stream_length bytes (entries_in 6 bytes) (whole_entries 6 bytes whole)
 
--- one written, the others to be written
+-- Writing one transport stream and then the remaining transport streams writes them all.
 pub transport_stream_step : (out : List ℕ) (x : TransportStreamView) (xs : List TransportStreamView) →
     (out ++ transport_stream_bytes x) ++ transport_streams_bytes xs ≡ out ++ transport_streams_bytes (x ∷ xs)
 unfolding transport_streams_bytes
 transport_stream_step out x xs = append_assoc out (transport_stream_bytes x) (transport_streams_bytes xs)
 
--- room for one where there is room for all
+-- If there is room for all transport streams, there is room for the first.
 pub transport_stream_room : (out : List ℕ) (x : TransportStreamView) (xs : List TransportStreamView) (n : ℕ) →
     length (out ++ transport_streams_bytes (x ∷ xs)) ≤ n → length out + (6 + length x.descriptors) ≤ n
 unfolding transport_streams_bytes transport_stream_bytes transport_stream_front
@@ -74,12 +74,12 @@ transport_stream_room out x xs n h =
       length-append (transport_stream_front x) x.descriptors,
     )
 
--- no bytes are no transport streams
+-- An empty loop has no transport streams.
 pub no_transport_streams : transport_streams_in [] ≡ []
 unfolding transport_streams_in
 no_transport_streams = ap (λ o. map transport_stream_of (unwrap_or o [])) (loop_at-end 6)
 
--- a loop with one more
+-- A loop with one more transport stream
 pub record OneMore (bytes : List ℕ) (x : TransportStreamView) : Type 0 where
   pub whole : is_some (loop_at 6 (bytes ++ transport_stream_bytes x)) ≡ true
   pub values : transport_streams_in (bytes ++ transport_stream_bytes x) ≡ transport_streams_in bytes ++ x ∷ []
@@ -104,7 +104,7 @@ size : (x : TransportStreamView) → length (transport_stream_bytes x) ≡ 6 + l
 unfolding transport_stream_bytes transport_stream_front
 size x = omega arith
 
--- how many bytes a loop takes with one more
+-- The length of a loop with one more transport stream
 pub more_length : (bytes : List ℕ) (x : TransportStreamView) → is_some (loop_at 6 bytes) ≡ true →
     length (transport_streams_bytes (transport_streams_in bytes ++ x ∷ [])) ≡ length bytes + (6 + length x.descriptors)
 more_length bytes x whole =
@@ -118,7 +118,7 @@ more_length bytes x whole =
       length-append (transport_streams_bytes (transport_streams_in bytes)) (transport_stream_bytes x),
     )
 
--- what was read of a loop stands there
+-- Transport streams that are read from a loop are the sequence in its bytes.
 pub transport_streams_is : (bytes : List ℕ) (xs : List TransportStreamView) → IsBytes bytes → transport_streams_at bytes ≡ Ok xs →
     IsSequence IsTransportStream bytes xs
 unfolding transport_streams_at

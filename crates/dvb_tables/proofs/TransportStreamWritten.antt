@@ -1,4 +1,4 @@
--- A transport stream as it is written.
+-- A transport stream as it is written
 use Rattle.std.proofs.Common.{◌≡◌, ℕ, ◌+◌, ◌/◌, ◌%◌, ◌^◌, ◌<◌, refl, [], ◌∷◌, length, arith}
 use Rattle.bit_fields.specs.Fields.{number, fields}
 use Rattle.psi_tables.specs.Loops.{entry_bytes, descriptors_length}
@@ -12,7 +12,7 @@ spelled : (id network n : ℕ) → id < 2 ^ 16 → network < 2 ^ 16 → n < 2 ^ 
     ≡ fields ((16, id) ∷ (16, network) ∷ (4, 15) ∷ (12, n) ∷ [])
 spelled id network n a b c = omega arith
 
--- what is written is a transport stream
+-- The bytes that are written for a transport stream are a transport stream.
 pub transport_stream_written : (t : TransportStreamView) → TransportStreamFits t → IsTransportStream (transport_stream_bytes t) t
 unfolding transport_stream_bytes transport_stream_front
 transport_stream_written t h = record {
@@ -27,7 +27,7 @@ transport_stream_written t h = record {
   transport_descriptors_length = h.descriptors;
 }
 
--- what is written is an entry that says the transport stream
+-- The bytes that are written for a transport stream are an entry that encodes it.
 pub transport_stream_said : (t : TransportStreamView) → TransportStreamFits t → Says 6 transport_stream_of (transport_stream_bytes t) t
 unfolding transport_stream_bytes transport_stream_front entry_bytes descriptors_length transport_stream_written
 transport_stream_said t h =

@@ -1,4 +1,4 @@
--- What follows the bytes that a descriptor counts.
+-- The bytes after the bytes that a descriptor counts
 use Rattle.std.proofs.Common.{◌≡◌, ℕ, zero, suc, ◌<◌, ◌≤◌, Bool, true, false, cond, nat_lt, Option, None, Some, refl, List, [], ◌∷◌, ◌++◌, length, drop, sym}
 use Rattle.std.proofs.Common.{ap, ◌∙◌, subst, arith}
 use Rattle.std.proofs.lemmas.List.{length-drop}
@@ -10,21 +10,21 @@ use Rattle.dvb_tables.specs.DescriptorLoops.{AreDescriptors, ends_whole, are_who
 use Rattle.dvb_tables.specs.Laws.{WholeDescriptors}
 use Rattle.std.proofs.lemmas.Bool.{ltb-false, ltb-true}
 
--- where the bytes are there, what counts is what follows them
+-- If the counted bytes are all there, the test depends only on the bytes after them.
 pub ends_after : (n : ℕ) (bytes : List ℕ) → n ≤ length bytes → ends_whole n bytes ≡ ends_whole 0 (drop n bytes)
 unfolding ends_whole
 ends_after zero bytes h = refl
 ends_after (suc n) [] h = absurd (omega arith)
 ends_after (suc n) (b ∷ bytes) h = ends_after n bytes (omega arith)
 
--- a descriptor that ends too soon
+-- A descriptor that ends too soon is not whole.
 pub ends_short : (n : ℕ) (bytes : List ℕ) → length bytes < n → ends_whole n bytes ≡ false
 unfolding ends_whole
 ends_short zero bytes h = absurd (omega arith)
 ends_short (suc n) [] h = refl
 ends_short (suc n) (b ∷ bytes) h = ends_short n bytes (omega arith)
 
--- the bytes that were counted, and the descriptors after them
+-- The counted bytes, and the descriptors after them
 record Ends (n : ℕ) (bytes : List ℕ) : Type 0 where
   body : List ℕ
   rest : List ℕ
@@ -33,7 +33,7 @@ record Ends (n : ℕ) (bytes : List ℕ) : Type 0 where
   len : length body ≡ n
   there : AreDescriptors rest ds
 
--- a refusing test that let a value pass
+-- A refusing test that let a value pass
 guard_some : {A : Type 0} (b : Bool) (r : Option A) (y : A) → cond b None r ≡ Some y → (b ≡ false) × (r ≡ Some y)
 guard_some true r y e = absurd cc
 guard_some false r y e = (refl, e)
@@ -41,7 +41,7 @@ guard_some false r y e = (refl, e)
 some_is : {A : Type 0} (x y : A) → ◌≡◌ {A = Option A} (Some x) (Some y) → x ≡ y
 some_is x y e = cc
 
--- a refusing test that refused
+-- A refusing test that refused
 guard_none : {A : Type 0} (b : Bool) (y : A) → cond b None (Some y) ≡ None → b ≡ true
 guard_none true y e = refl
 guard_none false y e = absurd cc
@@ -62,7 +62,7 @@ ends_there (suc n) (b ∷ bytes) h =
     let e = ends_there n bytes h in
     record { body = b ∷ e.body; rest = e.rest; ds = e.ds; is = ap (λ (t : List ℕ). b ∷ t) e.is; len = ap suc e.len; there = e.there }
 
--- descriptors one after another are accepted
+-- Descriptors one after another are accepted.
 whole_there : (bytes : List ℕ) (ds : List (ℕ × List ℕ)) → AreDescriptors bytes ds → ends_whole 0 bytes ≡ true
 unfolding ends_whole
 whole_there bytes [] h = rw h refl
@@ -87,7 +87,7 @@ front_is (tag ∷ n ∷ bytes) p e =
     let size : length (drop n bytes) ≡ length p.1 = ap (length {A = ℕ}) is in
     (omega (arith, length-drop n bytes), ends_after n bytes room ∙ ap (ends_whole 0) is)
 
--- what a descriptor at the front says of the bytes
+-- If a descriptor is at the front, the test depends only on the bytes after it, which are fewer.
 pub front_shorter : (bytes : List ℕ) (d : Descriptor) (rest : Bor (List ℕ)) → first_descriptor bytes ≡ Some (descriptor_view d, rest.now) →
     length rest.now < length bytes
 front_shorter bytes d rest e = (front_is bytes (descriptor_view d, rest.now) e).0
@@ -96,14 +96,14 @@ pub front_some : (bytes : List ℕ) (d : Descriptor) (rest : Bor (List ℕ)) →
     are_whole_descriptors bytes ≡ are_whole_descriptors rest.now
 front_some bytes d rest e = (front_is bytes (descriptor_view d, rest.now) e).1
 
--- bytes without a whole descriptor at the front
+-- Bytes without a whole descriptor at the front are refused.
 pub front_none : (bytes : List ℕ) → first_descriptor bytes ≡ None → 0 < length bytes → are_whole_descriptors bytes ≡ false
 unfolding first_descriptor are_whole_descriptors ends_whole
 front_none [] e some = absurd (omega arith)
 front_none (tag ∷ []) e some = refl
 front_none (tag ∷ n ∷ bytes) e some = ends_short n bytes (ltb-true (length bytes) n (guard_none (nat_lt (length bytes) n) _ e))
 
--- no bytes
+-- An empty list of bytes is accepted.
 pub front_nil : (bytes : List ℕ) → length bytes ≡ 0 → are_whole_descriptors bytes ≡ true
 unfolding are_whole_descriptors ends_whole
 front_nil [] e = refl
@@ -113,7 +113,7 @@ nothing : (body rest : List ℕ) → length body ≡ 0 → body ++ rest ≡ rest
 nothing [] rest e = refl
 nothing (x ∷ body) rest e = absurd (omega arith)
 
--- the test accepts exactly the descriptors one after another
+-- The test accepts exactly descriptors one after another.
 pub whole_descriptors : WholeDescriptors
 unfolding are_whole_descriptors
 whole_descriptors bytes = (

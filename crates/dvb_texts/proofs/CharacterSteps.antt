@@ -1,4 +1,4 @@
--- Characters, one after another.
+-- Characters, one after another
 use Rattle.std.proofs.Common.{◌≡◌, ◌≤◌, ◌<◌, ◌∙◌, ℕ, ◌+◌, Bool, true, false, if◌then◌else◌, List, [], ◌∷◌, ◌++◌, length, drop, slice_index_or, refl, sym, ap}
 use Rattle.std.proofs.Common.{add-one, append_assoc}
 use Rattle.std.proofs.Math.Seq.{drop-cons}
@@ -23,9 +23,9 @@ pub marked_end : (pairs : List ((ℕ × ℕ) × ℕ)) (mark letter i : ℕ) → 
 unfolding marked
 marked_end pairs mark letter i over = rw (drop_all i pairs over) refl
 
--- 2. One byte or two
+-- 2. One byte or two bytes
 
--- a character in front of those after it
+-- A character before the characters after it
 abbrev front : Bool → ℕ × List ℕ → List ℕ
 front wide next = next.0 ∷ in_doubles wide next.1
 

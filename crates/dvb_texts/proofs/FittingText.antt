@@ -1,4 +1,4 @@
--- Characters that have room, one after another.
+-- Characters for which there is room, one after another
 use Rattle.std.proofs.Common.{◌≡◌, ◌≤◌, ◌<◌, ℕ, ◌+◌, true, false, List, [], ◌∷◌, ◌++◌, length, drop, get_or, encode_utf8, refl, sym, add-one, append-nil, inl}
 use Rattle.std.proofs.Common.{inr, arith}
 use Rattle.std.proofs.Math.Seq.{drop-cons}
@@ -35,7 +35,7 @@ pub all_added : (max_bytes i : ℕ) (text cs : List ℕ) → length cs ≤ i →
 unfolding fitting
 all_added max_bytes i text cs over = rw (drop_all i cs over) refl
 
--- 2. What comes of it
+-- 2. The result of the loop
 
 fitting_within : (max_bytes : ℕ) (text cs : List ℕ) → fits max_bytes text ≡ true → fits max_bytes (fitting max_bytes text cs) ≡ true
 unfolding fitting
@@ -80,7 +80,7 @@ filled_shown max_bytes text (c ∷ cs) held none = elim (cases_Bool (fits max_by
 pub fitting_printable : (max_bytes : ℕ) (cs : List ℕ) → NoCharPasses is_control (fitting max_bytes [] (printable cs))
 fitting_printable max_bytes cs = filled_shown max_bytes [] (printable cs) (NoCharPasses-nil is_control) (none_pass cs)
 
--- 3. Bytes that are no UTF-8
+-- 3. Bytes that are not UTF-8
 
 pub no_utf8 : (bytes : List ℕ) → (IsUtf8 bytes → ⊥) → is_utf8 bytes ≡ false
 no_utf8 bytes none = elim (cases_Bool (is_utf8 bytes)) [

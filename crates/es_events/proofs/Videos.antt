@@ -63,7 +63,7 @@ pub same_limits : (a b a' b' : ℕ) → a ≡ a' → b ≡ b' →
     ◌≡◌ {A = VideoLimits} (record { multiplexing = a; elementary = b }) (record { multiplexing = a'; elementary = b' })
 same_limits a b a' b' p q = rw (p, q) refl
 
--- none are viewed yet
+-- If a stream has no video buffers, none are viewed.
 pub unviewed : (video : Option VideoBuffers) (rate : ℕ) (parts : List Part) → video ≡ None → HoldsVideo video None rate parts
 unviewed None rate parts is = tt
 unviewed (Some v) rate parts is = absurd cc

@@ -7,8 +7,8 @@ use Rattle.tstd_rows.specs.declared.late_causes.LateCause.TheVariants as causes
 use Rattle.tstd_rows.specs.declared.late_causes.VideoUnit.{VideoUnit}
 use Rattle.tstd_rows.specs.VideoViewed.{unit_cause}
 use Rattle.tstd_rows.specs.HeldVideo.{VideoEnteredView}
-use Rattle.events.specs.declared.video_event.LateCause.{LateCause as ToldCause}
-use Rattle.events.specs.declared.video_event.LateCause.TheVariants as told_causes
+use Rattle.events.specs.declared.video_event.LateCause.{LateCause as ReportedCause}
+use Rattle.events.specs.declared.video_event.LateCause.TheVariants as reported_causes
 use Rattle.events.specs.declared.event.Event.{Event}
 use Rattle.events.specs.declared.event.Event.TheVariants as found
 use Rattle.es_events.specs.declared.entry_events.Place.{Place}
@@ -36,9 +36,9 @@ elementary_excess_events options place excesses = map (elementary_excess_event o
 
 -- a unit whose last byte goes to the elementary stream buffer after it is due, reported at the packet where the next unit begins, with the cause: the
 -- multiplexing buffer alone or a full elementary stream buffer
-unfoldable pub cause_told : LateCause → ToldCause
-cause_told causes.Multiplex = told_causes.Multiplex
-cause_told causes.FullBuffer = told_causes.FullBuffer
+unfoldable pub reported_cause : LateCause → ReportedCause
+reported_cause causes.Multiplex = reported_causes.Multiplex
+reported_cause causes.FullBuffer = reported_causes.FullBuffer
 
 abbrev pub elementary_late_event : ViewOptions → Place → VideoUnit → LateCause → Event
 elementary_late_event options place u cause = found.ElementaryLate (record {
@@ -48,7 +48,7 @@ elementary_late_event options place u cause = found.ElementaryLate (record {
   left = moment_of options place.rx u.entered;
   by = span_of options place.rx (u.entered - u.seen.due.deadline);
   bytes = u.seen.bytes;
-  cause = cause_told cause;
+  cause = reported_cause cause;
 })
 
 unfoldable pub late_events_by : ViewOptions → Place → VideoUnit → Option LateCause → List Event

@@ -122,6 +122,7 @@ impl Clocks {
     }
 }
 
+// Returns what begins with a PES header, if it can be read.
 #[tactic(auto, unfolding(crate::specs::Clocks::by_header, crate::specs::Clocks::by_stamps))]
 fn by_header(read: Result<(PesHeader, usize), PesError>) -> Beginning
     ensures { result ≡ spec.by_header read }
@@ -178,8 +179,8 @@ pub fn due_tick(rate: u64, clock: &PcrSample, dts: u64) -> u128
     }
 }
 
-/// Returns when a unit is due with that DTS, by the last clock reference before it, where a byte takes `rate` to leave
-/// a buffer at its own rate, at a buffer that is drained at `rx` bits a second.
+/// Returns when a unit with this DTS is due at a buffer that is drained at `rx` bits a second, by the last clock
+/// reference before the unit; a byte takes `rate` to leave the buffer before it.
 pub fn due_at(rate: u64, rx: u32, clock: &PcrSample, dts: u64) -> DueTime
     requires { rate < 4294967296 }
     ensures { result ≡ spec.due_at rate rx clock.now dts }

@@ -85,7 +85,7 @@ pub(crate) fn excess_of(options: &ViewOptions, place: &Place, excess: &Excess) -
     }
 }
 
-// Appends an excess of the transport buffer. A call of its own: few packets end one.
+// Appends an excess of the transport buffer. It stays a call of its own: few packets end one.
 #[inline(never)]
 fn push_excess(
     events: &mut Vec<Event>,
@@ -117,7 +117,7 @@ fn push_excess_if(
     }
 }
 
-// Appends an excess of the main buffer. A call of its own: few packets end one.
+// Appends an excess of the main buffer. It stays a call of its own: few packets end one.
 #[inline(never)]
 fn push_main_excess(
     events: &mut Vec<Event>,
@@ -162,7 +162,7 @@ fn late_event(options: &ViewOptions, place: &Place, unit: &UnitSeen) -> Event
     })
 }
 
-// Appends a unit that was late. A call of its own: few units are.
+// Appends a unit that was late. It stays a call of its own: few units are late.
 #[inline(never)]
 fn push_late(
     events: &mut Vec<Event>,
@@ -210,7 +210,7 @@ fn ahead_event(place: &Place, ahead: u64) -> Event
     })
 }
 
-// Appends a unit that would stay longer than any may. A call of its own: few units would.
+// Appends a unit that would stay longer than a unit may. It stays a call of its own: few units would stay as long.
 #[inline(never)]
 #[tactic(auto, unfolding(crate::specs::EntryEvents::ahead_events))]
 fn push_ahead(events: &mut Vec<Event>, place: &Place, ahead: u64) -> Result<(), AllocError>
@@ -235,7 +235,7 @@ pub fn push_ahead_if(
     }
 }
 
-// Appends the excesses and the unit that have ended with a packet. A call of its own: few packets end any.
+// Appends the excesses and the unit that have ended with a packet. It stays a call of its own: few packets end one.
 #[inline(never)]
 fn push_all_ended(
     events: &mut Vec<Event>,
@@ -342,7 +342,7 @@ fn main_total(place: &Place, buffers: &StreamBuffers, tally: &Tally) -> Event
     main_event(place, &figures, tally)
 }
 
-// Returns the same of the transport buffer.
+// Returns the totals of the transport buffer.
 fn transport_total(place: &Place, buffers: &StreamBuffers, tally: &Tally) -> Event
     ensures { (h : Held) → IsHeld buffers.now h →
         result ≡ spec.transport_total place.now h tally.now }

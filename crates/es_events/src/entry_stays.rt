@@ -60,7 +60,7 @@ pub fn overstay_of(options: &ViewOptions, limit: u64, byte: u64, end: u128) -> O
     }
 }
 
-/// Returns the same of the first byte of a unit, if one begins.
+/// Returns how long the first byte of a unit stays, if a unit begins and the byte stays longer than `limit`.
 #[tactic(auto, unfolding(crate::specs::EntryStays::overstay_if))]
 pub fn overstay_if(options: &ViewOptions, limit: u64, byte: u64, due: Option<u128>) -> Option<Stay>
     ensures { result ≡ spec.overstay_if options.now limit byte due }
@@ -71,7 +71,7 @@ pub fn overstay_if(options: &ViewOptions, limit: u64, byte: u64, due: Option<u12
     }
 }
 
-// Appends that the bytes of a unit stay too long. A call of its own: bytes of few units do.
+// Appends that the bytes of a unit stay too long. It stays a call of its own: few units have such bytes.
 #[inline(never)]
 #[tactic(auto, unfolding(crate::specs::EntryStays::delayed_events))]
 fn push_delayed(
@@ -128,7 +128,7 @@ fn busy_event(options: &ViewOptions, place: &Place, buffer: BufferKind, stay: &S
     }))
 }
 
-// Appends that a buffer was not empty for more than a second. A call of its own: few packets end such a time.
+// Appends that a buffer was not empty for more than a second. It stays a call of its own: few packets end such a time.
 #[inline(never)]
 fn push_busy(
     events: &mut Vec<Event>,
@@ -181,7 +181,7 @@ pub fn push_busy_closing(
     Ok(())
 }
 
-/// Returns whether there was no such time.
+/// Returns whether there was no time of more than a second in which the buffer was not empty.
 pub fn is_idle(watch: &BusyWatch, under_way: &Option<Stay>) -> bool
     ensures { result ≡ spec.is_idle watch.now under_way.now }
 {

@@ -43,7 +43,7 @@ fn is_aligned(packet: &Packet<'_>) -> bool
     }
 }
 
-// Returns the time from one DTS to the next; 0 if that is the nearer one before it.
+// Returns the time from one DTS to the next; 0 if the next DTS is the earlier one.
 #[tactic(auto, unfolding(crate::specs::MarkTallies::time_since))]
 fn time_since(last: Option<u64>, dts: u64) -> u64
     ensures { result ≡ spec.time_since last dts }
@@ -91,7 +91,7 @@ impl MarkTally {
         }
     }
 
-    /// Counts the unit that begins with a packet, if one does.
+    /// Counts the unit that begins with a packet, if a unit begins.
     #[tactic(auto, unfolding(crate::specs::MarkTallies::with_beginning))]
     pub fn add_packet(&mut self, beginning: Beginning, packet: &Packet<'_>)
         ensures { self.new ≡ spec.with_beginning self.old beginning (packet_view packet.now) }

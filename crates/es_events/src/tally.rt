@@ -93,7 +93,7 @@ impl Tally {
         self.window_least = least_of_both(self.window_least, entered.main_least);
     }
 
-    /// Counts a unit that has ended in a window. A call of its own: few packets end one.
+    /// Counts a unit that has ended in a window. It stays a call of its own: few packets end one.
     #[inline(never)]
     pub fn add_unit(&mut self, window: u64, unit: &UnitSeen)
         ensures { self.new ≡ spec.with_unit self.old window unit.now }

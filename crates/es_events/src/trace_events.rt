@@ -109,6 +109,7 @@ fn point_of(
     }
 }
 
+// Appends a point, if there is one.
 fn push_point_if(events: &mut Vec<Event>, point: Option<Event>) -> Result<(), AllocError>
     ensures { OnOk result (events.new.items ≡ events.old.items ++ option_to_list point) }
 {
@@ -145,14 +146,15 @@ fn push_ring(
     peak: u128,
     ring: &Ring,
 ) -> Result<(), AllocError>
-    ensures { OnOk result (events.new.items ≡ events.old.items ++ spec.ring_points options.now place.now buffer peak ring.now) }
+    ensures { OnOk result (events.new.items
+        ≡ events.old.items ++ spec.ring_points options.now place.now buffer peak ring.now) }
 {
     let (older, newer) = ring.parts();
     push_rows(events, options, place, buffer, peak, older)?;
     push_rows(events, options, place, buffer, peak, newer)
 }
 
-// Appends what a buffer held near its greatest excess, if it had one, where a ring has the last rows of its stream.
+// Appends what a buffer held near its greatest excess, if it had one; the ring has the last rows of the stream.
 fn push_trace(
     events: &mut Vec<Event>,
     options: &ViewOptions,
@@ -219,8 +221,10 @@ fn push_traces_of_both(
     traces: &Traces,
 ) -> Result<(), AllocError>
     ensures { OnOk result (events.new.items ≡ events.old.items
-        ++ (spec.trace_points options.now (with_size place.now limits.now.multiplexing) Multiplexing traces.now.transport traces.now.ring
-        ++ spec.trace_points options.now (with_size place.now limits.now.elementary) Elementary traces.now.main traces.now.ring)) }
+        ++ (spec.trace_points options.now (with_size place.now limits.now.multiplexing) Multiplexing
+        traces.now.transport traces.now.ring
+        ++ spec.trace_points options.now (with_size place.now limits.now.elementary) Elementary
+        traces.now.main traces.now.ring)) }
 {
     let ring = &traces.ring;
     let first = with_size(place, limits.multiplexing);

@@ -20,7 +20,7 @@ pub(crate) fn with_size(place: &Place, size: u64) -> Place
     Place { size, ..*place }
 }
 
-// Appends an excess of the multiplexing buffer. A call of its own: few packets end one.
+// Appends an excess of the multiplexing buffer. It stays a call of its own: few packets end one.
 #[inline(never)]
 fn push_multiplexing_excess(
     events: &mut Vec<Event>,
@@ -51,7 +51,7 @@ fn push_multiplexing_excess_if(
     }
 }
 
-// Appends an excess of the elementary stream buffer. A call of its own: few packets end one.
+// Appends an excess of the elementary stream buffer. It stays a call of its own: few packets end one.
 #[inline(never)]
 fn push_elementary_excess(
     events: &mut Vec<Event>,
@@ -82,9 +82,9 @@ fn push_elementary_excess_if(
     }
 }
 
-#[tactic(auto, unfolding(crate::specs::VideoEvents::cause_told))]
-fn cause_told(cause: LateCause) -> events::LateCause
-    ensures { result ≡ spec.cause_told cause }
+#[tactic(auto, unfolding(crate::specs::VideoEvents::reported_cause))]
+fn reported_cause(cause: LateCause) -> events::LateCause
+    ensures { result ≡ spec.reported_cause cause }
 {
     match cause {
         LateCause::Multiplex => events::LateCause::Multiplex,
@@ -107,11 +107,11 @@ fn elementary_late_event(
         left: moment_of(options, place.rx, unit.entered),
         by: span_of(options, place.rx, unit.lateness()),
         bytes: unit.seen.bytes,
-        cause: cause_told(cause),
+        cause: reported_cause(cause),
     })
 }
 
-// Appends a unit that was late in the elementary stream buffer. A call of its own: few units are.
+// Appends a unit that was late in the elementary stream buffer. It stays a call of its own: few units are late.
 #[inline(never)]
 fn push_elementary_late(
     events: &mut Vec<Event>,
@@ -135,7 +135,8 @@ fn push_elementary_late_if(
     place: &Place,
     unit: &Option<VideoUnit>,
 ) -> Result<(), AllocError>
-    ensures { OnOk result (events.new.items ≡ events.old.items ++ spec.elementary_late_events options.now place.now unit.now) }
+    ensures { OnOk result (events.new.items
+        ≡ events.old.items ++ spec.elementary_late_events options.now place.now unit.now) }
 {
     match unit {
         Some(unit) => match unit.cause() {
@@ -146,7 +147,7 @@ fn push_elementary_late_if(
     }
 }
 
-// Appends the excesses and the unit that have ended with a packet. A call of its own: few packets end any.
+// Appends the excesses and the unit that have ended with a packet. It stays a call of its own: few packets end one.
 #[inline(never)]
 fn push_ended_of_both(
     events: &mut Vec<Event>,
@@ -156,7 +157,8 @@ fn push_ended_of_both(
     entered: &VideoEntered,
 ) -> Result<(), AllocError>
     ensures { OnOk result (events.new.items
-        ≡ events.old.items ++ spec.ended_of_both options.now place.now limits.now (video_view entered.now) entered.now.unit) }
+        ≡ events.old.items ++ spec.ended_of_both options.now place.now limits.now
+        (video_view entered.now) entered.now.unit) }
 {
     let multiplexing = with_size(place, limits.multiplexing);
     let elementary = with_size(place, limits.elementary);
@@ -166,7 +168,7 @@ fn push_ended_of_both(
     push_elementary_late_if(events, options, place, &entered.unit)
 }
 
-/// Appends what has ended with a packet, if they are viewed.
+/// Appends what has ended with a packet in the buffers of video, if they are viewed.
 #[tactic(auto, unfolding(crate::specs::VideoEvents::video_ended_events))]
 pub fn push_video_ended(
     events: &mut Vec<Event>,
@@ -176,7 +178,8 @@ pub fn push_video_ended(
     entered: &VideoEntered,
 ) -> Result<(), AllocError>
     ensures { OnOk result (events.new.items
-        ≡ events.old.items ++ spec.video_ended_events options.now place.now limits.now (video_view entered.now) entered.now.unit) }
+        ≡ events.old.items ++ spec.video_ended_events options.now place.now limits.now
+        (video_view entered.now) entered.now.unit) }
 {
     match limits {
         None => Ok(()),
@@ -216,7 +219,8 @@ fn push_video_under_way(
     place: &Place,
     figures: &VideoFigures,
 ) -> Result<(), AllocError>
-    ensures { OnOk result (events.new.items ≡ events.old.items ++ spec.video_under_way options.now place.now figures.now) }
+    ensures { OnOk result (events.new.items
+        ≡ events.old.items ++ spec.video_under_way options.now place.now figures.now) }
 {
     let multiplexing = with_size(place, figures.limits.multiplexing);
     let elementary = with_size(place, figures.limits.elementary);
@@ -243,7 +247,7 @@ fn push_closing_of_both(
     Ok(())
 }
 
-/// Appends the totals of both buffers at the end, if they are viewed; `units` of the stream have come.
+/// Appends the totals of both buffers at the end, if they are viewed; the stream has `units` units.
 #[tactic(auto, unfolding(crate::specs::VideoEvents::video_closing_events))]
 pub fn push_video_closing(
     events: &mut Vec<Event>,

@@ -41,7 +41,7 @@ pub fn view_video_if(buffers: &mut StreamBuffers, alloc: Global, rates: &Option<
     }
 }
 
-/// Returns the sizes of both, if they are viewed.
+/// Returns the sizes of both buffers, if they are viewed.
 pub fn video_limits(buffers: &StreamBuffers) -> Option<VideoLimits>
     ensures { (h : Held) (sizes : Option VideoSizes) → HoldsVideoOf buffers.now sizes h →
         result ≡ spec.limits_of sizes }
@@ -55,7 +55,7 @@ pub fn video_limits(buffers: &StreamBuffers) -> Option<VideoLimits>
     }
 }
 
-/// Returns what they hold, if they are viewed.
+/// Returns what both buffers hold, if they are viewed.
 pub fn video_figures(buffers: &StreamBuffers) -> Option<VideoFigures>
     ensures { (h : Held) (sizes : Option VideoSizes) → HoldsVideoOf buffers.now sizes h →
         result ≡ spec.figures_of sizes h }
@@ -76,7 +76,7 @@ pub fn video_figures(buffers: &StreamBuffers) -> Option<VideoFigures>
     }
 }
 
-/// Returns the counts, with the current unit as the last one.
+/// Returns the counts, with the current unit as the last unit.
 pub(crate) fn closed_video(figures: &VideoFigures, tally: &VideoTally) -> VideoTally
     ensures { result ≡ spec.closed_video figures.now tally.now }
 {
@@ -85,7 +85,7 @@ pub(crate) fn closed_video(figures: &VideoFigures, tally: &VideoTally) -> VideoT
     closed
 }
 
-/// Returns whether neither held more than its size, and no unit was late in the elementary stream buffer.
+/// Returns whether neither buffer held more than its size, and no unit was late in the elementary stream buffer.
 #[tactic(auto, unfolding(crate::specs::VideoFigures::is_video_good))]
 pub fn is_video_good(figures: &Option<VideoFigures>, tally: &VideoTally) -> bool
     ensures { result ≡ spec.is_video_good figures.now tally.now }

@@ -1,4 +1,4 @@
--- Streams that are alike for a feed: they feed the same.
+-- A feed gives the same records for states that are alike.
 use Rattle.std.proofs.Common.{◌≡◌, ◌∙◌, ℕ, ◌++◌, OnOk, Option, Result, Ok, Err, List, [], ◌∷◌, refl, sym, ap, ap₂, subst}
 use Rattle.demux.specs.FoundSoFar.{taken_all}
 use Rattle.demux.specs.KeptBodies.{all_but, bodies_left_out_but}
@@ -13,18 +13,18 @@ use Rattle.fed_streams.specs.Ticks.{after_packet, after_packets, fed_packet, fed
 use Rattle.es_feed.proofs.OtherPids.{found_after, found_fed, packet_after, packet_feeds, packet_pids}
 use Rattle.given_marks.specs.Marking.{all_marked}
 
--- the PIDs of the streams decide it
+-- Whether states are alike for a feed depends on the PIDs of its streams alone.
 pub alike_as : (first feed : FeedView) (s t : StreamState) → stream_pids feed ≡ stream_pids first → AreAlike first s t → AreAlike feed s t
 alike_as first feed s t are same = subst (λ (kept : List ℕ). bodies_left_out_but kept s ≡ bodies_left_out_but kept t) (sym are) same
 
--- bodies are left out
+-- A state without the bodies of other PIDs is alike.
 pub left_alike : (feed : FeedView) (old new : StreamState) (pids : List ℕ) → pids ≡ stream_pids feed →
     new ≡ bodies_left_out_but pids old → AreAlike feed new old
 left_alike feed old new pids are left =
     let kept = stream_pids feed in
     ap (λ (s : StreamState). bodies_left_out_but kept s) (left ∙ ap (λ (ks : List ℕ). bodies_left_out_but ks old) are) ∙ left_again kept old
 
--- and after a packet
+-- States that are alike for the feed after a packet are alike for the feed before it.
 pub then_alike : {V E : Type 0} (result : Result V E) (feed next : FeedView) (s mid new : StreamState) (found : List FindingView) (pcr : Option FoundPcr) →
     mid ≡ s → next ≡ after_packet feed found pcr → OnOk result (AreAlike next new mid) → OnOk result (AreAlike feed new s)
 then_alike (Ok v) feed next s mid new found pcr is goes left =
@@ -38,7 +38,7 @@ packets_pids s feed [] = refl
 packets_pids s feed (p ∷ ps) =
     packets_pids (taken s p) (after_packet feed (found_in s p) (pcr_at s.packets p)) ps ∙ packet_pids feed (found_in s p) (pcr_at s.packets p)
 
--- a packet, and packets
+-- States that are alike stay alike after a packet, and after several.
 pub taken_alike : (feed : FeedView) (s t : StreamState) (p : List ℕ) → AreAlike feed s t → AreAlike feed (taken s p) (taken t p)
 taken_alike feed s t p same =
     let kept = stream_pids feed in
@@ -70,7 +70,7 @@ one_feeds feed s t p same =
     packet_feeds feed (stream_pids feed) (found_in s p) (found_in t p) (pcr_at s.packets p) refl (found_alike feed s t p same)
     ∙ ap (λ (n : ℕ). fed_packet feed (found_in t p) (pcr_at n p)) (count_alike feed s t same)
 
--- the feed after one of them has the same streams
+-- After a packet of a state that is alike, the feed has the same streams.
 next_alike : (feed : FeedView) (s t u : StreamState) (p : List ℕ) → AreAlike feed s t →
     AreAlike (after_packet feed (found_in u p) (pcr_at u.packets p)) (taken s p) (taken t p)
 next_alike feed s t u p same =
@@ -93,7 +93,7 @@ fed_alike feed s t (p ∷ ps) same =
     (fed_alike next (taken s p) (taken t p) ps (next_alike feed s t s p same))
     ∙ ap₂ (λ (xs : List Fed) (x : FeedView). xs ++ fed_packets (taken t p) x ps) (one_feeds feed s t p same) (one_after feed s t p same)
 
--- the end
+-- The end of states that are alike gives the same records.
 pub rest_alike : (feed : FeedView) (s t : StreamState) (rest : List ℕ) → AreAlike feed s t → fed_rest s feed rest ≡ fed_rest t feed rest
 rest_alike feed s t rest same =
     let kept = stream_pids feed in

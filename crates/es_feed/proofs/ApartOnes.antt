@@ -1,4 +1,4 @@
--- Whether the next unit that comes of a stream is due when one that is given is.
+-- Whether the next unit of a stream is due at the same moment as a unit that is given.
 use Rattle.std.proofs.Common.{◌≡◌, ◌∙◌, ◌<◌, ℕ, suc, ◌++◌, ◌==◌, ◌||◌, Bool, true, false, Option, Some, None, List, [], ◌∷◌, length, refl, sym, ap, arith}
 use Rattle.std.specs.Option.{option_to_list}
 use Rattle.std.proofs.lemmas.Bool.Decides.{nat_tests}
@@ -14,7 +14,7 @@ use Rattle.es_feed.proofs.OwnUnits.{AreAlone, follows, more_as, next_uncut, so_f
 use Rattle.fed_streams.proofs.UncutUnits.{past_cut, past_here, under_cut}
 use Rattle.es_moments.specs.WireUnits.{CarriedUnit}
 
--- 1. The unit under way is the first that comes, where it has bytes and is not cut
+-- 1. The current unit is the next unit, if it has bytes and is not cut
 
 same_head : (w : CarriedUnit) (x : Option CarriedUnit) (us : List CarriedUnit) → is_same_next w (option_to_list x) ≡ true →
     is_same_next w (option_to_list x ++ us) ≡ true
@@ -104,7 +104,7 @@ pub same_alone : (s : FedStreamView) (f : FindingView) (fs : List FindingView) �
 same_alone s f fs alone u made same =
     same_comes s f fs (alone_uncut s.units.pid (unit_after s f) fs alone.under_way) u made same
 
--- 3. Where no two are due at one moment
+-- 3. No two units are due at the same moment
 
 neither : (a b : Bool) → (a || b) ≡ false → (a ≡ false) × (b ≡ false)
 neither true b none = absurd cc
@@ -119,7 +119,7 @@ unfolding has_same
 none_later None later none = none
 none_later (Some u) later none = (neither (is_same_next u later) (has_same later) none).1
 
--- no two units in a row are due at one moment
+-- No two consecutive units are due at the same moment.
 pub record NoneSame (s : FedStreamView) (f : FindingView) (fs : List FindingView) : Type 0 where
   pub whole : whole_by s f ≡ made_by s f
   pub later : has_same (to_come (after_finding s.units f) fs) ≡ false

@@ -1,4 +1,4 @@
--- What is fed of each stream of bytes, by one constant.
+-- One constant moves the units of each stream of a description.
 use Rattle.std.proofs.Common.{◌≡◌, ◌∙◌, ◌<◌, ◌≤◌, ℕ, zero, suc, ◌+◌, ◌-◌, ◌*◌, ◌/◌, ◌++◌, ◌^◌, true, Option, Some, None, List, [], ◌∷◌, All, map, length, take}
 use Rattle.std.proofs.Common.{drop, slice_get, refl, sym, ap, subst, arith, drop-drop, length-drop, length-take-le, mul-le-mul_right, take-append-drop}
 use Rattle.std.specs.List.{concat}

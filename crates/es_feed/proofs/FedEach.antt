@@ -1,4 +1,4 @@
--- What is fed of each stream, step by step, where nothing is told.
+-- The units of each stream, step by step, if no fault is reported.
 use Rattle.std.proofs.Common.{◌≡◌, ◌≢◌, ◌∙◌, ◌⊎◌, ◌<◌, ℕ, ◌++◌, eqb, Bool, true, false, Option, Some, None, List, [], ◌∷◌, slice_get, refl}
 use Rattle.std.proofs.Common.{sym, ap, ap₂, subst, inl, inr, arith}
 use Rattle.std.specs.Option.{option_to_list}
@@ -39,7 +39,7 @@ unfoldable pub fed_event : FeedView → Event → List Fed
 fed_event feed (Finds f) = fed_one feed f
 fed_event feed (Shows pcr) = fed_own feed pcr
 
--- what they feed, and then their end
+-- The records of events, and then of the end
 unfoldable pub fed_events : FeedView → List Event → List Fed
 fed_events feed [] = fed_ends feed
 fed_events feed (e ∷ es) = fed_event feed e ++ fed_events (after_event feed e) es
@@ -52,14 +52,14 @@ unfoldable pub finds : List Event → List FindingView
 finds [] = []
 finds (e ∷ es) = found_by e ++ finds es
 
--- 2. What a step is to a stream
+-- 2. The effect of a step on a stream
 
--- a stream of which it gives nothing
+-- A step that gives nothing of this stream
 unfoldable pub Skips : Event → FedStreamView → Type 0
 Skips e r = (es : List Event) → AreAlone r.units (finds (e ∷ es)) →
     (to_come r.units (finds (e ∷ es)) ≡ to_come r.units (finds es)) × AreAlone r.units (finds es)
 
--- a stream that is t after it, and of which it gives w: the unit that it makes whole, with a DTS of its own
+-- The stream is t after the step, which gives w: the unit that the step makes whole, with a DTS of its own.
 pub record TakesOne (s t : FedStreamView) (w : Option CarriedUnit) (fs more : List FindingView) : Type 0 where
   pub whole : Option CarriedUnit
   pub same : Bool
@@ -188,9 +188,9 @@ unfolding fed_event
 step ks feed (Finds f) are is none = finding_step ks feed f (place_from f.pid 0 feed.streams) are is refl none
 step ks feed (Shows pcr) are is none = clock_step feed pcr (clock_out feed pcr none)
 
--- 3. A stream after a step, where the constant is fixed by then
+-- 3. A stream after a step, if the constant is fixed before it
 
--- the units that are still to come of it, each with a DTS of its own
+-- The units of the stream that remain, each with a DTS of its own
 abbrev pub coming : FedStreamView → List FindingView → List CarriedUnit
 coming s fs = apart_from s.place (to_come s.units fs)
 
@@ -272,18 +272,19 @@ gives_own base ks feed e es g are is here none alone =
     let w = g.gives in
     let number : g.stream.number ≡ g.place =
     are.number g.place (key g.stream) (ap (λ (l : List Key). slice_get l g.place) (sym is) ∙ key_at feed.streams g.place g.stream w.at) in
-    let told : have_fault (option_to_list (fed_with w.due feed.origin g.stream.number g.stream.before g.whole)) ≡ false = ap have_fault (sym w.fed_is) ∙ none in
+    let reported : have_fault (option_to_list (fed_with w.due feed.origin g.stream.number g.stream.before g.whole)) ≡ false =
+    ap have_fault (sym w.fed_is) ∙ none in
     let after = stream_with w.due feed.origin g.after g.whole in
     let before = ap (λ (b : Option ℕ). before_with w.due feed.origin b g.whole) w.before
-    ∙ given_before w.due feed.origin g.stream.number base g.stream.before g.whole here told in
+    ∙ given_before w.due feed.origin g.stream.number base g.stream.before g.whole here reported in
     record {
       after = after;
       at = ap (λ (ss : List FedStreamView). slice_get ss g.place) w.streams ∙ get_set_same feed.streams g.place g.stream after w.at;
       given = g.whole;
       units = ap (λ (n : ℕ). units_fed n (fed_event feed e)) (sym number) ∙ ap (λ (xs : List Fed). units_fed g.stream.number xs) w.fed_is
-          ∙ given_units w.due feed.origin g.stream.number base g.stream.before g.whole here told;
+          ∙ given_units w.due feed.origin g.stream.number base g.stream.before g.whole here reported;
       before = before;
-      soon = given_soon w.due feed.origin g.stream.number base g.stream.before g.whole here told;
+      soon = given_soon w.due feed.origin g.stream.number base g.stream.before g.whole here reported;
       come = takes_come base g.stream g.after g.whole (finds (e ∷ es)) (finds es) after.before takes before;
       alone = takes.alone;
     }
@@ -300,7 +301,7 @@ gives_by base k ks feed e es s g are is here none at alone (inl same) =
     (subst (λ (i : ℕ). Advances base i g.stream e es (after_event feed e) (fed_event feed e)) (sym same.1)
     (gives_own base ks feed e es g are is here none (subst (λ (t : FedStreamView). AreAlone t.units (finds (e ∷ es))) (sym stream) alone)))
 
--- the keys stay
+-- The keys stay the same.
 pub step_keys : (ks : List Key) (feed : FeedView) (e : Event) → Step feed e → keys feed.streams ≡ ks → keys (after_event feed e).streams ≡ ks
 unfolding Step
 step_keys ks feed e (inl r) is = ap keys r.rests.streams ∙ is

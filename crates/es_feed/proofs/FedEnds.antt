@@ -1,4 +1,4 @@
--- What is fed of each stream at the end, where nothing is told.
+-- The records of each stream at the end, if no fault is reported.
 use Rattle.std.proofs.Common.{◌≡◌, ◌≢◌, ◌∙◌, ◌<◌, ℕ, zero, suc, ◌+◌, ◌++◌, false, Some, List, [], ◌∷◌, map, slice_get, refl, sym, ap, subst, arith}
 use Rattle.std.specs.Option.{option_to_list}
 use Rattle.std.proofs.lemmas.Grind.{flat_map-append}
@@ -16,7 +16,7 @@ use Rattle.es_feed.proofs.OneStream.{fixed}
 use Rattle.es_feed.proofs.FedSteps.{fault_split, fixes_fixed, given_others, given_units, units_in}
 use Rattle.es_moments.specs.WireUnits.{CarriedUnit}
 
--- the last unit of each stream, in the order of the streams
+-- The last unit of each stream, in the order of the streams
 
 abbrev pub units_of_all : List CarriedUnit → List AccessUnit
 units_of_all ws = map (λ (w : CarriedUnit). w.unit) ws
@@ -98,7 +98,7 @@ last_moved d base k (suc i) (t ∷ ts) s from at none =
     last_later d base k i t ts (moved base s.before (units_in (ended_unit false s.units.unit))) from none
     (λ clear. last_moved d base (k + 1) i ts s (from_next k t ts from) at clear)
 
--- it can be a moment after the units before it
+-- The last unit can be due at a moment after the units before it.
 pub last_soon : (d : Due) (base i : ℕ) (ss : List FedStreamView) (s : FedStreamView) → slice_get ss i ≡ Some s →
     have_fault (fed_last d (fixed base) ss) ≡ false →
     Soon base s.before (option_to_list (ended_unit false s.units.unit))

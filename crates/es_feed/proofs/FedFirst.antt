@@ -1,4 +1,4 @@
--- What is fed of each stream, where the first unit of all fixes the constant.
+-- The units of each stream, if the first unit of all fixes the constant.
 use Rattle.std.proofs.Common.{◌≡◌, ◌≢◌, ◌∙◌, ◌⊎◌, ◌<◌, ◌≤◌, ℕ, zero, suc, ◌+◌, ◌++◌, ◌^◌, eqb, true, false, Option, Some, None, Result, List, [], ◌∷◌, length}
 use Rattle.std.proofs.Common.{slice_get, slice_set, refl, sym, ap, ap₂, subst, inl, inr, arith}
 use Rattle.std.specs.Option.{option_to_list}
@@ -24,7 +24,7 @@ use Rattle.fed_streams.proofs.ListedStreams.{AreKeys, Key, get_set_other, get_se
 use Rattle.es_feed.proofs.OwnUnits.{AreAlone}
 use Rattle.es_moments.specs.WireUnits.{CarriedUnit}
 
--- 1. Once it is fixed
+-- 1. After the constant is fixed
 
 from_keys : (ks : List Key) (ss : List FedStreamView) → AreKeys ks → keys ss ≡ ks → AreFrom 0 ss
 unfolding AreFrom
@@ -84,7 +84,7 @@ begins_with d o n count before u more base unfed early few none =
     subst (λ (r : Result AccessUnit _). BeginsAt d.earliest count ((n, r) ∷ more)) (sym ok)
     (few, ap (λ (b : Option ℕ). dts_at (distance d.earliest u.unit.dts) b u.unit.dts) unfed ∙ at_earliest d.earliest u.unit.dts early)
 
--- the last units of streams, where none was before
+-- The last units of streams, if there was no unit before
 record LastFirst (d : Due) (count : ℕ) (ss : List FedStreamView) : Type 0 where
   base : ℕ
   range : base < 2 ^ 33
@@ -165,7 +165,7 @@ pub record MovedByFirst (earliest count : ℕ) (feed : FeedView) (es : List Even
   pub are_moved : (k : ℕ) (s : FedStreamView) → slice_get feed.streams k ≡ Some s → AreAlone s.units (finds es) →
       IsMoved base k feed es s
 
--- streams before the first unit of all
+-- Streams before the first unit of all
 pub record AreWaiting (earliest : ℕ) (ks : List Key) (feed : FeedView) : Type 0 where
   pub are : AreKeys ks
   pub is : keys feed.streams ≡ ks
@@ -211,7 +211,7 @@ ends_first earliest ks feed w none =
           };
     }
 
--- a step that feeds nothing
+-- A step that gives no record
 rests_first : (earliest : ℕ) (ks : List Key) (feed : FeedView) (e : Event) (es : List Event) (r : StepRests feed e) → AreWaiting earliest ks feed →
     have_fault (fed_events feed (e ∷ es)) ≡ false →
     (AreWaiting earliest ks (after_event feed e) → have_fault (fed_events (after_event feed e) es) ≡ false →
@@ -255,7 +255,7 @@ unfed_by ss ts j i s after t are at new unfed there (inl same) =
 unfed_by ss ts j i s after t are at new unfed there (inr apart) =
     unfed i t (sym (get_set_other ss j i after apart.1) ∙ ap (λ (l : List FedStreamView). slice_get l i) (sym are) ∙ there)
 
--- a step that gives no unit, of a stream
+-- A step of a stream that gives no unit
 gives_none : (earliest : ℕ) (ks : List Key) (feed : FeedView) (e : Event) (es : List Event) (g : StepGives feed e) → g.whole ≡ None →
     AreWaiting earliest ks feed → have_fault (fed_events feed (e ∷ es)) ≡ false →
     (AreWaiting earliest ks (after_event feed e) → have_fault (fed_events (after_event feed e) es) ≡ false →
@@ -292,7 +292,7 @@ gives_none earliest ks feed e es g whole w none later =
           (rest.are_moved k a.after a.at a.alone);
     }
 
--- the step that gives the first unit of all
+-- The step that gives the first unit of all
 gives_first : (earliest : ℕ) (ks : List Key) (feed : FeedView) (e : Event) (es : List Event) (g : StepGives feed e) (u : CarriedUnit) → g.whole ≡ Some u →
     AreWaiting earliest ks feed →
     have_fault (fed_events feed (e ∷ es)) ≡ false → MovedByFirst earliest (length ks) feed (e ∷ es)

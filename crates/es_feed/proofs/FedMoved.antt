@@ -1,4 +1,4 @@
--- The units of a stream that are fed, step by step: those that are still to come of it, moved by the constant.
+-- Step by step, the units of a stream are its remaining units, moved by the constant.
 use Rattle.std.proofs.Common.{◌≡◌, ◌∙◌, ℕ, ◌++◌, false, Option, Some, None, List, [], ◌∷◌, sym, ap, ap₂, subst}
 use Rattle.std.specs.Option.{option_to_list}
 use Rattle.std.proofs.lemmas.Grind.{flat_map-append}
@@ -31,7 +31,7 @@ units_more base k before after given all later fed more here then is rest =
     ∙ ap (λ (us : List AccessUnit). moved base before us) (sym (map-append (λ (w : CarriedUnit). w.unit) (option_to_list given) later))
     ∙ ap (λ (ws : List CarriedUnit). moved base before (units_of_all ws)) (sym is)
 
--- the units of a stream are those that are still to come of it, and the first of them can be a moment
+-- The units of the stream are its remaining units, moved by the constant, and the first of them can be due at a moment.
 pub record IsMoved (base k : ℕ) (feed : FeedView) (es : List Event) (s : FedStreamView) : Type 0 where
   pub units : units_fed k (fed_events feed es) ≡ moved base s.before (units_of_all (coming s (finds es)))
   pub soon : Soon base s.before (coming s (finds es))

@@ -1,4 +1,4 @@
--- What is fed of packets.
+-- The records of packets.
 use Rattle.std.proofs.Common.{◌≡◌, ◌∙◌, ◌<◌, ◌≤◌, ℕ, ◌+◌, ◌*◌, ◌++◌, ◌/◌, false, Option, Some, None, List, [], ◌∷◌, All, length, take, drop, slice_get, refl}
 use Rattle.std.proofs.Common.{sym, ap, ap₂, arith, take-add, length-append, drop_at}
 use Rattle.std.specs.List.{concat}
@@ -28,7 +28,7 @@ use Rattle.fed_streams.specs.Ticks.{fed_packets, fed_pcr, is_tick, late_in, pass
 use Rattle.fed_streams.proofs.FedUnits.{in_turn}
 use Rattle.given_marks.specs.Marking.{MarkingView, all_marked, marked}
 
--- 1. Packets after others
+-- 1. Packets after earlier packets
 
 pub taken_more : (s : StreamState) (ps qs : List (List ℕ)) → taken_all s (ps ++ qs) ≡ taken_all (taken_all s ps) qs
 unfolding taken_all
@@ -62,9 +62,9 @@ packets_length (p ∷ ps) a =
     let rest = packets_length ps (All-tail is_packet p ps a) in
     omega (arith, length-append p (concat ps), here, rest)
 
--- 2. A list of packets that is gone through
+-- 2. A walk over a list of packets
 
--- of these bytes the packets before a place were taken
+-- The packets of these bytes before this place have been taken.
 pub record TakenSoFar (old new : PacketFeedView) (bytes : List ℕ) (at : ℕ) (before after : List Fed) : Type 0 where
   pub packets : List (List ℕ)
   pub sizes : All is_packet packets
@@ -137,7 +137,7 @@ all_taken old new bytes at before after so few = record {
   fed_is = so.fed_is;
 }
 
--- 3. Packets and some bytes, cut
+-- 3. Packets and some more bytes, cut
 
 pub cut_all : (ps : List (List ℕ)) (rest : List ℕ) → All is_packet ps → cut_packets (concat ps ++ rest) ≡ ps ++ cut_packets rest
 cut_all [] rest a = refl
@@ -155,7 +155,7 @@ cut_these ps rest a few = cut_all ps rest a ∙ ap (λ (qs : List (List ℕ)). p
 pub left_these : (ps : List (List ℕ)) (rest : List ℕ) → All is_packet ps → drop (188 * length ps) (concat ps ++ rest) ≡ rest
 left_these ps rest a = drop_at (concat ps) rest (188 * length ps) (packets_length ps a)
 
--- what the end of packets decides, and then the last units
+-- The records of the findings at the end of the packets, and then of the last units
 pub rest_fed : (demux : StreamState) (feed next : FeedView) (rest : List ℕ) (shown : List FindingView) (before middle after : List Fed) →
     shown ≡ all_marked feed.marking (finished (pushed demux rest)).found → next ≡ after_all feed shown → middle ≡ before ++ fed_all feed shown →
     after ≡ middle ++ fed_ends next → after ≡ before ++ fed_rest demux feed rest
@@ -207,7 +207,7 @@ unfolding fed_pcr
 not_fed feed None none = refl
 not_fed feed (Some pcr) none = rw (no_clock feed.maps pcr.pid none) refl
 
--- 5. The marks that are asked for stay
+-- 5. The requested marks stay the same
 
 if_marking : (b : Bool) (x y : FeedView) → x.marking ≡ y.marking → (if b then x else y).marking ≡ y.marking
 if_marking true x y same = same
@@ -276,7 +276,7 @@ packets_marking s feed (p ∷ ps) =
 pub marked_both : (m : MarkingView) (fs more : List FindingView) → all_marked m (fs ++ more) ≡ all_marked m fs ++ all_marked m more
 marked_both m fs more = map-append (marked m) fs more
 
--- 6. What is fed without a clock
+-- 6. The records without a clock
 
 pub without_clock : FedWithoutClock
 unfolding after_packets fed_packets found_in_all after_all fed_all

@@ -1,4 +1,4 @@
--- The DTS of each stream rise, whatever is told.
+-- The DTS of each stream rise, whatever faults are reported.
 use Rattle.std.proofs.Common.{◌≡◌, ◌≢◌, ◌∙◌, ◌⊎◌, ◌<◌, ℕ, zero, suc, ◌+◌, ◌++◌, ◌==◌, eqb, ◌^◌, ◌||◌, Bool, true, false, if◌then◌else◌, IfSome, Option, Some}
 use Rattle.std.proofs.Common.{None, Err, List, [], ◌∷◌, slice_get, slice_set, refl, sym, ap, ap₂, subst, inl, inr, arith}
 use Rattle.std.specs.Option.{option_to_list}
@@ -19,7 +19,8 @@ use Rattle.es_feed.specs.EachStream.{RiseFrom, fed_if, units_fed}
 use Rattle.fed_streams.specs.Feeding.{Fed, FedStreamView, FeedView, after_at, after_found, after_one, after_place, ahead_of, at_moment, base_of, before_with}
 use Rattle.fed_streams.specs.Feeding.{due_of, fed_at, fed_by, fed_ends, fed_last, fed_one, fed_place, fed_with, greatest_of, last_dts, after_unit, fed_unit}
 use Rattle.fed_streams.specs.Feeding.{map_fed, origin_after, other_fed, packet_fault, packet_fed, place_from, restart_fed, restart_in, seen_in, seen_place}
-use Rattle.fed_streams.specs.Feeding.{stream_with, told_by, told_fed, told_first, told_of, unless_ahead, unless_fault, watched, whole_by, greatest_pts_limit}
+use Rattle.fed_streams.specs.Feeding.{stream_with, reported_by, reported_fed, reported_first, fault_fed, unless_ahead, unless_fault, watched, whole_by}
+use Rattle.fed_streams.specs.Feeding.{greatest_pts_limit}
 use Rattle.fed_streams.specs.Maps.{clock_pid, new_map, other_stream}
 use Rattle.fed_streams.specs.Ticks.{after_end, after_end_at, after_late, after_passed, after_shown, after_tick, fed_end, fed_end_at, fed_late, fed_passed}
 use Rattle.fed_streams.specs.Ticks.{fed_shown, fed_tick, is_silence, is_tick, jump_fed, last_unit, late_in, passed_from, silence, tick, with_shown}
@@ -35,14 +36,14 @@ use Rattle.packet_pcr.specs.declared.pcr_reading.FoundPcr.{FoundPcr}
 use Rattle.fed_streams.specs.declared.origin.Origin.{Origin}
 use Rattle.es_feed.proofs.FedEach.{Event, Finds, Shows, after_event, fed_event, fed_events}
 use Rattle.es_feed.proofs.FedSteps.{given_others, own_unit}
-use Rattle.es_feed.proofs.Restarts.{told_restart}
+use Rattle.es_feed.proofs.Restarts.{reported_restart}
 use Rattle.fed_streams.specs.Restarts.{restart_of}
 use Rattle.fed_streams.proofs.ListedStreams.{AreKeys, Key, get_set_other, get_set_same, key, key_at, keys, passed, placed, set_keys}
 use Rattle.es_moments.specs.WireUnits.{CarriedUnit}
 
 -- 1. The unit that is given
 
--- the DTS of the last of units, or the one before them
+-- The DTS of the last unit, or the earlier DTS if there is no unit
 last_of : Option ℕ → List AccessUnit → Option ℕ
 last_of before [] = before
 last_of before (u ∷ us) = last_of (Some u.dts) us
@@ -106,15 +107,15 @@ given_rises d o n before (Some u) =
     (sym (append-nil (fed_if n (n, at_moment d.greatest base before u.unit))))
     (unless_rises n before d.greatest (unit_fault greatest_pts_limit base before u.unit) (unit_at base before u.unit) (λ none. above base before u.unit none))
 
--- 2. A step, of each stream
+-- 2. A step of all streams
 
--- the streams have the same keys, and of each what is fed rises
+-- The keys of the streams stay the same, and the DTS of the units of each stream rise.
 record Steps (feed next : FeedView) (fed : List Fed) : Type 0 where
   same : keys next.streams ≡ keys feed.streams
   each : (k : ℕ) (s : FedStreamView) → k < 255 → slice_get feed.streams k ≡ Some s →
       (t : FedStreamView) × (slice_get next.streams k ≡ Some t) × Rises s.before t.before (units_fed k fed)
 
--- nothing of a stream that has a number
+-- No record is a unit of a numbered stream.
 abbrev Unitless : List Fed → Type 0
 Unitless fed = (n : ℕ) → n < 255 → units_fed n fed ≡ []
 
@@ -128,7 +129,7 @@ stays feed next fed streams none = record {
   );
 }
 
--- a unit of one stream, between what is of none
+-- One record is a unit of this stream; the records before and after it belong to no stream.
 record GivesOne (feed next : FeedView) (fed : List Fed) (j : ℕ) (s t : FedStreamView) (w : Option CarriedUnit) : Type 0 where
   due : Due
   origin : Origin
@@ -179,22 +180,22 @@ gives_one feed next fed j s t w are g =
 
 -- 3. A finding
 
-told_before : (other : Option OtherStream) (change : Option NewMap) (fault : Option PacketFault) →
+reported_before : (other : Option OtherStream) (change : Option NewMap) (fault : Option PacketFault) →
     Unitless (option_to_list (other_fed other) ++ (option_to_list (map_fed change) ++ option_to_list (packet_fed fault)))
 unfolding other_fed map_fed packet_fed fed_if
-told_before None None None n few = refl
-told_before None None (Some fault) n few = refl
-told_before None (Some change) None n few = refl
-told_before None (Some change) (Some fault) n few = refl
-told_before (Some other) None None n few = refl
-told_before (Some other) None (Some fault) n few = refl
-told_before (Some other) (Some change) None n few = refl
-told_before (Some other) (Some change) (Some fault) n few = refl
+reported_before None None None n few = refl
+reported_before None None (Some fault) n few = refl
+reported_before None (Some change) None n few = refl
+reported_before None (Some change) (Some fault) n few = refl
+reported_before (Some other) None None n few = refl
+reported_before (Some other) None (Some fault) n few = refl
+reported_before (Some other) (Some change) None n few = refl
+reported_before (Some other) (Some change) (Some fault) n few = refl
 
-told_fault : (number : ℕ) (fault : Option FeedFault) → Unitless (option_to_list (told_of number fault))
-unfolding told_of fed_if
-told_fault number None n few = refl
-told_fault number (Some fault) n few = refl
+fault_unitless : (number : ℕ) (fault : Option FeedFault) → Unitless (option_to_list (fault_fed number fault))
+unfolding fault_fed fed_if
+fault_unitless number None n few = refl
+fault_unitless number (Some fault) n few = refl
 
 between : (n : ℕ) (before unit after : List Fed) → units_fed n before ≡ [] → units_fed n after ≡ [] → units_fed n (before ++ (unit ++ after)) ≡ units_fed n unit
 between n before unit after one two =
@@ -208,27 +209,27 @@ finding_steps : (feed : FeedView) (f : FindingView) (place : Option ℕ) → Are
     Steps feed (after_one feed f) (fed_one feed f)
 unfolding fed_place fed_at after_place after_at seen_place restart_of restart_fed
 finding_steps feed f None are at =
-    let told = told_first feed f in
-    let parts : fed_one feed f ≡ told ++ [] = rw at refl in
+    let reported = reported_first feed f in
+    let parts : fed_one feed f ≡ reported ++ [] = rw at refl in
     let goes : (after_one feed f).streams ≡ feed.streams = rw at refl in
     stays feed (after_one feed f) (fed_one feed f) goes
-    (λ n few. ap (λ (xs : List Fed). units_fed n xs) (parts ∙ append-nil told)
-    ∙ told_before (other_stream f feed.maps) (new_map f feed.maps) (packet_fault f) n few)
+    (λ n few. ap (λ (xs : List Fed). units_fed n xs) (parts ∙ append-nil reported)
+    ∙ reported_before (other_stream f feed.maps) (new_map f feed.maps) (packet_fault f) n few)
 finding_steps feed f (Some j) are at =
     let p = placed f.pid j feed.streams at in
     let s = p.stream in
     let w = whole_by s f in
-    let told = told_first feed f in
-    let tells = option_to_list (told_fed s f) in
+    let reported = reported_first feed f in
+    let own_reports = option_to_list (reported_fed s f) in
     let one = option_to_list (fed_with (due_of feed) feed.origin s.number s.before w) in
     let again = restart_in (after_unit (watched feed f) f) (seen_in (watched feed f) f) in
     let tail = option_to_list (restart_fed again) in
-    let here : fed_unit (watched feed f) f ≡ one ++ tells = rw (at, p.at) refl in
-    let parts : fed_one feed f ≡ told ++ (one ++ (tells ++ tail)) = ap (λ (xs : List Fed). told ++ (xs ++ tail)) here
-    ∙ ap (λ (xs : List Fed). told ++ xs) (append_assoc one tells tail) in
-    let ends : (n : ℕ) → n < 255 → units_fed n (tells ++ tail) ≡ [] = λ n few.
-    flat_map-append (fed_if n) tells tail ∙ ap (λ (us : List AccessUnit). us ++ units_fed n tail) (told_fault s.number (told_by s f) n few)
-    ∙ told_restart again n in
+    let here : fed_unit (watched feed f) f ≡ one ++ own_reports = rw (at, p.at) refl in
+    let parts : fed_one feed f ≡ reported ++ (one ++ (own_reports ++ tail)) = ap (λ (xs : List Fed). reported ++ (xs ++ tail)) here
+    ∙ ap (λ (xs : List Fed). reported ++ xs) (append_assoc one own_reports tail) in
+    let ends : (n : ℕ) → n < 255 → units_fed n (own_reports ++ tail) ≡ [] = λ n few.
+    flat_map-append (fed_if n) own_reports tail ∙ ap (λ (us : List AccessUnit). us ++ units_fed n tail) (fault_unitless s.number (reported_by s f) n few)
+    ∙ reported_restart again n in
     gives_one feed (after_one feed f) (fed_one feed f) j s (after_found s f) w are (record {
       due = due_of feed;
       origin = feed.origin;
@@ -239,15 +240,15 @@ finding_steps feed f (Some j) are at =
       streams = rw (at, p.at) refl;
       units = λ n few.
           ap (λ (xs : List Fed). units_fed n xs) parts
-          ∙ between n told one (tells ++ tail) (told_before (other_stream f feed.maps) (new_map f feed.maps) (packet_fault f) n few) (ends n few);
+          ∙ between n reported one (own_reports ++ tail) (reported_before (other_stream f feed.maps) (new_map f feed.maps) (packet_fault f) n few) (ends n few);
     })
 
 -- 4. A clock reference
 
-told_jump : (jump : Option ClockJump) → Unitless (option_to_list (jump_fed jump))
+reported_jump : (jump : Option ClockJump) → Unitless (option_to_list (jump_fed jump))
 unfolding jump_fed fed_if
-told_jump None n few = refl
-told_jump (Some jump) n few = refl
+reported_jump None n few = refl
+reported_jump (Some jump) n few = refl
 
 no_stream : (n : ℕ) → n < 255 → (255 == n) ≡ false
 no_stream n few = grind (arith, nat_tests)
@@ -302,14 +303,15 @@ unfolding after_late fed_late
 late_steps g None are = stays g g [] refl (λ n few. refl)
 late_steps g (Some late) are = passed_steps g late (passed_from g.origin late 0 g.streams) are refl
 
--- what is told before changes nothing of the streams
-after_told : (feed g next : FeedView) (told fed : List Fed) → g.streams ≡ feed.streams → Unitless told → Steps g next fed → Steps feed next (told ++ fed)
-after_told feed g next told fed streams none steps = record {
+-- Reports before a step change nothing of the streams.
+after_reported : (feed g next : FeedView) (reported fed : List Fed) → g.streams ≡ feed.streams → Unitless reported → Steps g next fed →
+    Steps feed next (reported ++ fed)
+after_reported feed g next reported fed streams none steps = record {
   same = steps.same ∙ ap keys streams;
   each = λ k s few at.
       let there = steps.each k s few (ap (λ (ss : List FedStreamView). slice_get ss k) streams ∙ at) in
-      let units : units_fed k (told ++ fed) ≡ units_fed k fed =
-      flat_map-append (fed_if k) told fed ∙ ap (λ (us : List AccessUnit). us ++ units_fed k fed) (none k few) in
+      let units : units_fed k (reported ++ fed) ≡ units_fed k fed =
+      flat_map-append (fed_if k) reported fed ∙ ap (λ (us : List AccessUnit). us ++ units_fed k fed) (none k few) in
       (there.0, there.1, subst (λ (us : List AccessUnit). Rises s.before there.0.before us) (sym units) there.2);
 }
 
@@ -317,7 +319,8 @@ shown_steps : (feed : FeedView) (pcr : FoundPcr) → AreKeys (keys feed.streams)
 shown_steps feed pcr are =
     let g = with_shown feed pcr in
     let late = late_in g pcr.base in
-    after_told feed g (after_late g late) (option_to_list (jump_fed (jump_of feed.shown pcr))) (fed_late g late) refl (told_jump (jump_of feed.shown pcr))
+    after_reported feed g (after_late g late) (option_to_list (jump_fed (jump_of feed.shown pcr))) (fed_late g late) refl
+    (reported_jump (jump_of feed.shown pcr))
     (late_steps g late are)
 
 own_steps : (feed : FeedView) (pcr : FoundPcr) (on : Bool) → AreKeys (keys feed.streams) →
@@ -343,7 +346,7 @@ last_none d o n (t ∷ ts) others =
     ∙ ap (λ (us : List AccessUnit). us ++ units_fed n rest) (given_others d o t.number n t.before w (others zero t refl))
     ∙ last_none d (origin_after d o w) n ts (λ i u at. others (suc i) u at)
 
--- the only stream of a number
+-- The only stream with this number
 IsOnly : ℕ → ℕ → List FedStreamView → Type 0
 IsOnly n k ss = (i : ℕ) (t : FedStreamView) → slice_get ss i ≡ Some t → n ≡ t.number → i ≡ k
 

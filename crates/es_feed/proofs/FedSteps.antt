@@ -1,4 +1,4 @@
--- What one finding and one clock reference do to the streams of a feed, where nothing is told.
+-- The effect of one finding and of one clock reference on the streams of a feed, if no fault is reported.
 use Rattle.std.proofs.Common.{◌≡◌, ◌≢◌, ◌∙◌, ◌⊎◌, ◌<◌, ℕ, ◌++◌, ◌==◌, eqb, ◌||◌, Bool, true, false, if◌then◌else◌, Option, Some, None, Result, Ok, Err, List}
 use Rattle.std.proofs.Common.{[], ◌∷◌, map, slice_get, slice_set, refl, sym, ap, inl, inr, arith}
 use Rattle.std.specs.Option.{option_to_list}
@@ -17,7 +17,8 @@ use Rattle.es_feed.specs.EachStream.{fed_if, has_fault, have_fault, units_fed}
 use Rattle.fed_streams.specs.Feeding.{Fed, FedStreamView, FeedView, after_at, after_found, after_one, after_place, ahead_of, at_moment, base_by, after_unit}
 use Rattle.fed_streams.specs.Feeding.{base_of, before_with, due_of, fed_at, fed_by, fed_one, fed_place, fed_unit, fed_with, feed_with, greatest_of, last_dts}
 use Rattle.fed_streams.specs.Feeding.{map_fed, origin_after, other_fed, packet_fault, packet_fed, place_from, restart_fed, restart_in, seen_in, seen_place}
-use Rattle.fed_streams.specs.Feeding.{stream_with, told_by, told_fed, told_first, told_of, unless_ahead, unless_fault, watched, whole_by, greatest_pts_limit}
+use Rattle.fed_streams.specs.Feeding.{stream_with, reported_by, reported_fed, reported_first, fault_fed, unless_ahead, unless_fault, watched, whole_by}
+use Rattle.fed_streams.specs.Feeding.{greatest_pts_limit}
 use Rattle.fed_streams.specs.Maps.{clock_pid, new_map, other_stream}
 use Rattle.fed_streams.specs.Origins.{no_origin, origin_with}
 use Rattle.fed_streams.specs.Restarts.{fallen_after, origin_by, restart_of}
@@ -41,7 +42,7 @@ pub use Rattle.es_feed.proofs.Restarts.{fault_split}
 use Rattle.es_feed.proofs.Restarts.{not_restarted}
 use Rattle.es_moments.specs.WireUnits.{CarriedUnit}
 
--- 1. What a step does: nothing to a stream, or it gives a unit of one of them
+-- 1. A step gives no unit, or one unit of one stream
 
 pub record Rests (feed next : FeedView) (fed : List Fed) : Type 0 where
   pub streams : next.streams ≡ feed.streams
@@ -50,7 +51,7 @@ pub record Rests (feed next : FeedView) (fed : List Fed) : Type 0 where
   pub none : (n : ℕ) → n < 255 → units_fed n fed ≡ []
   pub silent : feed.origin ≡ no_origin → fed ≡ []
 
--- w becomes whole of stream s at place j, which is t then, but for the last DTS
+-- The step makes unit w of stream s at place j whole; then the stream is t, except for the last DTS.
 pub record Gives (feed next : FeedView) (fed : List Fed) (j : ℕ) (s t : FedStreamView) (w : Option CarriedUnit) : Type 0 where
   pub due : Due
   pub due_is : due.earliest ≡ feed.earliest
@@ -65,26 +66,27 @@ pub record Gives (feed next : FeedView) (fed : List Fed) (j : ℕ) (s t : FedStr
 
 -- 2. A finding
 
-not_told_first : (other : Option OtherStream) (change : Option NewMap) (fault : Option PacketFault) (more : List Fed) →
+not_reported_first : (other : Option OtherStream) (change : Option NewMap) (fault : Option PacketFault) (more : List Fed) →
     have_fault ((option_to_list (other_fed other) ++ (option_to_list (map_fed change) ++ option_to_list (packet_fed fault))) ++ more) ≡ false →
     option_to_list (other_fed other) ++ (option_to_list (map_fed change) ++ option_to_list (packet_fed fault)) ≡ []
 unfolding other_fed map_fed packet_fed has_fault
-not_told_first None None None more none = refl
-not_told_first None None (Some fault) more none = absurd cc
-not_told_first None (Some change) fault more none = absurd cc
-not_told_first (Some other) change fault more none = absurd cc
+not_reported_first None None None more none = refl
+not_reported_first None None (Some fault) more none = absurd cc
+not_reported_first None (Some change) fault more none = absurd cc
+not_reported_first (Some other) change fault more none = absurd cc
 
-not_told : (number : ℕ) (fault : Option FeedFault) → have_fault (option_to_list (told_of number fault)) ≡ false → option_to_list (told_of number fault) ≡ []
-unfolding told_of has_fault
-not_told number None none = refl
-not_told number (Some fault) none = absurd cc
+not_reported : (number : ℕ) (fault : Option FeedFault) → have_fault (option_to_list (fault_fed number fault)) ≡ false →
+    option_to_list (fault_fed number fault) ≡ []
+unfolding fault_fed has_fault
+not_reported number None none = refl
+not_reported number (Some fault) none = absurd cc
 
--- the restart that it shows
+-- The restart that a finding shows
 abbrev shows : FeedView → FindingView → Option Restart
 shows feed f = restart_in (after_unit (watched feed f) f) (seen_in (watched feed f) f)
 
 fed_here : (feed : FeedView) (f : FindingView) (j : ℕ) (s : FedStreamView) → place_from f.pid 0 feed.streams ≡ Some j → slice_get feed.streams j ≡ Some s →
-    fed_unit (watched feed f) f ≡ option_to_list (fed_by (due_of feed) feed.origin s (whole_by s f)) ++ option_to_list (told_fed s f)
+    fed_unit (watched feed f) f ≡ option_to_list (fed_by (due_of feed) feed.origin s (whole_by s f)) ++ option_to_list (reported_fed s f)
 unfolding fed_place fed_at
 fed_here feed f j s at is = rw (at, is) refl
 
@@ -105,15 +107,15 @@ pub finding_gives : (feed : FeedView) (f : FindingView) (j : ℕ) (s : FedStream
     slice_get feed.streams j ≡ Some s →
     have_fault (fed_one feed f) ≡ false → Gives feed (after_one feed f) (fed_one feed f) j s (after_found s f) (whole_by s f)
 finding_gives feed f j s at is none =
-    let change = told_first feed f in
+    let change = reported_first feed f in
     let unit = option_to_list (fed_by (due_of feed) feed.origin s (whole_by s f)) in
-    let told = option_to_list (told_fed s f) in
+    let reported = option_to_list (reported_fed s f) in
     let again = option_to_list (restart_fed (shows feed f)) in
-    let parts : fed_one feed f ≡ change ++ ((unit ++ told) ++ again) = ap (λ (xs : List Fed). change ++ (xs ++ again)) (fed_here feed f j s at is) in
-    let clear : have_fault (change ++ ((unit ++ told) ++ again)) ≡ false = ap have_fault (sym parts) ∙ none in
-    let no_map : change ≡ [] = not_told_first (other_stream f feed.maps) (new_map f feed.maps) (packet_fault f) ((unit ++ told) ++ again) clear in
-    let two = fault_split (unit ++ told) again (fault_split change ((unit ++ told) ++ again) clear).1 in
-    let no_told : told ≡ [] = not_told s.number (told_by s f) (fault_split unit told two.0).1 in
+    let parts : fed_one feed f ≡ change ++ ((unit ++ reported) ++ again) = ap (λ (xs : List Fed). change ++ (xs ++ again)) (fed_here feed f j s at is) in
+    let clear : have_fault (change ++ ((unit ++ reported) ++ again)) ≡ false = ap have_fault (sym parts) ∙ none in
+    let no_map : change ≡ [] = not_reported_first (other_stream f feed.maps) (new_map f feed.maps) (packet_fault f) ((unit ++ reported) ++ again) clear in
+    let two = fault_split (unit ++ reported) again (fault_split change ((unit ++ reported) ++ again) clear).1 in
+    let no_reported : reported ≡ [] = not_reported s.number (reported_by s f) (fault_split unit reported two.0).1 in
     let no_restart : shows feed f ≡ None = not_restarted (shows feed f) two.1 in
     let no_again : again ≡ [] = ap (λ (r : Option Restart). option_to_list (restart_fed r)) no_restart ∙ nothing_again in
     let goes = after_here feed f j s at is in
@@ -127,11 +129,11 @@ finding_gives feed f j s at is none =
       streams = ap (λ (n : FeedView). n.streams) goes;
       origin = same_origin (after_unit (watched feed f) f).origin (shows feed f) no_restart ∙ ap (λ (n : FeedView). n.origin) goes;
       earliest = ap (λ (n : FeedView). n.earliest) goes;
-      fed_is = parts ∙ ap (λ (xs : List Fed). xs ++ ((unit ++ told) ++ again)) no_map ∙ ap (λ (xs : List Fed). (unit ++ told) ++ xs) no_again
-          ∙ append-nil (unit ++ told) ∙ ap (λ (xs : List Fed). unit ++ xs) no_told ∙ append-nil unit;
+      fed_is = parts ∙ ap (λ (xs : List Fed). xs ++ ((unit ++ reported) ++ again)) no_map ∙ ap (λ (xs : List Fed). (unit ++ reported) ++ xs) no_again
+          ∙ append-nil (unit ++ reported) ∙ ap (λ (xs : List Fed). unit ++ xs) no_reported ∙ append-nil unit;
     }
 
-fed_nowhere : (feed : FeedView) (f : FindingView) → place_from f.pid 0 feed.streams ≡ None → fed_one feed f ≡ told_first feed f ++ []
+fed_nowhere : (feed : FeedView) (f : FindingView) → place_from f.pid 0 feed.streams ≡ None → fed_one feed f ≡ reported_first feed f ++ []
 unfolding fed_place seen_place restart_of restart_fed
 fed_nowhere feed f none = rw none refl
 
@@ -142,10 +144,10 @@ after_nowhere feed f none = rw none refl
 pub finding_rests : (feed : FeedView) (f : FindingView) → place_from f.pid 0 feed.streams ≡ None → have_fault (fed_one feed f) ≡ false →
     Rests feed (after_one feed f) (fed_one feed f)
 finding_rests feed f nowhere none =
-    let told = told_first feed f in
+    let reported = reported_first feed f in
     let parts = fed_nowhere feed f nowhere in
     let empty : fed_one feed f ≡ [] =
-    parts ∙ append-nil told ∙ not_told_first (other_stream f feed.maps) (new_map f feed.maps) (packet_fault f) [] (ap have_fault (sym parts) ∙ none) in
+    parts ∙ append-nil reported ∙ not_reported_first (other_stream f feed.maps) (new_map f feed.maps) (packet_fault f) [] (ap have_fault (sym parts) ∙ none) in
     let goes = after_nowhere feed f nowhere in
     record {
       streams = ap (λ (n : FeedView). n.streams) goes;
@@ -157,7 +159,7 @@ finding_rests feed f nowhere none =
 
 -- 3. A clock reference
 
--- a step that leaves the streams, or ends a unit under way
+-- A step that leaves the streams as they are, or ends the current unit of a stream
 unfoldable pub Out : FeedView → FeedView → List Fed → Type 0
 Out feed next fed = Rests feed next fed ⊎ ((j : ℕ) × (s : FedStreamView) × Gives feed next fed j s (without_unit s) (ended_unit false s.units.unit))
 
@@ -229,9 +231,10 @@ late_unknown : (g : FeedView) (shown : ℕ) → g.origin ≡ no_origin → late_
 unfolding late_of
 late_unknown g shown e = rw e refl
 
-same_rests : (feed g next : FeedView) (fed told : List Fed) → g.streams ≡ feed.streams → g.origin ≡ feed.origin → g.earliest ≡ feed.earliest → told ≡ fed →
-    Rests g next fed → Rests feed next told
-same_rests feed g next fed told streams origin earliest is r = record {
+same_rests : (feed g next : FeedView) (fed reported : List Fed) → g.streams ≡ feed.streams → g.origin ≡ feed.origin → g.earliest ≡ feed.earliest →
+    reported ≡ fed →
+    Rests g next fed → Rests feed next reported
+same_rests feed g next fed reported streams origin earliest is r = record {
   streams = r.streams ∙ streams;
   origin = r.origin ∙ origin;
   earliest = r.earliest ∙ earliest;
@@ -239,9 +242,10 @@ same_rests feed g next fed told streams origin earliest is r = record {
   silent = λ e. is ∙ r.silent (origin ∙ e);
 }
 
-same_gives : (feed g next : FeedView) (fed told : List Fed) (j : ℕ) (s t : FedStreamView) (w : Option CarriedUnit) →
-    g.streams ≡ feed.streams → g.origin ≡ feed.origin → g.earliest ≡ feed.earliest → told ≡ fed → Gives g next fed j s t w → Gives feed next told j s t w
-same_gives feed g next fed told j s t w streams origin earliest is r = record {
+same_gives : (feed g next : FeedView) (fed reported : List Fed) (j : ℕ) (s t : FedStreamView) (w : Option CarriedUnit) →
+    g.streams ≡ feed.streams → g.origin ≡ feed.origin → g.earliest ≡ feed.earliest → reported ≡ fed → Gives g next fed j s t w →
+    Gives feed next reported j s t w
+same_gives feed g next fed reported j s t w streams origin earliest is r = record {
   due = r.due;
   due_is = r.due_is ∙ earliest;
   at = ap (λ (ss : List FedStreamView). slice_get ss j) (sym streams) ∙ r.at;
@@ -255,14 +259,15 @@ same_gives feed g next fed told j s t w streams origin earliest is r = record {
   fed_is = is ∙ r.fed_is ∙ ap (λ (o : Origin). option_to_list (fed_with r.due o s.number s.before w)) origin;
 }
 
-same_out : (feed g next : FeedView) (fed told : List Fed) → g.streams ≡ feed.streams → g.origin ≡ feed.origin → g.earliest ≡ feed.earliest → told ≡ fed →
-    Out g next fed → Out feed next told
+same_out : (feed g next : FeedView) (fed reported : List Fed) → g.streams ≡ feed.streams → g.origin ≡ feed.origin → g.earliest ≡ feed.earliest →
+    reported ≡ fed →
+    Out g next fed → Out feed next reported
 unfolding Out
-same_out feed g next fed told streams origin earliest is (inl r) = inl (same_rests feed g next fed told streams origin earliest is r)
-same_out feed g next fed told streams origin earliest is (inr r) =
-    inr (r.0, r.1, same_gives feed g next fed told r.0 r.1 (without_unit r.1) (ended_unit false r.1.units.unit) streams origin earliest is r.2)
+same_out feed g next fed reported streams origin earliest is (inl r) = inl (same_rests feed g next fed reported streams origin earliest is r)
+same_out feed g next fed reported streams origin earliest is (inr r) =
+    inr (r.0, r.1, same_gives feed g next fed reported r.0 r.1 (without_unit r.1) (ended_unit false r.1.units.unit) streams origin earliest is r.2)
 
--- a jump is told
+-- A jump of the clock is reported.
 jump_if : (pcr : FoundPcr) (before : ℕ) (a b : Bool) (jump : ClockJump) → have_fault (option_to_list (jump_fed (if a || b then Some jump else None))) ≡ false →
     (b ≡ false) × ((a || b) ≡ false)
 unfolding jump_fed has_fault
@@ -315,7 +320,7 @@ ok_moment : (n : ℕ) (greatest : Option ℕ) (base : ℕ) (before : Option ℕ)
     at_moment greatest base before u ≡ Ok (unit_at base before u)
 ok_moment n greatest base before u none = ok_unless n greatest (unit_fault greatest_pts_limit base before u) (unit_at base before u) none
 
--- the constant of a unit, if there is one; and that it is fixed after it
+-- The unit, if any, has this constant; after it the constant is fixed.
 abbrev pub HasBase : Due → Origin → Option CarriedUnit → ℕ → Type 0
 HasBase d o w base = (u : CarriedUnit) → w ≡ Some u → base_of d o u ≡ base
 

@@ -1,4 +1,4 @@
--- What is fed of a stream, piece by piece.
+-- The records of a stream, piece by piece.
 use Rattle.std.proofs.Common.{◌≡◌, inl, inr, ◌∙◌, ◌<◌, ◌≤◌, ℕ, ◌+◌, ◌*◌, ◌++◌, Bool, true, false, List, [], length, take, drop, refl, sym, ap, subst, arith}
 use Rattle.std.proofs.Common.{drop-drop, length-drop, length-take-le, take_all, take-append-drop}
 use Rattle.std.specs.List.{concat}
@@ -19,14 +19,14 @@ use Rattle.fed_streams.specs.Ticks.{after_packets, fed_packets}
 use Rattle.es_feed.proofs.AlikeStreams.{after_alike, alike_as, all_alike, fed_alike, packets_pids, rest_alike}
 use Rattle.es_feed.proofs.FedPackets.{All-both, after_more, cut_all, cut_these, fed_more, left_these, packets_length, taken_more}
 
--- 1. Packets more
+-- 1. More packets
 
--- what is kept of the packets before is kept for the streams as they are
+-- A state that is alike for the first feed is alike for the current feed.
 alike_now : (first : FeedView) (ps : List (List ℕ)) (old : PacketFeedView) → AreAlike first old.demux (taken_all start ps) →
     old.feed ≡ after_packets start first ps → AreAlike old.feed old.demux (taken_all start ps)
 alike_now first ps old d f = alike_as first old.feed old.demux (taken_all start ps) (ap stream_pids f ∙ packets_pids start first ps) d
 
--- what is fed of them comes after what was fed before
+-- The records of more packets follow the records of the packets before.
 fed_after : (first : FeedView) (ps qs : List (List ℕ)) (old : PacketFeedView) (gone before after : List Fed) →
     AreAlike first old.demux (taken_all start ps) → old.feed ≡ after_packets start first ps → gone ++ before ≡ fed_packets start first ps →
     after ≡ before ++ fed_packets old.demux old.feed qs → gone ++ after ≡ fed_packets start first (ps ++ qs)
@@ -37,7 +37,7 @@ fed_after first ps qs old gone before after d f so grown =
     ∙ ap (λ (t : FeedView). fed_packets start first ps ++ fed_packets (taken_all start ps) t qs) f
     ∙ sym (fed_more start first ps qs)
 
--- the packets of some bytes, with what is carried before and after them
+-- The packets of some bytes, with the carried bytes before and after them
 packets_fed : (first : FeedView) (stream held later taking : List ℕ) (ended : Bool) (n : ℕ) (old new : PacketFeedView) (gone before after : List Fed) →
     (so : IsFedBy first stream ended (record { held = held; packets = old }) (gone ++ before)) → TakesPackets old new taking n before after →
     ((more : List ℕ) → (ended ≡ true → more ≡ []) → carried (held ++ more) ≡ take n taking ++ carried (later ++ more)) →
@@ -82,7 +82,7 @@ stretch_fed first stream bytes ended at n rest taking s old new gone before afte
 
 -- 3. The packet that the end of a stream cuts
 
--- a stretch of which not all is taken is that of the end
+-- A stretch that is not taken as a whole is the stretch at the end.
 pub is_last : (s : Stretch) (rest taking : List ℕ) (ended : Bool) (n : ℕ) (old new : PacketFeedView) (before after : List Fed) →
     taking ≡ take s.in_step rest → s.in_step + s.slipped ≤ length rest → n < s.in_step → IsOfPackets (length rest) ended s →
     TakesPackets old new taking n before after →
@@ -198,7 +198,7 @@ ended_fed first stream rest packets gone before after few grows so =
     ∙ ap (λ (r : List ℕ). fed_in first ps r) (sym left)
     ∙ ap (λ (qs : List (List ℕ)). fed_in first qs (after_cut (carried stream))) (sym cut)
 
--- 5. A beginning of the whole
+-- 5. The records so far are a beginning of all records
 
 pub is_beginning : FedIsBeginning
 is_beginning first bytes more s fed so =

@@ -1,4 +1,4 @@
--- A unit that has a moment comes soon after the one before it.
+-- A unit that has a moment is due soon after the unit before it.
 use Rattle.std.proofs.Common.{◌≡◌, ◌∙◌, ℕ, false, Option, Some, None, [], refl, sym, ap}
 use Rattle.std.specs.Option.{option_to_list}
 use Rattle.pes_packet.specs.AccessUnits.{AccessUnit}

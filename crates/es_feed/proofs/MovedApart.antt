@@ -1,4 +1,4 @@
--- Units that two constants move.
+-- Units that are moved by two constants.
 use Rattle.std.proofs.Common.{◌≡◌, ◌∙◌, ◌<◌, ◌≤◌, ℕ, ◌+◌, ◌-◌, ◌%◌, ◌++◌, ◌^◌, false, Some, None, Ok, Err, List, [], ◌∷◌, length, map, slice_get, refl, sym, ap}
 use Rattle.std.proofs.Common.{ap₂, arith}
 use Rattle.pes_packet.specs.AccessUnits.{AccessUnit}
@@ -14,7 +14,7 @@ use Rattle.given_marks.specs.Marking.{all_marked}
 use Rattle.es_feed.proofs.FedSteps.{own_unit}
 use Rattle.es_units.specs.CarriedUnits.{apart_wire_units}
 
--- 1. One list of units by two constants
+-- 1. One list of units, moved by two constants
 
 same_distance : (a b w : ℕ) → a % 2 ^ 33 ≡ b % 2 ^ 33 → distance a w ≡ distance b w
 unfolding distance
@@ -29,7 +29,7 @@ unit_is : (dts pts other_dts other_pts : ℕ) (marks : Marks) (bytes : List ℕ)
 unit_is dts pts other_dts other_pts marks bytes one two =
     ap₂ (λ (d p : ℕ). (let u : AccessUnit = record { dts = d; pts = p; marks = marks; bytes = bytes } in u)) one two
 
--- the PTS of a unit at its DTS
+-- The PTS of a unit has the distance of its DTS.
 pts_too : (b c p q x y pts : ℕ) → x + p ≡ y + q → (x + b) % 2 ^ 33 ≡ (y + c) % 2 ^ 33 → x + distance (x + b) pts + p ≡ y + distance (y + c) pts + q
 pts_too b c p q x y pts same clock = let d = same_distance (x + b) (y + c) pts clock in omega (arith, same, d)
 
@@ -58,7 +58,7 @@ shows_first : (b w : ℕ) → (distance b w + b) % 2 ^ 33 ≡ w % 2 ^ 33
 unfolding distance
 shows_first b w = omega arith
 
--- units whose first ones are apart by a time are all apart by it
+-- If the first unit has a distance under the two constants, each unit has it.
 all_apart : (b c p q : ℕ) (us : List AccessUnit) → ((u : AccessUnit) (rest : List AccessUnit) → us ≡ u ∷ rest → distance b u.dts + p ≡ distance c u.dts + q) →
     map (after_time p) (moved b None us) ≡ map (after_time q) (moved c None us)
 unfolding moved unit_at dts_at
@@ -79,7 +79,7 @@ firsts_apart : (b c v w early : ℕ) → distance c v ≡ early → early < 2 ^ 
 unfolding distance
 firsts_apart b c v w early due small before after = omega (arith, due, small, before, after)
 
--- of a stream, where the first unit of all is v
+-- One stream, if the first unit of all is v
 one_apart : (base fed_by early : ℕ) (v : AccessUnit) (vs wire other : List AccessUnit) → other ≡ v ∷ vs → distance fed_by v.dts ≡ early → early < 2 ^ 32 →
     BeginNear base early wire other → BeginNear base early other wire →
     map (after_time (distance base v.dts)) (moved fed_by None wire) ≡ map (after_time early) (moved base None wire)

@@ -1,4 +1,4 @@
--- What one stream feeds, where no clock is known.
+-- The records of one stream, if no clock is known.
 use Rattle.std.proofs.Common.{◌≡◌, ◌∙◌, ℕ, ◌+◌, ◌++◌, ◌||◌, ◌&&◌, Bool, true, false, Option, Some, None, Result, Ok, Err, List, [], ◌∷◌, map, refl, sym, ap}
 use Rattle.std.proofs.Common.{ap₂, subst, arith}
 use Rattle.std.specs.Option.{option_to_list}
@@ -23,7 +23,8 @@ use Rattle.fed_streams.specs.Origins.{base_for, no_origin, origin_with}
 use Rattle.fed_streams.specs.declared.due.Due.{Due}
 use Rattle.fed_streams.specs.declared.origin.Origin.{Origin}
 use Rattle.fed_streams.specs.Feeding.{FedStreamView, Fed, FeedView, ahead_of, unless_ahead, unless_fault, at_moment, last_dts, base_by, base_of, origin_after}
-use Rattle.fed_streams.specs.Feeding.{before_with, fed_with, stream_with, fed_by, whole_by, after_found, lost_by, stray_after, stray_of, told_by, told_fed, told_of, fault_by, unit_after}
+use Rattle.fed_streams.specs.Feeding.{before_with, fed_with, stream_with, fed_by, whole_by, after_found, lost_by, stray_after, stray_of, reported_by}
+use Rattle.fed_streams.specs.Feeding.{reported_fed, fault_fed, fault_by, unit_after}
 use Rattle.fed_streams.specs.Feeding.{follow_after, made_by, place_by, same_by, greatest_if, place_from, after_at, fed_at, after_place, fed_place, after_unit}
 use Rattle.fed_streams.specs.Feeding.{fed_unit, map_fed, after_one}
 use Rattle.fed_streams.specs.Feeding.{fed_one, after_all, fed_all, fed_last, fed_ends, fed_to_end, greatest_of, is_fallen, other_fed, packet_fault, packet_fed}
@@ -43,7 +44,7 @@ use Rattle.given_marks.specs.Marking.{no_marking}
 use Rattle.fed_streams.proofs.UncutUnits.{Uncut, no_unit, past_here, uncut_step, under_cut}
 use Rattle.es_moments.specs.WireUnits.{CarriedUnit}
 
--- 1. Units one after another
+-- 1. Consecutive units
 
 timed : Due → Origin → ℕ → Option ℕ → List CarriedUnit → List Fed
 timed d o n before [] = []
@@ -67,7 +68,7 @@ pub other_role : (pid : ℕ) (f : FindingView) → has_pid pid f.pid ≡ false �
 unfolding role_of
 other_role pid f other = rw other refl
 
--- the stream at a finding that cuts nothing: a unit is under way where units follow one another
+-- This finding cuts no unit of the stream; the stream has a current unit exactly if units follow one another.
 record IsQuiet (s : FedStreamView) (f : FindingView) : Type 0 where
   follows : s.follow ≡ is_some s.units.unit
   goes_on : (is_some s.units.unit && not (is_some (unit_after s f))) ≡ false
@@ -77,17 +78,17 @@ same_follow follow before true quiet is on = refl
 same_follow follow true false quiet is on = absurd cc
 same_follow follow false false quiet is on = rw is refl
 
-other_follow : (follow before told : Bool) → follow ≡ before → (before || (follow && told)) ≡ follow
-other_follow follow true told is = sym is
-other_follow follow false told is = rw is refl
+other_follow : (follow before reported : Bool) → follow ≡ before → (before || (follow && reported)) ≡ follow
+other_follow follow true reported is = sym is
+other_follow follow false reported is = rw is refl
 
--- payload in no PES packet is all that may be reported
-only_stray : (s : FedStreamView) (f : FindingView) → IsQuiet s f → lost_by f.packet f.what ≡ None → told_by s f ≡ fault_by None None (stray_of s f)
+-- The finding reports at most payload outside a PES packet.
+only_stray : (s : FedStreamView) (f : FindingView) → IsQuiet s f → lost_by f.packet f.what ≡ None → reported_by s f ≡ fault_by None None (stray_of s f)
 only_stray s f quiet lost =
     let cuts : (s.follow && not (is_some (unit_after s f))) ≡ false = ap (λ (b : Bool). b && not (is_some (unit_after s f))) quiet.follows ∙ quiet.goes_on in
     rw (lost, cuts) refl
 
--- whether a run of it has come, after a finding of the stream's own PID or of another PID
+-- Whether payload outside a PES packet has begun, after a finding of the stream's PID or of another PID
 unfoldable stray_with : Bool → FedStreamView → FindingView → Bool
 stray_with true s f = stray_after s.stray f.what
 stray_with false s f = s.stray
@@ -109,8 +110,8 @@ other_after e o s f follows other =
     single e o (record { number = s.number; before = s.before; units = u; follow = b; stray = s.stray; place = p }) in
     let units : after_finding s.units f ≡ s.units = rw other refl in
     let same : follow_after s f ≡ s.follow =
-    ap (λ (u : UnitsSoFar). is_some u.unit || (s.follow && not (is_some (told_by s f)))) units
-    ∙ other_follow s.follow (is_some s.units.unit) (not (is_some (told_by s f))) follows in
+    ap (λ (u : UnitsSoFar). is_some u.unit || (s.follow && not (is_some (reported_by s f)))) units
+    ∙ other_follow s.follow (is_some s.units.unit) (not (is_some (reported_by s f))) follows in
     let placed : place_by s f ≡ s.place = rw other refl in
     let t = after_found s f in
     sym (ap (λ (p : ℕ). with_these t.units t.follow p) placed
@@ -152,30 +153,30 @@ neither : (a b : Bool) → (a || b) ≡ false → (a ≡ false) × (b ≡ false)
 neither true b none = absurd cc
 neither false b none = (refl, none)
 
--- what is reported of a finding, if it is of the stream's own PID
-unfoldable told_if : Bool → FedStreamView → FindingView → List Fed
-told_if true s f = option_to_list (told_fed s f)
-told_if false s f = []
+-- The reports of a finding, if it has the stream's PID
+unfoldable reported_if : Bool → FedStreamView → FindingView → List Fed
+reported_if true s f = option_to_list (reported_fed s f)
+reported_if false s f = []
 
 single_fed_by : (e : ℕ) (o : Origin) (s : FedStreamView) (f : FindingView) (own : Bool) → has_pid s.units.pid f.pid ≡ own →
     is_fallen (fed_by (due_from e) o s (whole_by s f)) ≡ false →
-    fed_one (single e o s) f ≡ option_to_list (packet_fed (packet_fault f)) ++ (option_to_list (fed_by (due_from e) o s (whole_by s f)) ++ told_if own s f)
+    fed_one (single e o s) f ≡ option_to_list (packet_fed (packet_fault f)) ++ (option_to_list (fed_by (due_from e) o s (whole_by s f)) ++ reported_if own s f)
 unfolding map_from set_place change_place map_fed place_from fed_place fed_at fed_with made_whole set_apart greatest_if seen_place restart_of restart_fed
-    other_place other_fed told_if
+    other_place other_fed reported_if
 single_fed_by e o s f true own quiet =
     let unit = option_to_list (fed_by (due_from e) o s (whole_by s f)) in
-    let told = option_to_list (told_fed s f) in
+    let reported = option_to_list (reported_fed s f) in
     let packet = option_to_list (packet_fed (packet_fault f)) in
     let g = after_unit (watched (single e o s) f) f in
-    let here : fed_unit (watched (single e o s) f) f ≡ unit ++ told = rw own refl in
+    let here : fed_unit (watched (single e o s) f) f ≡ unit ++ reported = rw own refl in
     let calm : restart_in g (seen_in (watched (single e o s) f) f) ≡ None =
     ap (λ (seen : Seen). restart_in g seen) (single_seen e o s f own)
     ∙ no_restart (greatest_of g) g.fallen (start_of (whole_by s f)) (fed_by (due_from e) o s (whole_by s f)) quiet in
     ap₂ (λ (xs : List Fed) (r : Option Restart). packet ++ (xs ++ option_to_list (restart_fed r))) here calm
-    ∙ ap (λ (xs : List Fed). packet ++ xs) (append-nil (unit ++ told))
+    ∙ ap (λ (xs : List Fed). packet ++ xs) (append-nil (unit ++ reported))
 single_fed_by e o s f false own quiet = rw (own, other_role s.units.pid f own) refl
 
--- 2. Beside packets that are not read
+-- 2. Without the reports of packets that are not read
 
 clear_head : (x : Fed) → has_fault x ≡ false → unless_packet x ≡ x ∷ []
 unfolding has_fault unless_packet
@@ -193,46 +194,46 @@ unfolding packet_fed unless_packet is_of_packet
 none_beside None = refl
 none_beside (Some fault) = refl
 
-stray_beside : (number : ℕ) (stray : Option ℕ) → beside_packets (option_to_list (told_of number (fault_by None None stray))) ≡ []
-unfolding fault_by told_of unless_packet is_of_packet
+stray_beside : (number : ℕ) (stray : Option ℕ) → beside_packets (option_to_list (fault_fed number (fault_by None None stray))) ≡ []
+unfolding fault_by fault_fed unless_packet is_of_packet
 stray_beside number None = refl
 stray_beside number (Some packet) = refl
 
-told_beside : (s : FedStreamView) (f : FindingView) (own : Bool) → (own ≡ true → told_by s f ≡ fault_by None None (stray_of s f)) →
-    beside_packets (told_if own s f) ≡ []
-unfolding told_if
-told_beside s f true silent =
-    ap (λ (o : Option FeedFault). beside_packets (option_to_list (told_of s.number o))) (silent refl) ∙ stray_beside s.number (stray_of s f)
-told_beside s f false silent = refl
+reported_beside : (s : FedStreamView) (f : FindingView) (own : Bool) → (own ≡ true → reported_by s f ≡ fault_by None None (stray_of s f)) →
+    beside_packets (reported_if own s f) ≡ []
+unfolding reported_if
+reported_beside s f true silent =
+    ap (λ (o : Option FeedFault). beside_packets (option_to_list (fault_fed s.number o))) (silent refl) ∙ stray_beside s.number (stray_of s f)
+reported_beside s f false silent = refl
 
 single_beside : (e : ℕ) (o : Origin) (s : FedStreamView) (f : FindingView) →
-    (has_pid s.units.pid f.pid ≡ true → told_by s f ≡ fault_by None None (stray_of s f)) →
+    (has_pid s.units.pid f.pid ≡ true → reported_by s f ≡ fault_by None None (stray_of s f)) →
     have_fault (option_to_list (fed_by (due_from e) o s (whole_by s f))) ≡ false →
     beside_packets (fed_one (single e o s) f) ≡ option_to_list (fed_by (due_from e) o s (whole_by s f))
 single_beside e o s f silent clear =
     let unit = option_to_list (fed_by (due_from e) o s (whole_by s f)) in
     let packet = option_to_list (packet_fed (packet_fault f)) in
     let own = has_pid s.units.pid f.pid in
-    let told = told_if own s f in
+    let reported = reported_if own s f in
     ap beside_packets (single_fed_by e o s f own refl (no_fall (fed_by (due_from e) o s (whole_by s f)) clear))
-    ∙ flat_map-append unless_packet packet (unit ++ told)
-    ∙ ap (λ (xs : List Fed). xs ++ beside_packets (unit ++ told)) (none_beside (packet_fault f)) ∙ flat_map-append unless_packet unit told
-    ∙ ap (λ (xs : List Fed). beside_packets unit ++ xs) (told_beside s f own silent) ∙ append-nil (beside_packets unit) ∙ clear_beside unit clear
+    ∙ flat_map-append unless_packet packet (unit ++ reported)
+    ∙ ap (λ (xs : List Fed). xs ++ beside_packets (unit ++ reported)) (none_beside (packet_fault f)) ∙ flat_map-append unless_packet unit reported
+    ∙ ap (λ (xs : List Fed). beside_packets unit ++ xs) (reported_beside s f own silent) ∙ append-nil (beside_packets unit) ∙ clear_beside unit clear
 
 fed_more : (feed : FeedView) (f : FindingView) (fs : List FindingView) → fed_to_end feed (f ∷ fs) ≡ fed_one feed f ++ fed_to_end (after_one feed f) fs
 unfolding fed_all after_all
 fed_more feed f fs = append_assoc (fed_one feed f) (fed_all (after_one feed f) fs) (fed_ends (after_all (after_one feed f) fs))
 
--- a stream of which nothing is lost or cut
+-- A stream without losses and cuts
 record IsWhole (s : FedStreamView) (fs : List FindingView) : Type 0 where
   unlost : has_loss s.units.pid fs ≡ false
   uncut : has_cut s.units.pid fs ≡ false
   under : under_cut s.units.pid s.units.unit fs ≡ false
   follows : s.follow ≡ is_some s.units.unit
 
--- a finding of it: at most payload in no PES packet is reported, and it is so after it too
+-- A finding of the stream reports at most payload outside a PES packet; after it the stream still has no losses or cuts.
 record IsStep (s : FedStreamView) (f : FindingView) (fs : List FindingView) : Type 0 where
-  silent : has_pid s.units.pid f.pid ≡ true → told_by s f ≡ fault_by None None (stray_of s f)
+  silent : has_pid s.units.pid f.pid ≡ true → reported_by s f ≡ fault_by None None (stray_of s f)
   uncut : has_cut s.units.pid fs ≡ false
   unlost : has_loss s.units.pid fs ≡ false
   under : under_cut s.units.pid (unit_after s f) fs ≡ false
@@ -240,7 +241,7 @@ record IsStep (s : FedStreamView) (f : FindingView) (fs : List FindingView) : Ty
 
 still_follows : (s : FedStreamView) (f : FindingView) → IsQuiet s f → follow_after s f ≡ is_some (unit_after s f)
 still_follows s f quiet =
-    same_follow s.follow (is_some s.units.unit) (is_some (unit_after s f)) (not (is_some (told_by s f))) quiet.follows quiet.goes_on
+    same_follow s.follow (is_some s.units.unit) (is_some (unit_after s f)) (not (is_some (reported_by s f))) quiet.follows quiet.goes_on
 
 whole_step : (s : FedStreamView) (f : FindingView) (fs : List FindingView) → IsWhole s (f ∷ fs) → IsStep s f fs
 unfolding has_cut Uncut
@@ -250,11 +251,11 @@ whole_step s f fs whole =
     let lost = neither (has_pid pid f.pid && is_loss (lost_by f.packet f.what)) (has_loss pid fs) whole.unlost in
     let on = uncut_step pid s.units.unit (role_of pid f) fs (sym (past_here pid s.units.unit f fs) ∙ whole.under) cut.0 in
     let quiet : IsQuiet s f = record { follows = whole.follows; goes_on = on.1 } in
-    let silent : has_pid pid f.pid ≡ true → told_by s f ≡ fault_by None None (stray_of s f) =
+    let silent : has_pid pid f.pid ≡ true → reported_by s f ≡ fault_by None None (stray_of s f) =
     λ own. only_stray s f quiet (no_loss (has_pid pid f.pid) (lost_by f.packet f.what) lost.0 own) in
     record { silent = silent; uncut = cut.1; unlost = lost.1; under = on.0; follows = still_follows s f quiet }
 
--- the first of units that all have moments, and the others
+-- The first of units that all have moments, and the units after it
 timed_clear : (d : Due) (o : Origin) (n : ℕ) (before : Option ℕ) (w : Option CarriedUnit) (ws vs : List CarriedUnit) →
     have_fault (timed d o n before ((option_to_list w ++ ws) ++ vs)) ≡ false →
     (have_fault (option_to_list (fed_with d o n before w)) ≡ false) ×
@@ -309,7 +310,7 @@ unit_dts : (base : ℕ) (before : Option ℕ) (u : AccessUnit) → (unit_at base
 unfolding unit_at
 unit_dts base before u = refl
 
--- a constant that is fixed where no clock has jumped
+-- A constant that is fixed, if no clock has jumped
 abbrev pub fixed : ℕ → Origin
 fixed base = record { now = Some base; since = 0; before = None }
 

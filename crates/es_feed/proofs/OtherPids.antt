@@ -1,4 +1,4 @@
--- A finding of a PID that no stream of a feed has: the feed does not see its body.
+-- The feed ignores the body of a finding whose PID no stream of the feed has.
 use Rattle.std.proofs.Common.{◌≡◌, ◌∙◌, ℕ, zero, suc, ◌+◌, ◌++◌, ◌==◌, ◌||◌, Bool, true, false, cond, if◌then◌else◌, is_some, Option, Some, None, List, []}
 use Rattle.std.proofs.Common.{◌∷◌, map, slice_get, slice_set, refl, sym, ap, ap₂, subst}
 use Rattle.std.specs.Prelude.{option_and_then, option_map}
@@ -26,7 +26,7 @@ use Rattle.packet_pcr.specs.declared.pcr_reading.FoundPcr.{FoundPcr}
 use Rattle.fed_streams.specs.declared.restart.Seen.TheVariants.{NoUnit}
 use Rattle.packet_pcr.specs.PacketPcr.{is_on}
 use Rattle.fed_streams.specs.Feeding.{Fed, FedStreamView, FeedView, after_all, after_at, after_one, after_place, fed_all, fed_one, fed_place, greatest_of}
-use Rattle.fed_streams.specs.Feeding.{map_fed, other_fed, packet_fault, packet_fed, place_from, restart_fed, restart_in, restarted, seen_place, told_first}
+use Rattle.fed_streams.specs.Feeding.{map_fed, other_fed, packet_fault, packet_fed, place_from, restart_fed, restart_in, restarted, seen_place, reported_first}
 use Rattle.fed_streams.specs.Feeding.{watched}
 use Rattle.fed_streams.specs.Maps.{MapView, change_of, change_place, clock_pid, current_found, current_of, is_map, map_change, map_found, map_from, map_on}
 use Rattle.fed_streams.specs.Maps.{map_with, maps_after, new_map, other_at, other_by, other_place, other_stream, set_at, set_place}
@@ -34,7 +34,7 @@ use Rattle.es_feed.specs.StreamFeeding.{stream_pids}
 use Rattle.fed_streams.specs.Ticks.{after_end_at, after_late, after_packet, after_passed, after_pcr, after_shown, fed_packet, fed_pcr, is_tick}
 use Rattle.fed_streams.specs.Ticks.{late_in, passed_from, with_shown, with_tick}
 
--- 1. The PIDs of the streams stay
+-- 1. The PIDs of the streams stay the same
 
 set_pids : (ss : List FedStreamView) (j : ℕ) (s t : FedStreamView) → slice_get ss j ≡ Some s → t.units.pid ≡ s.units.pid →
     map (λ (s : FedStreamView). s.units.pid) (slice_set ss j t) ≡ map (λ (s : FedStreamView). s.units.pid) ss
@@ -95,7 +95,7 @@ packet_pids feed found pcr =
     let marks = all_marked feed.marking found in
     pcr_pids (after_all feed marks) pcr ∙ all_pids feed marks
 
--- 2. The map that a finding has: its body is no part of it
+-- 2. The map in a finding does not depend on its body
 
 section_aligned : (w : WhatView) → section_bytes (with_alignment w) ≡ section_bytes w
 unfolding section_bytes with_alignment
@@ -139,7 +139,7 @@ begun_if : (b : Bool) (begun : Option (ℕ × Kind)) → is_map (if b then with_
 begun_if true begun = begun_with begun
 begun_if false begun = refl
 
--- what decides which map is found
+-- The map in a section, by the section's PID and bytes
 on : ℕ → Option ℕ → Option ℕ → Option (List ℕ) → Option PmtView
 on number None pid bytes = None
 on number (Some p) pid bytes = option_or None (option_and_then (pmt_in number) (if has_pid p pid then bytes else None))
@@ -169,7 +169,7 @@ marked_map m f = record {
       ∙ sym (section_if (given.is_aligned m.aligned f.pid) (without_body f.what)));
 }
 
--- what is kept of maps, and what is told of them
+-- The kept maps, and the reports about maps, are the same
 current_same : (number : ℕ) (x y : FindingView) → SameMap x y → current_found number x ≡ current_found number y
 unfolding current_found
 current_same number x y same = ap (λ (p : Option PmtView). option_map current_of p) (same.found number)
@@ -239,7 +239,7 @@ unfolding after_place seen_place
 skipped_after feed x none = rw none refl
 
 skipped_fed : (feed : FeedView) (x : FindingView) → place_from x.pid 0 feed.streams ≡ None →
-    fed_one feed x ≡ told_first feed x ++ option_to_list (restart_fed (restart_in (watched feed x) NoUnit))
+    fed_one feed x ≡ reported_first feed x ++ option_to_list (restart_fed (restart_in (watched feed x) NoUnit))
 unfolding after_place fed_place seen_place
 skipped_fed feed x none = rw none refl
 
@@ -250,8 +250,9 @@ no_fault x pid is = rw is refl
 watched_same : (feed : FeedView) (x y : FindingView) → SameMap x y → watched feed x ≡ watched feed y
 watched_same feed x y same = rw (maps_same x y feed.maps same) refl
 
-told_same : (feed : FeedView) (x y : FindingView) (pid : ℕ) → x.pid ≡ Some pid → y.pid ≡ Some pid → SameMap x y → told_first feed x ≡ told_first feed y
-told_same feed x y pid xs ys same =
+reported_same : (feed : FeedView) (x y : FindingView) (pid : ℕ) → x.pid ≡ Some pid → y.pid ≡ Some pid → SameMap x y →
+    reported_first feed x ≡ reported_first feed y
+reported_same feed x y pid xs ys same =
     ap₂ (λ (o : Option OtherStream) (n : Option NewMap). option_to_list (other_fed o)
     ++ (option_to_list (map_fed n) ++ option_to_list (packet_fed (packet_fault x)))) (other_same x y feed.maps same) (new_same x y feed.maps same)
     ∙ ap (λ (p : Option PacketFault). option_to_list (other_fed (other_stream y feed.maps))
@@ -270,7 +271,7 @@ unheard feed x y pid xs ys other same =
     record {
       after = skipped_after feed x none_x ∙ ap (λ (w : FeedView). restarted w NoUnit) (watched_same feed x y same) ∙ sym (skipped_after feed y none_y);
       fed = skipped_fed feed x none_x
-          ∙ ap₂ (λ (told : List Fed) (w : FeedView). told ++ option_to_list (restart_fed (restart_in w NoUnit))) (told_same feed x y pid xs ys same)
+          ∙ ap₂ (λ (reported : List Fed) (w : FeedView). reported ++ option_to_list (restart_fed (restart_in w NoUnit))) (reported_same feed x y pid xs ys same)
           (watched_same feed x y same)
           ∙ sym (skipped_fed feed y none_y);
     }
@@ -291,7 +292,7 @@ heard : (feed : FeedView) (m : MarkingView) (kept : List ℕ) (f : FindingView) 
 heard feed m kept f are =
     subst (λ (ks : List ℕ). Unheard feed (marked m f) (marked m (finding_but ks f))) are (heard_by feed m f (is_of_kept (stream_pids feed) f.pid) refl)
 
--- 4. All that is found
+-- 4. All findings
 
 all_after : (feed : FeedView) (m : MarkingView) (kept : List ℕ) (fs : List FindingView) → stream_pids feed ≡ kept →
     after_all feed (all_marked m fs) ≡ after_all feed (all_marked m (all_but kept fs))

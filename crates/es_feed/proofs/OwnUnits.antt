@@ -1,4 +1,4 @@
--- The units that are still to come of a PID, also where one is given before what follows it is found.
+-- The remaining units of a PID, even if a unit is given before the next finding.
 use Rattle.std.proofs.Common.{◌≡◌, ◌∙◌, ℕ, ◌++◌, ◌&&◌, ◌||◌, Bool, true, false, Option, Some, None, List, [], ◌∷◌, refl, sym, ap}
 use Rattle.std.specs.Option.{option_to_list}
 use Rattle.std.specs.Prelude.{unwrap_or}
@@ -11,9 +11,9 @@ use Rattle.es_units.proofs.UnitSteps.{uncut_carried}
 use Rattle.es_feed.specs.EachStream.{if_start, next_starts, one_by_one, starts_next}
 use Rattle.es_moments.specs.WireUnits.{CarriedUnit}
 
--- 1. To come
+-- 1. The remaining units
 
--- those that findings make whole, and the last one
+-- The units that findings make whole, and the last unit
 unfoldable pub to_come : UnitsSoFar → List FindingView → List CarriedUnit
 to_come u fs = given u fs ++ option_to_list (ended_unit false (after_findings u fs).unit)
 
@@ -48,7 +48,7 @@ unfoldable pub follows : Option CarriedUnit → Bool → Bool
 follows None next = true
 follows (Some w) next = next
 
--- so it is of the unit under way, and of those to come
+-- The current unit and the later units have one PES packet each.
 pub record AreAlone (u : UnitsSoFar) (fs : List FindingView) : Type 0 where
   pub under_way : follows u.unit (next_starts u.pid fs) ≡ true
   pub later : one_by_one u.pid fs ≡ true
@@ -79,7 +79,7 @@ pub alone_without : (u : UnitsSoFar) (fs : List FindingView) → AreAlone u fs �
 unfolding follows
 alone_without u fs a = record { under_way = refl; later = a.later }
 
--- 3. The unit under way is given before what follows it is found
+-- 3. The current unit is given before the next finding
 
 abbrev pub so_far : ℕ → Bool → Option CarriedUnit → UnitsSoFar
 so_far pid split w = record { pid = pid; split = split; unit = w }
@@ -119,7 +119,7 @@ pub to_come_early : (u : UnitsSoFar) (fs : List FindingView) → AreAlone u fs �
     to_come u fs ≡ option_to_list (ended_unit false u.unit) ++ to_come (record { pid = u.pid; split = u.split; unit = None }) fs
 to_come_early u fs a = early u.pid u.split u.unit fs a.under_way
 
--- 4. All of a PID
+-- 4. All units of a PID
 
 uncut_by : (id : ℕ) (r : RoleView) (next cut : Bool) → starts_next r next ≡ true → (next ≡ true → cut ≡ false) → unwrap_or (end_of id r) cut ≡ false
 unfolding starts_next end_of

@@ -1,4 +1,4 @@
--- What is fed of the end of a stream, PID by PID.
+-- The records at the end of a stream, PID by PID.
 use Rattle.std.proofs.Common.{◌≡◌, ◌∙◌, ◌<◌, ◌≤◌, ℕ, suc, ◌++◌, ◌==◌, true, false, List, [], length, map, drop, slice_get, Some, inl, inr, refl, sym, ap, arith}
 use Rattle.std.proofs.Common.{append_assoc}
 use Rattle.std.proofs.lemmas.Bool.Decides.{nat_tests}
@@ -17,7 +17,7 @@ use Rattle.given_marks.specs.Marking.{MarkingView, all_marked}
 use Rattle.es_feed.specs.StreamFeeding.{after_marked, fed_marked, fed_rest}
 use Rattle.es_feed.proofs.FedPackets.{all_marking, findings_more, marked_both, rest_fed}
 
--- 1. Findings after others
+-- 1. Findings after earlier findings
 
 marked_after : (feed : FeedView) (fs gs : List FindingView) → after_marked feed (fs ++ gs) ≡ after_marked (after_marked feed fs) gs
 marked_after feed fs gs =
@@ -40,7 +40,7 @@ marked_fed feed fs gs =
 abbrev of_entry : ℕ → ℕ × PidState → List FindingView
 of_entry packet x = map (with_pid x.0 packet) (ended true x.1.open_unit)
 
--- the first i of them have ended
+-- The first i PIDs have ended.
 pub record EndsSoFar (packet i : ℕ) (states : States) (first : FeedView) (begun : List Fed) (feed : FeedView) (fed : List Fed) : Type 0 where
   pub feed_is : after_marked first (ended_found packet states) ≡ after_marked feed (ended_found packet (drop i states))
   pub fed_is : begun ++ fed_marked first (ended_found packet states) ≡ fed ++ fed_marked feed (ended_found packet (drop i states))
@@ -90,7 +90,7 @@ ends_fed packet i states first begun feed fed past h =
     sym (h.fed_is ∙ ap (λ (xs : States). fed ++ fed_marked feed (ended_found packet xs)) (drop_all i states past)
     ∙ ap (λ (xs : List Fed). fed ++ xs) (none_fed packet feed) ∙ append-nil fed)
 
--- 3. All of the end
+-- 3. The whole end
 
 found_at_end : (s : StreamState) → s.ended ≡ false → (finished s).found ≡ s.found ++ (held_found s.packets s.held ++ ended_found s.packets s.states)
 found_at_end s unended = rw unended refl
@@ -98,7 +98,7 @@ found_at_end s unended = rw unended refl
 none_held : (s : StreamState) → is_aligned s ≡ true → length s.held ≡ 0
 none_held s aligned = grind (arith, nat_tests)
 
--- the bytes of a packet that is not whole, then the PIDs
+-- The bytes of an unfinished packet, then the PIDs
 end_found : (s t : StreamState) (rest : List ℕ) → length rest < 188 → is_aligned s ≡ true → s.found ≡ [] → s.ended ≡ false → t ≡ pushed s rest →
     (finished (pushed s rest)).found ≡ held_found t.packets t.held ++ ended_found t.packets t.states
 end_found s t rest few aligned none unended is =

@@ -1,4 +1,4 @@
--- Packets in which nothing is found, that have a payload alone: they feed nothing.
+-- Packets without findings and with a payload alone give no record.
 use Rattle.std.proofs.Common.{◌≡◌, ℕ, None, List, [], Ok, refl}
 use Rattle.ts_packet.specs.Reading.{packet_at}
 use Rattle.pid_findings.specs.GoingOn.{plain_view}

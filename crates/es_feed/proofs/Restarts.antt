@@ -1,4 +1,4 @@
--- Where nothing is told no encoder restarts.
+-- If no fault is reported, no encoder restarts.
 use Rattle.std.proofs.Common.{◌≡◌, ℕ, ◌++◌, ◌||◌, Bool, true, false, Option, Some, None, Ok, Err, List, [], ◌∷◌, refl}
 use Rattle.std.specs.Option.{option_to_list}
 use Rattle.es_feed.specs.EachStream.{has_fault, have_fault, units_fed, fed_if}
@@ -6,7 +6,7 @@ use Rattle.fed_streams.specs.Feeding.{Fed, falls, is_fallen, restart_fed, seen_o
 use Rattle.fed_streams.specs.Restarts.{restart_of}
 use Rattle.fed_streams.specs.declared.feed_fault.Restart.{Restart}
 
--- 1. Nothing is told
+-- 1. No fault is reported
 
 fault_head : (x : Bool) (all xs ys : Bool) → (x || all) ≡ false → (all ≡ false → (xs ≡ false) × (ys ≡ false)) → ((x || xs) ≡ false) × (ys ≡ false)
 fault_head true all xs ys none rest = absurd cc
@@ -35,9 +35,9 @@ unfolding restart_of seen_of
 no_restart moment fallen None x none = refl
 no_restart moment fallen (Some (packet, stamp)) x none = rw none refl
 
--- 3. Whatever comes, a restart is no unit
+-- 3. The report of a restart is no unit
 
-pub told_restart : (r : Option Restart) (n : ℕ) → units_fed n (option_to_list (restart_fed r)) ≡ []
+pub reported_restart : (r : Option Restart) (n : ℕ) → units_fed n (option_to_list (restart_fed r)) ≡ []
 unfolding restart_fed fed_if
-told_restart None n = refl
-told_restart (Some restart) n = refl
+reported_restart None n = refl
+reported_restart (Some restart) n = refl

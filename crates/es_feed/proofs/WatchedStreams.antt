@@ -1,4 +1,4 @@
--- The slips of a stream while it comes.
+-- The slips of a stream while its bytes arrive.
 use Rattle.std.proofs.Common.{◌≡◌, ◌∙◌, ◌≤◌, ℕ, ◌+◌, ◌++◌, ◌==◌, ◌/◌, ◌||◌, if◌then◌else◌, Bool, true, false, Ok, Err, List, [], ◌∷◌, length, drop, refl, sym}
 use Rattle.std.proofs.Common.{ap, subst, arith, drop-drop}
 use Rattle.std.specs.List.{flat_map}
@@ -18,9 +18,9 @@ use Rattle.es_feed.specs.Watching.{AreRounds, AreSlips, IsWatchedOf, Round, all_
 use Rattle.es_feed.specs.declared.slip_watch.StreamPlace.{StreamPlace}
 use Rattle.es_feed.proofs.Restarts.{fault_split}
 
--- 1. A stretch more
+-- 1. One more stretch
 
--- what is noted of slips is so whatever the fields are
+-- The noted slips do not depend on the fields of the notes.
 after_slip : (s : Stretch) (rest : List ℕ) (found : List Slip) (p : StreamPlace) (n : NotesView) → n.slips ≡ found → n.packet ≡ p.packet → n.start ≡ p.start →
     (none : Bool) → (s.slipped == 0) ≡ none →
     with_slip s.slipped (with_stretch s.in_step rest n) ≡ notes_at (with_stretch s.in_step rest n).fields (slips_with s p found) (place_with s p)
@@ -113,7 +113,7 @@ round_more fed more found next all r =
           ∙ ap (λ (xs : List Fed). xs ++ (more ++ slips_fed next)) r.all_is;
     }
 
--- where nothing is told there is no slip
+-- If no fault is reported, there is no slip.
 no_slip : (found : List Slip) → have_fault (slips_fed found) ≡ false → slips_fed found ≡ []
 unfolding has_fault
 no_slip [] none = refl
@@ -131,7 +131,7 @@ clear_is_fed first bytes all w none =
     let r = w.rounds in
     sym r.all_is ∙ rounds_clear r.rounds (ap have_fault r.all_is ∙ none) ∙ r.fed_is
 
--- 4. A description of another stream is told
+-- 4. A description of another stream is reported
 
 head_clear : (x : Fed) → has_fault x ≡ false → is_refusal x ≡ false
 unfolding has_fault is_refusal
@@ -148,5 +148,5 @@ neither (x ∷ fed) none =
     let two = both_false (has_fault x) (have_fault fed) none in
     ap (λ (b : Bool). b || have_refusal fed) (head_clear x two.0) ∙ neither fed two.1
 
-pub refusal_told : (fed : List Fed) → have_fault fed ≡ false → have_refusal fed ≡ true → ⊥
-refusal_told fed none refused = let no : true ≡ false = sym refused ∙ neither fed none in cc
+pub refusal_reported : (fed : List Fed) → have_fault fed ≡ false → have_refusal fed ≡ true → ⊥
+refusal_reported fed none refused = let no : true ≡ false = sym refused ∙ neither fed none in cc

@@ -26,7 +26,7 @@ const JUMP_PAUSE: u64 = 27_000;
 
 // Returns the report on a clock, if it jumps.
 #[tactic(auto, unfolding(fed_streams::specs::Ticks::jump_fed))]
-fn told_jump(jump: Option<ClockJump>) -> Option<(u8, Result<Unit, FeedFault>)>
+fn reported_jump(jump: Option<ClockJump>) -> Option<(u8, Result<Unit, FeedFault>)>
     ensures { result ≡ spec.jump_fed jump }
 {
     match jump {
@@ -50,7 +50,7 @@ fn tick(alloc: &Global, moment: u64) -> (u8, Result<Unit, FeedFault>)
 
 impl UnitFeed {
     // Returns the report on a silence, if a tick ends its first 10 s.
-    fn told_silence(&self, late: u64) -> Option<(u8, Result<Unit, FeedFault>)>
+    fn reported_silence(&self, late: u64) -> Option<(u8, Result<Unit, FeedFault>)>
         ensures { option_to_list result ≡ spec.silence self.now late }
     {
         let last = greatest_of(0, &self.streams);
@@ -73,7 +73,7 @@ impl UnitFeed {
         if late <= self.greatest() || late > LAST_DTS {
             return Ok(());
         }
-        push_fed(fed, self.told_silence(late))?;
+        push_fed(fed, self.reported_silence(late))?;
         self.ticked = late;
         fed.push(tick(alloc, late))?;
         Ok(())
@@ -134,7 +134,7 @@ impl UnitFeed {
         ensures feed { OnOk result (self.new ≡ spec.after_shown self.old pcr) }
         ensures fed { OnOk result (fed.new.items ≡ fed.old.items ++ spec.fed_shown self.old pcr) }
     {
-        push_fed(fed, told_jump(jump(pcr, self.shown)))?;
+        push_fed(fed, reported_jump(jump(pcr, self.shown)))?;
         self.show(pcr);
         match late_of(self.origin.now, self.greatest(), pcr.base) {
             None => Ok(()),

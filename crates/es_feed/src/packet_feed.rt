@@ -159,6 +159,8 @@ impl PacketFeed {
     }
 
     /// Takes the whole packets at the front of bytes, and returns how many bytes these have.
+    ///
+    /// After an `AllocError` drop the feed and `fed`: nothing is promised of their contents.
     pub fn take_all(
         &mut self,
         alloc: &Global,
@@ -181,6 +183,8 @@ impl PacketFeed {
 
     /// Ends the packets, with these bytes of the next one: feeds what the end decides, one PID after another, and then
     /// the last unit of each stream, in the order of the streams.
+    ///
+    /// After an `AllocError` drop `fed`: nothing is promised of its contents.
     pub fn finish(
         self,
         alloc: &Global,

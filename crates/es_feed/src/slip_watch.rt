@@ -118,7 +118,8 @@ impl SlipWatch {
     pub(crate) fn push(&mut self, piece: &[u8], found: &mut Vec<Slip>) -> Result<(), AllocError>
         ensures taken { (stream : List ℕ) (gone : List FoundSlip) →
             spec.AreSlips stream false self.old.held self.old.place (gone ++ found.old.items) →
-            OnOk result (spec.AreSlips (stream ++ piece.now) false self.new.held self.new.place (gone ++ found.new.items)) }
+            OnOk result (spec.AreSlips (stream ++ piece.now) false self.new.held self.new.place
+            (gone ++ found.new.items)) }
         ensures held { OnOk result (length self.new.held < 1128) }
     {
         self.held.extend_from_slice(piece)?;

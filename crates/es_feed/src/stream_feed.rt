@@ -78,6 +78,8 @@ impl StreamFeed {
     /// Takes a piece of the stream, of any size; each unit that is whole then goes to `fed`, at its moment with the
     /// number of its stream, or why it can't have one, and so do ticks, losses, changes and jumps. The caller may take
     /// these away at any time: `gone` went before.
+    ///
+    /// After an `AllocError` drop the feed and `fed`: nothing is promised of their contents.
     pub fn push(
         &mut self,
         piece: &[u8],
@@ -98,6 +100,8 @@ impl StreamFeed {
     }
 
     /// Ends the stream: feeds what the end decides, and then the last unit of each stream, in the order of the streams.
+    ///
+    /// After an `AllocError` drop `fed`: nothing is promised of its contents.
     pub fn finish(self, fed: &mut Vec<(u8, Result<Unit, FeedFault>)>) -> Result<(), AllocError>
         ensures { (first : FeedView) (stream : List ℕ) (gone : List Fed) →
             spec.IsFedBy first stream false self (gone ++ fed.old.items) →

@@ -77,7 +77,7 @@ pub(crate) fn push_fed(
 
 // Returns the report on a map that changes, if one changes.
 #[tactic(auto, unfolding(fed_streams::specs::Feeding::map_fed))]
-fn told_map(change: Option<NewMap>) -> Option<(u8, Result<Unit, FeedFault>)>
+fn reported_map(change: Option<NewMap>) -> Option<(u8, Result<Unit, FeedFault>)>
     ensures { result ≡ spec.map_fed change }
 {
     match change {
@@ -88,7 +88,7 @@ fn told_map(change: Option<NewMap>) -> Option<(u8, Result<Unit, FeedFault>)>
 
 // Returns the report on a description of another stream.
 #[tactic(auto, unfolding(fed_streams::specs::Feeding::other_fed))]
-fn told_other(other: Option<OtherStream>) -> Option<(u8, Result<Unit, FeedFault>)>
+fn reported_other(other: Option<OtherStream>) -> Option<(u8, Result<Unit, FeedFault>)>
     ensures { result ≡ spec.other_fed other }
 {
     match other {
@@ -115,7 +115,7 @@ fn packet_fault(finding: &Finding<'_>) -> Option<PacketFault>
 
 // Returns the report on a packet, if it is not read.
 #[tactic(auto, unfolding(fed_streams::specs::Feeding::packet_fed))]
-fn told_packet(fault: Option<PacketFault>) -> Option<(u8, Result<Unit, FeedFault>)>
+fn reported_packet(fault: Option<PacketFault>) -> Option<(u8, Result<Unit, FeedFault>)>
     ensures { result ≡ spec.packet_fed fault }
 {
     match fault {
@@ -126,7 +126,7 @@ fn told_packet(fault: Option<PacketFault>) -> Option<(u8, Result<Unit, FeedFault
 
 // Returns the report on a restart, if there is one.
 #[tactic(auto, unfolding(fed_streams::specs::Feeding::restart_fed))]
-fn told_restart(restart: Option<Restart>) -> Option<(u8, Result<Unit, FeedFault>)>
+fn reported_restart(restart: Option<Restart>) -> Option<(u8, Result<Unit, FeedFault>)>
     ensures { result ≡ spec.restart_fed restart }
 {
     match restart {
@@ -223,7 +223,7 @@ impl UnitFeed {
         let found = take_at(&mut self.streams, k, alloc, due, &mut self.origin, finding)?;
         let seen = seen_of(self.shown, found.start, &found.unit);
         push_fed(fed, found.unit)?;
-        push_fed(fed, found.told)?;
+        push_fed(fed, found.reported)?;
         Ok(seen)
     }
 
@@ -238,7 +238,7 @@ impl UnitFeed {
             ++ option_to_list (spec.restart_fed (spec.restart_in self.old seen))) }
     {
         let restart = restart_of(self.greatest(), self.fallen, seen);
-        push_fed(fed, told_restart(restart))?;
+        push_fed(fed, reported_restart(restart))?;
         self.origin = origin_by(self.origin, restart);
         self.fallen = fallen_after(self.fallen, seen);
         Ok(())
@@ -252,7 +252,8 @@ impl UnitFeed {
         fed: &mut Vec<(u8, Result<Unit, FeedFault>)>,
     ) -> Result<(), AllocError>
         ensures feed { OnOk result (self.new ≡ spec.after_found_in self.old (finding_view finding.now)) }
-        ensures fed { OnOk result (fed.new.items ≡ fed.old.items ++ spec.fed_found self.old (finding_view finding.now)) }
+        ensures fed { OnOk result (fed.new.items
+            ≡ fed.old.items ++ spec.fed_found self.old (finding_view finding.now)) }
     {
         let seen = self.take_unit(alloc, finding, fed)?;
         self.restart(seen, fed)
@@ -261,6 +262,8 @@ impl UnitFeed {
     /// Takes a finding; the unit that it makes whole goes to `fed`, at its moment with the number of its stream, or why
     /// it can't have one, and so does a loss of packets of a stream, a cut of its units, the new version of a map, a
     /// packet that is not read, or a restart.
+    ///
+    /// After an `AllocError` drop the feed and `fed`: nothing is promised of their contents.
     pub fn take(
         &mut self,
         alloc: &Global,
@@ -270,14 +273,16 @@ impl UnitFeed {
         ensures feed { OnOk result (self.new ≡ spec.after_one self.old (finding_view finding.now)) }
         ensures fed { OnOk result (fed.new.items ≡ fed.old.items ++ spec.fed_one self.old (finding_view finding.now)) }
     {
-        push_fed(fed, told_other(other_stream(&self.maps, finding)))?;
+        push_fed(fed, reported_other(other_stream(&self.maps, finding)))?;
         let change = watch(&mut self.maps, finding);
-        push_fed(fed, told_map(change))?;
-        push_fed(fed, told_packet(packet_fault(finding)))?;
+        push_fed(fed, reported_map(change))?;
+        push_fed(fed, reported_packet(packet_fault(finding)))?;
         self.take_found(alloc, finding, fed)
     }
 
     /// Takes findings, one after another.
+    ///
+    /// After an `AllocError` drop the feed and `fed`: nothing is promised of their contents.
     pub fn take_all(
         &mut self,
         alloc: &Global,
@@ -285,7 +290,8 @@ impl UnitFeed {
         fed: &mut Vec<(u8, Result<Unit, FeedFault>)>,
     ) -> Result<(), AllocError>
         ensures feed { OnOk result (self.new ≡ spec.after_all self.old (map finding_view findings.now)) }
-        ensures fed { OnOk result (fed.new.items ≡ fed.old.items ++ spec.fed_all self.old (map finding_view findings.now)) }
+        ensures fed { OnOk result (fed.new.items
+            ≡ fed.old.items ++ spec.fed_all self.old (map finding_view findings.now)) }
     {
         for finding in findings {
             self.take(alloc, finding, fed)?;
@@ -294,6 +300,8 @@ impl UnitFeed {
     }
 
     /// Ends the findings: feeds the last unit of each stream, in the order of the streams.
+    ///
+    /// After an `AllocError` drop `fed`: nothing is promised of its contents.
     pub fn finish(self, fed: &mut Vec<(u8, Result<Unit, FeedFault>)>) -> Result<(), AllocError>
         ensures { OnOk result (fed.new.items ≡ fed.old.items ++ spec.fed_ends self) }
     {

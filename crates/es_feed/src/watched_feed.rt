@@ -40,8 +40,8 @@ fn push_slips(
 {
     for slip in found {
         let Slip { packet, size, .. } = *slip;
-        let told = FeedFault::Slipped(SlippedBytes { packet, size });
-        fed.push((NO_STREAM, Err(told)))?;
+        let reported = FeedFault::Slipped(SlippedBytes { packet, size });
+        fed.push((NO_STREAM, Err(reported)))?;
     }
     Ok(())
 }
@@ -60,6 +60,8 @@ impl WatchedFeed {
 
     /// Takes a piece of the stream, of any size: what its packets feed goes to `fed`, where nothing is, and then its
     /// slips.
+    ///
+    /// After an `AllocError` drop the feed and `fed`: nothing is promised of their contents.
     pub fn push(
         &mut self,
         piece: &[u8],
@@ -79,6 +81,8 @@ impl WatchedFeed {
     }
 
     /// Ends the stream: what the end feeds goes to `fed`, where nothing is, and then the slips that it decides.
+    ///
+    /// After an `AllocError` drop `fed`: nothing is promised of its contents.
     pub fn finish(self, fed: &mut Vec<(u8, Result<Unit, FeedFault>)>) -> Result<(), AllocError>
         requires { fed.old.items ≡ [] }
         ensures { (first : FeedView) (stream : List ℕ) (before : List Fed) →

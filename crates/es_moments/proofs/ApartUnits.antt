@@ -1,4 +1,4 @@
--- Units of data streams that are due at one moment, one by one.
+-- Units of data streams that are due at the same moment, one by one
 use Rattle.std.proofs.Common.{◌≡◌, ◌≤◌, ◌<◌, ◌∙◌, ℕ, zero, suc, ◌+◌, ◌-◌, ◌%◌, ◌^◌, ◌++◌, ◌==◌, ◌&&◌, ◌||◌, nat_le, Bool, true, false, Option, Some, None, List}
 use Rattle.std.proofs.Common.{[], ◌∷◌, length, map, refl, sym, ap, ap₂, arith, drop, get_or, add-one}
 use Rattle.std.proofs.Math.Seq.{drop-cons}
@@ -19,12 +19,12 @@ use Rattle.es_moments.specs.WireUnits.{CarriedUnit, unit_with}
 pub same_number : (a b : ℕ) → (a == b) ≡ true → a ≡ b
 same_number a b e = grind (arith, nat_tests)
 
--- 1. One after another
+-- 1. One unit after another
 
 next_unit : (i : ℕ) (us : List CarriedUnit) (u : CarriedUnit) → i < length us → u ≡ get_or us i u → drop i us ≡ u ∷ drop (i + 1) us
 next_unit i us u below here = rw (drop-cons us i u below, add-one i, sym here) refl
 
--- whether a unit is due when the one at a place is
+-- In a data stream a unit is due at the same moment as the next unit if their DTS are equal.
 same_head : (u v : CarriedUnit) (us later : List CarriedUnit) → later ≡ v ∷ us → is_same_next u later ≡ (u.stream_id == 0xBD && v.unit.dts == u.unit.dts)
 unfolding is_same_next
 same_head u v us later is = rw is refl
@@ -52,7 +52,7 @@ unfolding apart_dts
 dts_end all out i us place is over =
     sym (is ∙ ap (λ (l : List CarriedUnit). out ++ apart_dts place l) (drop_all i us over) ∙ append-nil out)
 
--- 2. Whether two in a row are due at one moment
+-- 2. Two units in a row that are due at the same moment
 
 pub same_here : (i : ℕ) (us : List CarriedUnit) (u : CarriedUnit) → i < length us → u ≡ get_or us i u → is_same_next u (drop (i + 1) us) ≡ true →
     has_same (drop i us) ≡ true
@@ -68,7 +68,7 @@ pub same_none : (i : ℕ) (us : List CarriedUnit) → length us ≤ i → has_sa
 unfolding has_same
 same_none i us over = rw (drop_all i us over) refl
 
--- 3. All but DTS is kept
+-- 3. Only the DTS changes
 
 length_apart : (place : ℕ) (us : List CarriedUnit) → length (apart_dts place us) ≡ length us
 unfolding apart_dts
@@ -105,7 +105,7 @@ pub apart_keep : ApartKeep
 unfolding AllKept
 apart_keep us = restamped_keep (apart_dts 0 us) us (length_apart 0 us)
 
--- 4. Where no two in a row are due at one moment
+-- 4. No two units in a row are due at the same moment
 
 own_dts : (same : Bool) (place dts : ℕ) → same ≡ false → apart_by same place dts ≡ dts
 unfolding apart_by
@@ -144,7 +144,7 @@ and_false false c is = refl
 zero_test : (n : ℕ) → n ≡ 0 → (n == 0) ≡ true
 zero_test n is = rw is refl
 
--- a DTS that rises is another one than that before it
+-- A DTS that rises differs from the DTS before it.
 pub rises : (base : ℕ) (before : Option ℕ) (d e : ℕ) → dts_not_increasing base (Some (dts_at base before d)) e ≡ None → (e == d) ≡ false
 unfolding dts_not_increasing
 rises base before d e none =
@@ -179,9 +179,9 @@ none_same limit base place before (u ∷ us) none =
 pub sound_stay : SoundStay
 sound_stay limit base place us none = apart_stay us (none_same limit base place None us none)
 
--- 6. A row
+-- 6. A row of units due at the same moment
 
--- from a stamp so much earlier to one that is one less earlier, and to the stamp itself
+-- The stamps of a row rise by one, and the stamp of unit n is 63 - n before its own DTS.
 one_later : (n d : ℕ) → n < 63 → distance (distance (63 - n) d) (distance (63 - (n + 1)) d) ≡ 1
 unfolding distance
 one_later n d few = omega (arith, few)

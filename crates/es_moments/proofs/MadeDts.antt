@@ -1,10 +1,10 @@
--- What is made of moments, one by one.
+-- DTS that are made from moments, one by one
 use Rattle.std.proofs.Common.{◌≡◌, ◌≤◌, ◌<◌, ◌∙◌, ℕ, suc, Bool, if◌then◌else◌, nat_le, arith, ◌+◌, ◌-◌, ◌%◌, ◌^◌, ◌++◌, max, true, false, nat_lt, refl, sym, ap}
 use Rattle.std.proofs.Common.{add-one, List, [], ◌∷◌, length, drop, get_or, None, Some}
 use Rattle.std.proofs.Math.Seq.{drop-cons}
 use Rattle.std.proofs.lemmas.List.{append_assoc, append-nil, drop_all, length-map}
 use Rattle.pes_packet.specs.declared.marks.Marks.{Marks}
-use Rattle.es_moments.specs.MadeDts.{nearest, moments_after, moments_of, placed, in_order, shift_of, made_dts, pts_of, made_units, max_ahead, stands_first}
+use Rattle.es_moments.specs.MadeDts.{nearest, moments_after, moments_of, placed, in_order, shift_of, made_dts, pts_of, made_units, max_ahead, is_first}
 use Rattle.es_moments.specs.MadeDts.{first_same_pts, first_late_pts, with_dts}
 use Rattle.es_moments.proofs.UnitMoments.{content, contents}
 use Rattle.es_moments.specs.declared.dts_from_pts.DtsFault.TheVariants.{SamePts, PtsTooLate}
@@ -42,11 +42,11 @@ unfolding max_ahead
 ahead_short [] moments none = refl
 ahead_short (x ∷ order) moments none = absurd cc
 
-pub same_here : (order rest : List ℕ) (x : ℕ) → order ≡ x ∷ rest → stands_first x rest ≡ true → first_same_pts order ≡ Some (SamePts (x % 2 ^ 33))
+pub same_here : (order rest : List ℕ) (x : ℕ) → order ≡ x ∷ rest → is_first x rest ≡ true → first_same_pts order ≡ Some (SamePts (x % 2 ^ 33))
 unfolding first_same_pts
 same_here order rest x is same = rw (is, same) refl
 
-pub same_later : (order rest : List ℕ) (x : ℕ) → order ≡ x ∷ rest → stands_first x rest ≡ false → first_same_pts order ≡ first_same_pts rest
+pub same_later : (order rest : List ℕ) (x : ℕ) → order ≡ x ∷ rest → is_first x rest ≡ false → first_same_pts order ≡ first_same_pts rest
 unfolding first_same_pts
 same_later order rest x is other = rw (is, other) refl
 
@@ -80,7 +80,7 @@ unfolding first_late_pts
 late_short shift i [] moments none = refl
 late_short shift i (x ∷ order) moments none = absurd cc
 
--- units with their DTS, one by one
+-- One more unit takes the next DTS.
 pub dts_more : (dts later : List ℕ) (d : ℕ) (us rest out : List CarriedUnit) (u x : CarriedUnit) → dts ≡ d ∷ later → us ≡ u ∷ rest →
     x ≡ unit_with u.packet u.stream_id d u.unit.pts u.unit.marks u.unit.bytes → out ++ with_dts dts us ≡ (out ++ x ∷ []) ++ with_dts later rest
 unfolding with_dts
@@ -100,7 +100,7 @@ dts_end (d ∷ dts) us none = rw none refl
 pub dts_done : (all out rest : List CarriedUnit) → all ≡ out ++ rest → rest ≡ [] → out ≡ all
 dts_done all out rest is none = sym (is ∙ ap (λ (l : List CarriedUnit). out ++ l) none ∙ append-nil out)
 
--- units with other DTS have the same bytes
+-- Units with other DTS have the same bytes.
 length_moments : (moment : ℕ) (stamps : List ℕ) → length (moments_after moment stamps) ≡ length stamps
 unfolding moments_after
 length_moments moment [] = refl

@@ -1,4 +1,4 @@
--- Units that are merged, and what is left of their streams.
+-- Units that are merged, and the units that remain in their streams
 use Rattle.std.proofs.Common.{◌≡◌, ◌<◌, ◌==◌, ℕ, ◌+◌, ◌++◌, drop, Option, Some, None, List, [], ◌∷◌, All, length, map, slice_get, slice_set, slice_index_or}
 use Rattle.std.proofs.Common.{get_or, sum_by, zero, suc, sym, ap, ◌∙◌, inl, inr, arith}
 use Rattle.std.specs.List.{filter}
@@ -30,7 +30,7 @@ units_same k units u = units_more k units (k, u) ∙ ap (λ us. units_of k units
 units_other : (j k : ℕ) (units : List (ℕ × AccessUnit)) (u : AccessUnit) → (j ≡ k → ⊥) → units_of j (units ++ (k, u) ∷ []) ≡ units_of j units
 units_other j k units u apart = units_more j units (k, u) ∙ ap (λ us. units_of j units ++ us) (other_none j k u apart) ∙ append-nil (units_of j units)
 
--- ---- a unit more is merged
+-- One more unit is merged
 
 get_set : {X : Type 0} (xs : List X) (k : ℕ) (x y : X) → slice_get xs k ≡ Some x → slice_get (slice_set xs k y) k ≡ Some y
 get_set [] k x y is = absurd cc
@@ -47,7 +47,7 @@ get_other (z ∷ xs) (suc j) (suc k) y apart = get_other xs j k y (λ e. apart (
 some_same : {X : Type 0} (x y : X) → Some x ≡ Some y → x ≡ y
 some_same x y e = cc
 
--- what is left of the stream that has it
+-- In the stream of the unit, the merged units and the remaining units are all units.
 own_left : (streams left : List (List AccessUnit)) (units : List (ℕ × AccessUnit)) (k : ℕ) (u : AccessUnit) (rest us : List AccessUnit) →
     AreLeft streams left units → slice_get left k ≡ Some (u ∷ rest) → slice_get streams k ≡ Some us → units_of k (units ++ (k, u) ∷ []) ++ rest ≡ us
 own_left streams left units k u rest us are at is =
@@ -55,7 +55,7 @@ own_left streams left units k u rest us are at is =
     let e : u ∷ rest ≡ old.0 = some_same (u ∷ rest) old.0 (sym at ∙ old.1) in
     ap (λ l. l ++ rest) (units_same k units u) ∙ append_assoc (units_of k units) (u ∷ []) rest ∙ ap (λ l. units_of k units ++ l) e ∙ old.2
 
--- and of another
+-- In any different stream, the merged units and the remaining units are all units.
 other_left : (streams left : List (List AccessUnit)) (units : List (ℕ × AccessUnit)) (j k : ℕ) (u : AccessUnit) (rest us : List AccessUnit) →
     AreLeft streams left units → (j ≡ k → ⊥) → slice_get streams j ≡ Some us →
     (x : List AccessUnit) × (slice_get (slice_set left k rest) j ≡ Some x) × (units_of j (units ++ (k, u) ∷ []) ++ x ≡ us)
@@ -71,7 +71,7 @@ each_left streams left units k u rest are at j us is = elim (cases_eq j k) [
   | inr apart ↦ other_left streams left units j k u rest us are apart is
 ]
 
--- it is taken after those before it
+-- The unit is taken after the units before it.
 taken_more : (units : List (ℕ × AccessUnit)) (streams left : List (List AccessUnit)) (k : ℕ) (u : AccessUnit) (rest : List AccessUnit) →
     AreTaken streams units left → due left ≡ Some k → slice_get left k ≡ Some (u ∷ rest) → AreTaken streams (units ++ (k, u) ∷ []) (slice_set left k rest)
 unfolding AreTaken
@@ -94,7 +94,7 @@ one_more streams left units k u rest are next at =
       order = taken_more units streams left k u rest are.order next at;
     }
 
--- one fewer is left
+-- One unit fewer remains.
 pub one_fewer : (left : List (List AccessUnit)) (k : ℕ) (u : AccessUnit) (rest : List AccessUnit) → slice_get left k ≡ Some (u ∷ rest) →
     sum_by length (slice_set left k rest) + 1 ≡ sum_by length left
 one_fewer left k u rest at =
@@ -102,7 +102,7 @@ one_fewer left k u rest at =
     let here : length (get_or left k []) ≡ suc (length rest) = ap length (get_or_from_slice_get left k (u ∷ rest) [] at) in
     omega (arith, moved, here)
 
--- ---- the next unit of a stream
+-- The next unit of a stream
 
 pub taken_if : {X : Type 0} (f : X → List AccessUnit) (qs : List X) (k : ℕ) (q q' : X) (r : Option AccessUnit) → k < length qs →
     f (slice_index_or qs k q) ≡ option_to_list r ++ f q' → IfSome r (λ u. TakesNext (map f qs) (map f (slice_set qs k q')) k u)
@@ -121,7 +121,7 @@ none_if f qs k q q' (Some u) lt is empty = tt
 pub some_or_none : (u : AccessUnit) (rest : List AccessUnit) → ◌≡◌ {A = Option (List AccessUnit)} (Some []) (Some (u ∷ rest)) → ⊥
 some_or_none u rest e = absurd cc
 
--- when each stream is due next, after a unit is taken from stream k
+-- After a unit is taken from stream k, only the next DTS of stream k changes.
 pub heads_more : {X : Type 0} (f : X → List AccessUnit) (qs after : List X) (heads : List (Option ℕ)) (k : ℕ) (q : X) (u : AccessUnit) (rest : List AccessUnit)
     (dts : Option ℕ) →
     heads ≡ map (λ s. head_dts (f s)) qs → slice_get (map f qs) k ≡ Some (u ∷ rest) → map f after ≡ slice_set (map f qs) k rest →
@@ -136,7 +136,7 @@ heads_more f qs after heads k q u rest dts are at left read is =
     ∙ ap (λ (hs : List (Option ℕ)). slice_set hs k (head_dts rest)) (map-map head_dts f qs) in
     ap (λ (o : Option ℕ). slice_set heads k o) (is ∙ ap head_dts own) ∙ ap (λ (hs : List (Option ℕ)). slice_set hs k (head_dts rest)) are ∙ sym each
 
--- ---- the beginning and the end
+-- The start and the end of the merge
 
 pub none_merged : (streams : List (List AccessUnit)) → AreLeft streams streams []
 unfolding AreTaken

@@ -1,4 +1,4 @@
--- The stream that is due next.
+-- The stream that is due next
 use Rattle.std.proofs.Common.{◌≡◌, ℕ, ◌+◌, suc, Option, Some, None, List, [], ◌∷◌, All, slice_get, slice_index_or, length, drop, map, ◌<◌, ◌≤◌, refl, sym, ◌∙◌}
 use Rattle.std.proofs.Common.{ap, ◌⊎◌, inl, inr, nat_lt, arith}
 use Rattle.std.proofs.lemmas.Bool.{cases_Bool}
@@ -8,7 +8,7 @@ use Rattle.std.proofs.lemmas.List.Elements.{All-nil, All-cons}
 use Rattle.pes_packet.specs.AccessUnits.{AccessUnit}
 use Rattle.es_moments.specs.Merging.{head_dts, earlier, next_of, next_head}
 
--- once a stream is found one is
+-- If a stream is found, one more step still finds a stream.
 pub some_kept : (k : ℕ) (b : ℕ × ℕ) (o : Option ℕ) → (b' : ℕ × ℕ) × (earlier (Some b) k o ≡ Some b')
 unfolding earlier
 some_kept k b None = (b, λ i. Some b)
@@ -26,7 +26,7 @@ unfolding earlier
 some_found None k dts = ((k, dts), λ i. Some (k, dts))
 some_found (Some b) k dts = some_kept k b (Some dts)
 
--- if there is none, no stream has a unit left
+-- If no stream is found, no stream has a unit left.
 pub none_next : (k : ℕ) (best : Option (ℕ × ℕ)) (streams : List (List AccessUnit)) → next_of k best streams ≡ None → All (λ us. us ≡ []) streams
 unfolding next_of head_dts
 none_next k best [] is = All-nil (λ us. us ≡ [])
@@ -35,7 +35,7 @@ none_next k best ((u ∷ us) ∷ rest) is =
     let found = some_found best k u.dts in
     absurd (never_none (k + 1) found.0 rest (rw found.1 at is))
 
--- the stream of that number, counted from k, has a unit
+-- The stream with this number, counted from k, has a unit
 pub HasUnit : List (List AccessUnit) → ℕ → ℕ → Type 0
 HasUnit streams k at = (i : ℕ) × (u : AccessUnit) × (rest : List AccessUnit) × (at ≡ k + i) × (slice_get streams i ≡ Some (u ∷ rest))
 
@@ -64,7 +64,7 @@ some_next k best (us ∷ rest) b is = elim (some_next (k + 1) (earlier best k (h
 at_first : (n i : ℕ) → n ≡ 0 + i → n ≡ i
 at_first n i is = omega (arith, is)
 
--- the stream that is found has a unit
+-- The stream that is found has a unit.
 pub first_next : (streams : List (List AccessUnit)) (b : ℕ × ℕ) → next_of 0 None streams ≡ Some b →
     (u : AccessUnit) × (rest : List AccessUnit) × (slice_get streams b.0 ≡ Some (u ∷ rest))
 unfolding HasUnit
@@ -73,7 +73,7 @@ first_next streams b is = elim (some_next 0 None streams b is) [
   | inr has ↦ (has.1, has.2, rw (at_first b.0 has.0 has.3) has.4)
 ]
 
--- the same by the times when streams are due next
+-- The search over the next DTS of the streams finds the stream that the search over their units finds.
 same_next : {X : Type 0} (f : X → List AccessUnit) (k : ℕ) (best : Option (ℕ × ℕ)) (qs : List X) →
     next_head k best (map (λ q. head_dts (f q)) qs) ≡ next_of k best (map f qs)
 unfolding next_head next_of
@@ -85,7 +85,7 @@ pub found_by : {X : Type 0} (f : X → List AccessUnit) (qs : List X) (heads rea
     read ≡ heads → found ≡ next_head 0 None read → found ≡ wanted → next_of 0 None (map f qs) ≡ wanted
 found_by f qs heads read found wanted are same is wants = sym (same_next f 0 None qs) ∙ ap (next_head 0 None) (sym (same ∙ are)) ∙ sym is ∙ wants
 
--- one stream on, and at the end
+-- One step of the search over the streams, and its end
 pub next_step : (heads : List (Option ℕ)) (k : ℕ) (dts : Option ℕ) (best : Option (ℕ × ℕ)) → k < length heads →
     next_head k best (drop k heads) ≡ next_head (k + 1) (earlier best k (slice_index_or heads k dts)) (drop (k + 1) heads)
 unfolding next_head

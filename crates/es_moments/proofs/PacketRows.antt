@@ -1,4 +1,4 @@
--- Rows of packets that go along the units of a stream.
+-- Sums of packets over rows of consecutive units of a stream
 use Rattle.std.proofs.Common.{◌≡◌, ◌≤◌, ◌<◌, ℕ, zero, suc, ◌+◌, ◌*◌, ◌-◌, ◌^◌, ◌∙◌, ap, subst, min, max, List, [], ◌∷◌, ◌++◌, length, take, drop, get_or, map}
 use Rattle.std.proofs.Common.{sum, All, refl, sym, arith, add-one}
 use Rattle.std.proofs.lemmas.List.{drop-map, take-map, take_more, map-append, drop_more, get_or-drop, length-map, length-drop, length-take, take_all}
@@ -11,7 +11,7 @@ use Rattle.es_moments.specs.CountedUnits.{max_row, row_packets}
 use Rattle.es_moments.specs.Declaration.{AreAtMost, CountedPacketsView, counted_packets, group_packets, max_group, max_unit_packets, max_unit_size, timed_unit}
 use Rattle.es_moments.specs.Declaration.{timed_units}
 
--- the number of one unit more
+-- The number of packets of one more unit is appended.
 pub number_more : (id base0 i n : ℕ) (units : List AccessUnit) (u : AccessUnit) (before after : List ℕ) → i < length units → u ≡ get_or units i u →
     n ≡ packets_of_unit (timed_unit id base0 u) → before ≡ map packets_of_unit (timed_units id base0 (take i units)) → after ≡ before ++ n ∷ [] →
     after ≡ map packets_of_unit (timed_units id base0 (take (i + 1) units))
@@ -31,7 +31,7 @@ number_end id base0 i units numbers over so_far = so_far ∙ ap (λ (us : List A
 lengths_are : (units : List PesPacket) (numbers : List ℕ) → numbers ≡ map packets_of_unit units → length numbers ≡ length units
 lengths_are units numbers is = rw is (length-map units packets_of_unit)
 
--- the packets of a row are the sum of its numbers
+-- The packets of a row of units are the sum of their numbers.
 pub row_is : (group at : ℕ) (units : List PesPacket) (numbers : List ℕ) → numbers ≡ map packets_of_unit units →
     sum (take group (drop at numbers)) ≡ packets_of_units (take group (drop at units))
 row_is group at units numbers is =
@@ -41,7 +41,7 @@ row_is group at units numbers is =
     ∙ sum-map packets_of_unit (take group (drop at units))
     )
 
--- the greatest row from a unit on is the one that begins there, or one that begins later
+-- The greatest row from a unit on is the row that begins there or a later row.
 pub row_more : (group at row : ℕ) (units : List PesPacket) (numbers : List ℕ) → numbers ≡ map packets_of_unit units → at < length numbers →
     row ≡ sum (take group (drop at numbers)) → max_group group (drop at units) ≡ max row (max_group group (drop (at + 1) units))
 unfolding max_group
@@ -53,7 +53,7 @@ row_more group at row units numbers is below counted =
     ap (λ (us : List PesPacket). packets_of_units (take group us)) (drop_more units at first within) in
     rw (drop_more units at first within) (omega (arith, all, front))
 
--- a row that goes one unit on: the next one enters, the first one leaves
+-- A row moves by one unit: the next unit enters, and the first unit leaves.
 pub row_step : (group at : ℕ) (numbers : List ℕ) → group + at < length numbers →
     sum (take group (drop (at + 1) numbers)) + get_or numbers at 0 ≡ sum (take group (drop at numbers)) + get_or numbers (group + at) 0
 row_step group at numbers below =
@@ -67,7 +67,7 @@ row_step group at numbers below =
     rw (get_or-drop at numbers group 0) (ap (λ (i : ℕ). get_or numbers i 0) (omega arith)) in
     omega (arith, front, more, entering)
 
--- the unit that enters, where there is a further one
+-- If units remain, the next unit enters the row.
 pub entering_is : (group at n : ℕ) (numbers later : List ℕ) → n ≡ min group (length numbers) → later ≡ drop n numbers → at < length later →
     (group + at < length numbers) × (get_or later at 0 ≡ get_or numbers (group + at) 0)
 entering_is group at n numbers later least is below =
@@ -75,14 +75,14 @@ entering_is group at n numbers later least is below =
     let full : n ≡ group = omega (arith, least, long, below) in
     (omega (arith, full, long, below), rw (is, full) (get_or-drop group numbers at 0))
 
--- and where there is none, the row has all that are left
+-- If no unit remains, the row has all remaining units.
 pub none_enters : (group at n : ℕ) (numbers later : List ℕ) → n ≡ min group (length numbers) → later ≡ drop n numbers → length later ≤ at →
     length numbers ≤ group + at
 none_enters group at n numbers later least is over =
     let long : length later ≡ length numbers - n = rw is (length-drop n numbers) in
     omega (arith, least, long, over)
 
--- of no more units than a row has, the greatest is that of all
+-- If there are no more units than a row has, the greatest sum is the sum of all units.
 all_of_few : (group : ℕ) (units : List PesPacket) → length units ≤ group → max_group group units ≡ packets_of_units units
 unfolding max_group
 all_of_few group [] few = refl
@@ -98,7 +98,7 @@ row_end group at row units numbers is over counted =
     let few : length (drop at units) ≤ group = omega (arith, over, lengths_are units numbers is, length-drop at units) in
     all_of_few group (drop at units) few ∙ ap packets_of_units (sym (take_all group (drop at units) few)) ∙ sym (row_is group at units numbers is) ∙ sym counted
 
--- a row of few units has few packets
+-- A row of few units has few packets.
 pub most_of_row : (group greatest at : ℕ) (numbers : List ℕ) → All (λ (n : ℕ). n ≤ greatest) numbers → sum (take group (drop at numbers)) ≤ group * greatest
 most_of_row group greatest at numbers all =
     let part : All (λ (n : ℕ). n ≤ greatest) (take group (drop at numbers)) =
@@ -112,7 +112,7 @@ row_most group greatest at numbers all = omega (arith, most_of_row group greates
 pub all_most : (group greatest : ℕ) → group ≤ 64 → greatest ≤ 2 ^ 56 → group * greatest ≤ 2 ^ 62
 all_most group greatest few bound = omega (arith, mul-le-mul_right greatest few, bound)
 
--- no row has more than as many times the greatest number, and where the first one has as many, it is the greatest
+-- No row has more packets than `group` times the greatest number, and if the first row has that many, it is the greatest.
 rows_most : (group greatest : ℕ) (units : List PesPacket) → All (λ (u : PesPacket). packets_of_unit u ≤ greatest) units →
     max_group group units ≤ group * greatest
 unfolding max_group
@@ -144,13 +144,13 @@ all_greatest group greatest row units numbers is all counted full =
     let most = rows_most group greatest units (numbers_most greatest units each) in
     omega (arith, most, full, counted, row_is group 0 units numbers is, first_row_least group units)
 
--- what is counted of units
+-- The counted packets of units are the numbers and their greatest.
 pub counted_is : (id base0 largest : ℕ) (units : List AccessUnit) (numbers : List ℕ) → numbers ≡ map packets_of_unit (timed_units id base0 units) →
     largest ≡ max_unit_packets (max_unit_size units) → counted_packets id base0 units ≡ record { numbers = numbers; largest = largest }
 unfolding counted_packets
 counted_is id base0 largest units numbers same most = rw (same, most) refl
 
--- numbers are the packets of some units
+-- Any number is the number of packets of some unit.
 packet_of : ℕ → PesPacket
 packet_of n = record { dts = 0; size = 184 * n - 183; front = 0 }
 

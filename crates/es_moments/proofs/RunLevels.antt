@@ -1,4 +1,4 @@
--- Levels of units that come alike, and of units one after another.
+-- Levels of equal units, and of units one after another
 use Rattle.std.proofs.Common.{◌≡◌, ◌≤◌, ◌<◌, ℕ, zero, suc, ◌+◌, ◌*◌, ◌-◌, ◌∙◌, max, List, [], ◌∷◌, ◌++◌, length, drop, get_or, replicate, refl, sym, ap, arith}
 use Rattle.std.proofs.Common.{add-one, inl, inr}
 use Rattle.std.specs.Int.{div_ceil}
@@ -16,9 +16,9 @@ use Rattle.es_moments.specs.Declaration.{burst_packets, max_unit_packets, max_un
 use Rattle.es_moments.specs.UnitRuns.{UnitRunsView, UnitStep, runs_burst, unit_runs, steps_after, steps_of, step_level, level_over, greatest_over}
 use Rattle.es_moments.specs.declared.unit_runs.UnitRun.{UnitRun}
 
--- 1. Units that come alike
+-- 1. Equal units
 
--- what goes off and comes on with one unit, and then with k further ones, in numbers
+-- The level after one unit and k more equal units is the level after k + 1 equal units.
 alike_step : (k level on off : ℕ) → on ≤ level → max ((((level - off) + on) + k * on) - k * off) on ≡ max ((level + suc k * on) - suc k * off) on
 alike_step k level on off above = elim (cases_lt off on) [
   | inl lt ↦ omega (arith, above, lt, suc-mul k on, suc-mul k off)
@@ -32,7 +32,7 @@ greatest_step k level on off greatest last above is same = elim (cases_lt on off
   | inr le ↦ omega (arith, above, mul-le-mul_left k le, is, same)
 ]
 
--- where the level has at least the packets of one unit, what comes on and what goes off adds up, down to the packets of one
+-- If the level is at least the packets of one unit, k equal units change it by all their arrivals and departures, but never below the packets of one unit.
 pub alike_after : (pace k level : ℕ) (s : UnitStep) → s.packets * slot_units_at_1bps ≤ level →
     level_over pace level (replicate k s) ≡ max ((level + k * (s.packets * slot_units_at_1bps)) - k * (pace * s.time)) (s.packets * slot_units_at_1bps)
 unfolding level_over
@@ -64,7 +64,7 @@ run_greatest pace level n k first last s is one more =
     let above : s.packets * slot_units_at_1bps ≤ step_level pace level s = omega arith in
     rw (is, more, one) (sym (alike_greatest pace k (step_level pace level s) s above))
 
--- 2. Steps after steps
+-- 2. Steps one after another
 
 pub greatest_both : (pace level : ℕ) (xs ys : List UnitStep) →
     greatest_over pace level (xs ++ ys) ≡ max (greatest_over pace level xs) (greatest_over pace (level_over pace level xs) ys)
@@ -72,13 +72,13 @@ unfolding greatest_over level_over
 greatest_both pace level [] ys = omega arith
 greatest_both pace level (x ∷ xs) ys = omega (arith, greatest_both pace (step_level pace level x) xs ys)
 
--- a list that is gone through run by run
+-- The greatest level over a list is the greatest of the levels over its first run and over the rest.
 pub greatest_more : (pace level after most greatest greatest' all : ℕ) (here later : List UnitStep) → after ≡ level_over pace level here →
     most ≡ greatest_over pace level here →
     greatest' ≡ max greatest most → all ≡ max greatest (greatest_over pace level (here ++ later)) → all ≡ max greatest' (greatest_over pace after later)
 greatest_more pace level after most greatest greatest' all here later a m g is = rw (g, a, m) (omega (arith, is, greatest_both pace level here later))
 
--- a list of runs that is gone through, where it is read as another one that is the same
+-- The greatest level over a list of runs is found run by run.
 pub run_more : (pace level after most greatest greatest' all i : ℕ) (runs read : List UnitRun) (none : UnitRun) → read ≡ runs → i < length read →
     after ≡ level_over pace level (steps_of (get_or read i none)) → most ≡ greatest_over pace level (steps_of (get_or read i none)) →
     greatest' ≡ max greatest most →

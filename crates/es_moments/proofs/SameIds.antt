@@ -1,4 +1,4 @@
--- Units of one stream_id.
+-- Units with the same stream_id
 use Rattle.std.proofs.Common.{◌≡◌, ◌≤◌, ◌<◌, ℕ, ◌+◌, ◌==◌, true, false, Some, None, List, length, drop, get_or, refl, sym, add-one}
 use Rattle.std.proofs.Math.Seq.{drop-cons}
 use Rattle.std.proofs.lemmas.List.{drop_all}

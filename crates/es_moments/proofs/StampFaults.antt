@@ -1,4 +1,4 @@
--- Units whose stamps have no fault.
+-- Units whose stamps have no fault
 use Rattle.std.proofs.Common.{◌≡◌, ◌≤◌, ℕ, ◌+◌, ◌^◌, nat_lt, Bool, true, false, if◌then◌else◌, Option, Some, None, refl, arith}
 use Rattle.pes_packet.specs.AccessUnits.{AccessUnit}
 use Rattle.es_moments.specs.declared.stamps.StampFault.{StampFault}
@@ -20,7 +20,7 @@ pub test_none : (b : Bool) (fault : StampFault) → (if b then Some fault else N
 test_none true fault is = absurd (let no : ⊥ = cc in no)
 test_none false fault is = refl
 
--- the DTS is then near enough
+-- Without a fault, the DTS is at most 2^52.
 pub last_of : (limit base : ℕ) (before : Option ℕ) (dts pts : ℕ) →
     or_fault (dts_not_increasing base before dts) (or_fault (pts_out_of_range limit base (dts_at base before dts) pts) (dts_too_far (dts_at base before dts))) ≡
     None → dts_at base before dts ≤ 2 ^ 52
@@ -29,7 +29,7 @@ last_of limit base before dts pts none =
     (or_none (dts_not_increasing base before dts) _ none).1 in
     not_lt (2 ^ 52) (dts_at base before dts) (test_none (nat_lt (2 ^ 52) (dts_at base before dts)) DtsTooFar two.1)
 
--- what is then known of a unit at its moments
+-- The moments of a unit without a fault: its DTS is no later than its PTS, and at most 2^52
 pub record Timely (u : AccessUnit) : Type 0 where
   pub later : u.dts ≤ u.pts
   pub last : u.dts ≤ 2 ^ 52

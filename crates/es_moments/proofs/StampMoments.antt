@@ -1,9 +1,9 @@
--- Stamps and moments.
+-- Stamps and moments
 use Rattle.std.proofs.Common.{◌≡◌, ◌≤◌, ◌<◌, ℕ, ◌+◌, ◌-◌, ◌%◌, ◌^◌, Option, Some, None, [], ◌∷◌, refl, arith}
 use Rattle.pes_packet.specs.Encoding.{on_wire}
 use Rattle.es_moments.specs.Stamps.{distance, dts_at, unit_at, moved, min_distance, MovedByOneConstant, ConstantIsLeast}
 
--- the clock shows the stamp at that moment
+-- At the moment of a stamp, the clock shows the stamp.
 pub shows : (a w : ℕ) → (a + distance a w) % 2 ^ 33 ≡ w % 2 ^ 33
 unfolding distance
 shows a w = omega arith

@@ -1,4 +1,4 @@
--- There is one order of time.
+-- There is only one order of time.
 use Rattle.std.proofs.Common.{◌≡◌, ◌≤◌, ◌<◌, ◌∙◌, ℕ, suc, ◌+◌, ◌==◌, nat_le, nat_cmp, if◌then◌else◌, refl, sym, ap, ap₂, subst, inl, inr, arith, List, [], ◌∷◌}
 use Rattle.std.proofs.Common.{length, get_or}
 use Rattle.std.proofs.lemmas.Bool.{cases_Bool, cases_order}
@@ -9,12 +9,12 @@ use Rattle.std.specs.List.Sorted.{IsPermutation, IsSorted}
 use Rattle.std.specs.List.{sum_by}
 use Rattle.es_moments.specs.MadeDts.{placed, in_order}
 
--- numbers that do not fall, from a number on
+-- Numbers that do not fall, each at least `low`
 abbrev Rises : ℕ → List ℕ → Type 0
 Rises low [] = Unit {0}
 Rises low (x ∷ xs) = (low ≤ x) × Rises x xs
 
--- how often a number is there
+-- How often a number is in a list
 abbrev one : ℕ → ℕ → ℕ
 one v x = if x == v then 1 else 0
 
@@ -32,7 +32,7 @@ none_below : (v low : ℕ) (xs : List ℕ) → v < low → Rises low xs → many
 none_below v low [] less rises = refl
 none_below v low (x ∷ xs) less rises = omega (arith, one_other v x (omega (arith, less, rises.0)), none_below v x xs (omega (arith, less, rises.0)) rises.1)
 
--- lists that rise and have each number as often are the same
+-- Rising lists with the same numbers, each as often, are equal.
 tails : (x : ℕ) (xs ys : List ℕ) → ((v : ℕ) → many v (x ∷ xs) ≡ many v (x ∷ ys)) → (v : ℕ) → many v xs ≡ many v ys
 tails x xs ys same v = let all = same v in omega (arith, all)
 
@@ -54,7 +54,7 @@ one_rise low (x ∷ xs) (y ∷ ys) rise rises same = elim (cases_order x y) [
   | inr (inr more) ↦ absurd (no_less y x ys xs rise.1 (sym (same y)) more)
 ]
 
--- the order of the definition rises, and has the same numbers
+-- The order of the definition rises and has the same numbers.
 placed_rises : (low x : ℕ) (ys : List ℕ) → low ≤ x → Rises low ys → Rises low (placed x ys)
 unfolding placed
 placed_rises low x [] le rises = (le, tt)
@@ -81,7 +81,7 @@ unfolding in_order
 order_many v [] = refl
 order_many v (x ∷ xs) = placed_many v x (in_order xs) ∙ ap (λ (n : ℕ). one v x + n) (order_many v xs)
 
--- so does what a sort leaves
+-- The result of a sort rises and has the same numbers.
 many_sum : (v : ℕ) (xs : List ℕ) → many v xs ≡ sum_by (one v) xs
 many_sum v [] = refl
 many_sum v (x ∷ xs) = ap (λ (n : ℕ). one v x + n) (many_sum v xs) ∙ sym (sum_by-cons (one v) x xs)

@@ -1,4 +1,4 @@
--- Counting over units from their front.
+-- Counts over units, from the first unit on
 use Rattle.std.proofs.Common.{◌≡◌, ◌≤◌, ◌<◌, ℕ, ◌+◌, ◌*◌, ◌==◌, ◌-◌, min, max, Bool, true, false, cond, List, [], ◌∷◌, length, drop, get_or, refl, sym, arith}
 use Rattle.std.proofs.Common.{add-one}
 use Rattle.std.specs.Int.{div_ceil}
@@ -72,7 +72,7 @@ header_by false false more = omega arith
 header_most : (marks : Marks) (pts dts : ℕ) → field_size marks.random_access + header_size marks pts dts ≤ 19 + marks_size marks
 header_most marks pts dts = omega (arith, header_by marks.long (on_wire pts == on_wire dts) (extension_size marks))
 
--- a header has at most 19 bytes with what is in front of it, and what the marks take
+-- A header has at most 19 bytes besides the bytes of the marks, including the field before it.
 pub bytes_most : (id base0 size : ℕ) (u : AccessUnit) → length u.bytes + marks_size u.marks ≤ size →
     field_size u.marks.random_access + length (pes_packet_bytes id base0 u) ≤ 19 + size
 unfolding pes_packet_bytes
@@ -86,15 +86,15 @@ bytes_most id base0 size u le =
       header_most u.marks (u.pts + base0) (u.dts + base0),
     )
 
--- ---- levels
+-- Levels
 
--- a level of more than so many packets has more
+-- A level above `most` packets needs more than `most` packets.
 pub over_most : (level most : ℕ) → most * slot_units_at_1bps < level → most < div_ceil level slot_units_at_1bps
 over_most level most lt = omega (arith, lt, (div_ceil_times level slot_units_at_1bps (omega arith)).0)
 
 pub at_most : (level most : ℕ) → level ≤ most * slot_units_at_1bps → div_ceil level slot_units_at_1bps ≤ most
 at_most level most le = omega (arith, le, (div_ceil_times level slot_units_at_1bps (omega arith)).1)
 
--- and one of at most so many is at most theirs
+-- A level that needs at most `burst` packets is at most the level of `burst` packets.
 pub within_burst : (level burst : ℕ) → div_ceil level slot_units_at_1bps ≤ burst → level ≤ burst * slot_units_at_1bps
 within_burst level burst le = omega (arith, le, (div_ceil_times level slot_units_at_1bps (omega arith)).0)

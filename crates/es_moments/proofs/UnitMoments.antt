@@ -1,4 +1,4 @@
--- The moments of units, one by one.
+-- The moments of units, one by one
 use Rattle.std.proofs.Common.{◌≡◌, ◌≤◌, ◌<◌, ◌∙◌, ℕ, ◌+◌, ◌++◌, Option, Some, None, List, [], ◌∷◌, length, map, drop, get_or, refl, sym, ap, add-one}
 use Rattle.std.proofs.Math.Seq.{drop-cons}
 use Rattle.std.proofs.lemmas.List.{append_assoc, append-nil, drop_all}
@@ -11,7 +11,7 @@ use Rattle.es_moments.specs.declared.stamps.StampFault.{StampFault}
 use Rattle.es_moments.specs.declared.unit_moments.UnitMoment.{UnitMoment}
 use Rattle.es_moments.specs.WireUnits.{CarriedUnit}
 
--- units as on the wire
+-- Units as on the wire
 abbrev pub wire : List CarriedUnit → List AccessUnit
 wire us = map (λ u. u.unit) us
 
@@ -83,7 +83,7 @@ at_end (m ∷ ms) us none = rw none refl
 pub at_done : (all out rest : List AccessUnit) → all ≡ out ++ rest → rest ≡ [] → out ≡ all
 at_done all out rest is none = sym (is ∙ ap (λ (l : List AccessUnit). out ++ l) none ∙ append-nil out)
 
--- 3. The marks and the bytes are those of the units
+-- 3. The marks and the bytes stay the same
 
 abbrev pub content : CarriedUnit → Marks × List ℕ
 content u = (u.unit.marks, u.unit.bytes)
@@ -95,12 +95,12 @@ head_same : (a b : Marks × List ℕ) (more others : List (Marks × List ℕ)) �
     (a ≡ b) × (more ≡ others)
 head_same a b more others is = (cc, cc)
 
--- a unit with the same marks and bytes, before the same units
+-- Two lists are equal if the marks and the bytes of their first units and the rests of the lists are equal.
 same_step : (dts pts : ℕ) (m n : Marks) (a b : List ℕ) (more others : List AccessUnit) → m ≡ n → a ≡ b → more ≡ others →
     ◌≡◌ {A = List AccessUnit} (record { dts = dts; pts = pts; marks = n; bytes = b } ∷ more) (record { dts = dts; pts = pts; marks = m; bytes = a } ∷ others)
 same_step dts pts m n a b more others em ea is = rw (em, ea, is) refl
 
--- units at the moments of others with the same marks and bytes are those
+-- Units with the marks and the bytes of moved units, placed at their moments, are the moved units.
 pub at_own : (base : ℕ) (before : Option ℕ) (us vs : List CarriedUnit) → contents us ≡ contents vs →
     units_at (map moment_of (moved base before (wire us))) vs ≡ moved base before (wire us)
 unfolding units_at moved unit_at

@@ -1,4 +1,4 @@
--- What counts of units, one by one, and the same counts of the units.
+-- The weights of units, one by one, and their sums
 use Rattle.std.proofs.Common.{◌≡◌, ◌≤◌, ◌<◌, ℕ, ◌+◌, ◌-◌, ◌^◌, ◌∙◌, max, min, List, [], ◌∷◌, ◌++◌, length, take, drop, get_or, map, All, refl, sym, ap, arith}
 use Rattle.std.proofs.Common.{add-one}
 use Rattle.std.proofs.Math.Seq.{drop-cons}
@@ -31,7 +31,7 @@ pub weight_end : (id base0 i : ℕ) (units : List AccessUnit) (ws : List UnitWei
     ws ≡ weights id base0 units
 weight_end id base0 i units ws over so_far = so_far ∙ ap (weights id base0) (take_all i units over)
 
--- of units at moments
+-- The weights of units at moments
 
 found_more : (id base0 : ℕ) (ms later : List UnitMoment) (m : UnitMoment) (us rest : List CarriedUnit) (u : CarriedUnit) (all before after : List UnitWeight)
     (w : UnitWeight) →
@@ -99,7 +99,7 @@ counted_more i last time ws w all before after below at t grown is =
     let rest = weighed_steps w.dts (drop (i + 1) ws) in
     rw (grown, t) (is ∙ ap (λ (ss : List UnitStep). before ++ ss) (step_more i last ws w below at) ∙ sym (append_assoc before (step ∷ []) rest))
 
--- 3. They are the counts of the units
+-- 3. The counts are the counts of the units
 
 size_is : (id base0 : ℕ) (us : List AccessUnit) → weighed_size (weights id base0 us) ≡ max_unit_size us
 unfolding weighed_size max_unit_size

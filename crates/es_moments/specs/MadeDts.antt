@@ -53,14 +53,14 @@ made_dts stamps = shifted (shift_of (moments_of stamps)) (in_order (moments_of s
 
 -- 4. What can't be made
 
-unfoldable pub stands_first : ℕ → List ℕ → Bool
-stands_first x [] = false
-stands_first x (y ∷ ys) = x == y
+unfoldable pub is_first : ℕ → List ℕ → Bool
+is_first x [] = false
+is_first x (y ∷ ys) = x == y
 
 -- the stamp of the first moment that occurs twice, among moments in order
 unfoldable pub first_same_pts : List ℕ → Option DtsFault
 first_same_pts [] = None
-first_same_pts (x ∷ xs) = if stands_first x xs then Some (SamePts (x % 2 ^ 33)) else first_same_pts xs
+first_same_pts (x ∷ xs) = if is_first x xs then Some (SamePts (x % 2 ^ 33)) else first_same_pts xs
 
 -- the first moment that is more than a second after the DTS in its place: its place, and how long it is after
 unfoldable pub first_late_pts : ℕ → ℕ → List ℕ → List ℕ → Option DtsFault

@@ -43,9 +43,9 @@ fn max_ahead(order: &[u128], moments: &[u128]) -> u128
     greatest
 }
 
-#[tactic(auto, unfolding(crate::specs::MadeDts::stands_first))]
-fn stands_first(moment: u128, moments: &[u128]) -> bool
-    ensures { result ≡ spec.stands_first moment moments.now }
+#[tactic(auto, unfolding(crate::specs::MadeDts::is_first))]
+fn is_first(moment: u128, moments: &[u128]) -> bool
+    ensures { result ≡ spec.is_first moment moments.now }
 {
     match moments {
         [first, ..] => moment == *first,
@@ -60,7 +60,7 @@ fn first_same_pts(order: &[u128]) -> Option<DtsFault>
 {
     let mut left = order;
     while let Some((first, rest)) = left.split_first() {
-        if stands_first(*first, rest) {
+        if is_first(*first, rest) {
             return Some(DtsFault::SamePts((*first % u128::from(STAMP_MODULUS)) as u64));
         }
         left = rest;

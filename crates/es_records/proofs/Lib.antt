@@ -1,3 +1,3 @@
 pub mod PendingOutput
-pub mod ToldLines
+pub mod ReportedLines
 pub mod PassedStreams

@@ -1,4 +1,4 @@
--- What goes out of a stream while it comes.
+-- The output of a stream while its input arrives
 use Rattle.std.proofs.Common.{◌≡◌, ◌⊎◌, ◌<◌, ◌≤◌, ◌+◌, ◌-◌, ◌^◌, ℕ, Bool, true, false, List, [], ◌++◌, length, take, Option, Result, Ok, Err, le_trans, refl}
 use Rattle.std.proofs.Common.{sym, ap, ◌∙◌, subst, inl, inr, arith, length-append, length-take-le}
 use Rattle.std.specs.Prelude.{◌||◌, OnOk, if◌then◌else◌}
@@ -9,16 +9,16 @@ use Rattle.std.proofs.lemmas.List.{append-nil}
 use Rattle.std.proofs.lemmas.List.Elements.{All-nil}
 use Rattle.counted_io.specs.Device.{CountsOne, Failed}
 use Rattle.devices.specs.Devices.{Device, Port, Takes, between}
-use Rattle.devices.specs.Lines.{Reports, Tells}
+use Rattle.devices.specs.Lines.{Reports, ReportsAll}
 use Rattle.devices.specs.Outcomes.{halt_line}
 use Rattle.devices.specs.declared.halt.Halt.{Halt}
 use Rattle.devices.specs.declared.halt.Halt.TheVariants.{Read, Write, Memory}
-use Rattle.devices.proofs.Telling.{told_all, told_none}
+use Rattle.devices.proofs.ReportedTexts.{reported_all, reported_none}
 use Rattle.demux.specs.FoundSoFar.{taken_all}
 use Rattle.fed_streams.specs.Feeding.{Fed, FeedView}
 use Rattle.es_feed.specs.StreamFeeding.{IsFedBy, at_first, is_packet}
 use Rattle.es_feed.specs.Watching.{AreSlips, IsWatchedBy, IsWatchedOf, WatchedView, first_place, watched_first}
-use Rattle.es_records.proofs.ToldLines.{any_append, flat_append, or_true}
+use Rattle.es_records.proofs.ReportedLines.{any_append, flat_append, or_true}
 use Rattle.es_feed.proofs.WatchedStreams.{no_rounds}
 use Rattle.fed_streams.specs.Ticks.{after_packets, fed_packets}
 use Rattle.es_feed.specs.FedLines.{fed_lines, fed_record, fed_records, has_fault, have_fault, have_refusal, is_refusal, lines_of}
@@ -45,31 +45,32 @@ none_came first pids input output faults s is =
       fed = [];
       by = watched_none first;
       held = omega arith;
-      passes = record { read = Consumes-nil input.bytes; written = Appends-nil output.bytes; clean = refl; tells = told_none faults };
+      passes = record { read = Consumes-nil input.bytes; written = Appends-nil output.bytes; clean = refl; reports_all = reported_none faults };
       unfailed = refl;
       faulty_is = refl;
     })
 
--- 2. A piece more
+-- 2. One more piece
 
--- the bytes of what went out before, and of what goes out now
+-- The bytes of earlier output, and of the output now
 all_written : (before mid after : Port) (old new : List Fed) → Takes (between before mid) (fed_records old) → Takes (between mid after) (fed_records new) →
     Takes (between before after) (fed_records (old ++ new))
 all_written before mid after old new a b =
     subst (λ (bytes : List ℕ). Appends before.bytes after.bytes bytes) (sym (flat_append fed_record old new))
     (Appends-trans before.bytes mid.bytes after.bytes (fed_records old) (fed_records new) a b)
 
-all_told : (pids : List ℕ) (before mid after : Port) (old new : List Fed) → Tells before mid (fed_lines pids old) → Tells mid after (fed_lines pids new) →
-    Tells before after (fed_lines pids (old ++ new))
-all_told pids before mid after old new a b =
-    subst (λ (lines : List (List ℕ)). Tells before after lines) (sym (flat_append (lines_of pids) old new))
-    (told_all before mid after (fed_lines pids old) (fed_lines pids new) a b)
+all_lines_reported : (pids : List ℕ) (before mid after : Port) (old new : List Fed) → ReportsAll before mid (fed_lines pids old) →
+    ReportsAll mid after (fed_lines pids new) →
+    ReportsAll before after (fed_lines pids (old ++ new))
+all_lines_reported pids before mid after old new a b =
+    subst (λ (lines : List (List ℕ)). ReportsAll before after lines) (sym (flat_append (lines_of pids) old new))
+    (reported_all before mid after (fed_lines pids old) (fed_lines pids new) a b)
 
 all_faulty : (early late faulty : Bool) (old new : List Fed) → early ≡ have_fault old → late ≡ have_fault new → faulty ≡ (early || late) →
     faulty ≡ have_fault (old ++ new)
 all_faulty early late faulty old new a b e = e ∙ ap (λ (x : Bool). x || late) a ∙ ap (λ (x : Bool). have_fault old || x) b ∙ sym (any_append has_fault old new)
 
--- the input of a stream so far goes on to where a read has left it
+-- The input of a stream so far extends to the place where the last read ended.
 with_input : (first : FeedView) (pids piece : List ℕ) (i0 i1 i2 : Port) (output faults : Device) (faulty : Bool) (s : WatchedView)
     (m : Midway first pids (between i0 i1) output faults faulty s) → Consumes i1.bytes i2.bytes piece →
     Passes pids (m.came ++ piece) m.fed (between i0 i2) output faults
@@ -77,7 +78,7 @@ with_input first pids piece i0 i1 i2 output faults faulty s m reads = record {
   read = Consumes-trans i0.bytes i1.bytes i2.bytes m.came piece m.passes.read reads;
   written = m.passes.written;
   clean = m.passes.clean;
-  tells = m.passes.tells;
+  reports_all = m.passes.reports_all;
 }
 
 -- 3. The end of the pieces
@@ -120,7 +121,7 @@ read_fails first pids i0 i1 i2 output faults faulty s m keeps counts = record {
         (Consumes-kept i0.bytes i1.bytes i2.bytes m.came m.passes.read keeps);
     written = m.passes.written;
     clean = m.passes.clean;
-    tells = m.passes.tells;
+    reports_all = m.passes.reports_all;
   };
   stopped = (refl, inl (failed_after i0.failed i1.failed i2.failed m.unfailed counts));
 }
@@ -148,7 +149,7 @@ no_room first pids piece i0 i1 i2 output faults faulty s t m reads clean = recor
   stopped = clean ∙ m.unfailed;
 }
 
--- no piece was fed
+-- Feeding the next piece fails.
 pub feed_fails : (first : FeedView) (pids : List ℕ) (i0 i1 i2 : Port) (output faults : Device) (faulty : Bool) (s t : WatchedView) (fed : List Fed)
     (halt : Halt) →
     Midway first pids (between i0 i1) output faults faulty s → FeedsPiece s (between i1 i2) t fed (Err halt) →
@@ -179,7 +180,7 @@ feeds_none s t input fed more is p = subst (λ (b : Bool). FeedsPiece s input t 
 failed_later : (a b c : ℕ) → b ≡ a → Failed b c → Failed a c
 failed_later a b c e f = subst (λ (n : ℕ). Failed n c) e f
 
--- within the records of what was fed last, after that of a stream so far
+-- The writer fails within the records that were fed last, after the earlier records of the stream.
 last_fails : (first : FeedView) (pids bytes : List ℕ) (i0 i1 i2 o0 o1 o2 f0 f1 f2 : Port) (faulty : Bool) (s : WatchedView) (new : List Fed)
     (m : Midway first pids (between i0 i1) (between o0 o1) (between f0 f1) faulty s) → Consumes i0.bytes i2.bytes bytes →
     (IsFedSoFar first bytes (m.fed ++ new) ⊎ IsWatchedOf first bytes (m.fed ++ new)) → GoesOut pids new (between o1 o2) (between f1 f2) (Err Write) →
@@ -193,7 +194,7 @@ last_fails first pids bytes i0 i1 i2 o0 o1 o2 f0 f1 f2 faulty s new m reads is o
   taken = out.0.taken;
   written = Appends-trans o0.bytes o1.bytes o2.bytes (fed_records m.fed) (take out.0.taken (fed_records new)) m.passes.written out.0.appends;
   failed = failed_later o0.failed o1.failed o2.failed m.passes.clean out.1;
-  tells = subst (λ (p : Port). Tells f0 p (fed_lines pids m.fed)) (sym out.2) m.passes.tells;
+  reports_all = subst (λ (p : Port). ReportsAll f0 p (fed_lines pids m.fed)) (sym out.2) m.passes.reports_all;
 }
 
 pub piece_fails : (first : FeedView) (pids : List ℕ) (i0 i1 i2 o0 o1 o2 f0 f1 f2 : Port) (faulty : Bool) (s t : WatchedView) (new : List Fed) (halt : Halt) →
@@ -207,7 +208,7 @@ piece_fails first pids i0 i1 i2 o0 o1 o2 f0 f1 f2 faulty s t new Write m p out =
     (inl (record { state = t; by = p.taken first m.came m.fed m.by; held = p.held })) out
 piece_fails first pids i0 i1 i2 o0 o1 o2 f0 f1 f2 faulty s t new Memory m p out = absurd out
 
--- 5. What the end of the stream feeds
+-- 5. The items that the end of the stream feeds
 
 still_refused : (old new : List Fed) → have_refusal old ≡ true → have_refusal (old ++ new) ≡ true
 still_refused old new is = any_append is_refusal old new ∙ ap (λ (b : Bool). b || have_refusal new) is
@@ -228,7 +229,7 @@ stream_ends first pids input o0 o1 o2 f0 f1 f2 early late faulty s m ends (last,
     read = m.passes.read;
     written = all_written o0 o1 o2 m.fed last m.passes.written out.0;
     clean = out.1 ∙ m.passes.clean;
-    tells = all_told pids f0 f1 f2 m.fed last m.passes.tells out.2;
+    reports_all = all_lines_reported pids f0 f1 f2 m.fed last m.passes.reports_all out.2;
   };
   ends = still_ends (IsAtEnd input.after.bytes) m.fed last ends;
   unfailed = m.unfailed;
@@ -250,7 +251,7 @@ end_fails first pids input o0 o1 o2 f0 f1 f2 early s Memory m p = record {
     read = subst (λ (bytes : List ℕ). Consumes input.before.bytes input.after.bytes bytes) (sym (append-nil m.came)) m.passes.read;
     written = subst (λ (q : Port). Takes (between o0 q) (fed_records m.fed)) (sym p.0) m.passes.written;
     clean = ap (λ (q : Port). q.failed) p.0 ∙ m.passes.clean;
-    tells = subst (λ (q : Port). Tells f0 q (fed_lines pids m.fed)) (sym p.1) m.passes.tells;
+    reports_all = subst (λ (q : Port). ReportsAll f0 q (fed_lines pids m.fed)) (sym p.1) m.passes.reports_all;
   };
   stopped = m.unfailed;
 }
@@ -262,7 +263,7 @@ pieces_fail first pids input output faults s Read p = p
 pieces_fail first pids input output faults s Write p = p
 pieces_fail first pids input output faults s Memory p = p
 
--- there is no memory for the room of a piece
+-- There is no memory for the room of a piece.
 none_came_pieces : (first : FeedView) (pids : List ℕ) (input output faults : Port) →
     PassesPieces first pids (between input input) (between output output) (between faults faults) (Err Memory) (watched_first first)
 none_came_pieces first pids input output faults =
@@ -282,12 +283,13 @@ pub run_ends : (first : FeedView) (pids : List ℕ) (input output faults : Devic
     RunsStream first pids input output faults status
 run_ends first pids input output faults faulty status p s = inl (record { faulty = faulty; passes = p; status_is = s })
 
-pub run_stops : (first : FeedView) (pids : List ℕ) (input output : Device) (before told after : Port) (halt : Halt) (status : ℕ) →
-    PassesOn first pids input output (between before told) (Err halt) →
-    Reports (between told after) (halt_line halt) → status ≡ 3 → RunsStream first pids input output (between before after) status
-run_stops first pids input output before told after halt status p r s = inr (record { halt = halt; told = told; passes = p; reports = r; status_is = s })
+pub run_stops : (first : FeedView) (pids : List ℕ) (input output : Device) (before reported after : Port) (halt : Halt) (status : ℕ) →
+    PassesOn first pids input output (between before reported) (Err halt) →
+    Reports (between reported after) (halt_line halt) → status ≡ 3 → RunsStream first pids input output (between before after) status
+run_stops first pids input output before reported after halt status p r s =
+    inr (record { halt = halt; reported = reported; passes = p; reports = r; status_is = s })
 
--- 7. So many pieces, of a byte at least
+-- 7. A number of pieces, each of at least one byte
 
 pub record MidwayLong (first : FeedView) (pids : List ℕ) (input output faults : Device) (faulty : Bool) (s : WatchedView) (pieces : ℕ) : Type 0 where
   pub midway : Midway first pids input output faults faulty s
@@ -297,7 +299,7 @@ pub long_first : (first : FeedView) (pids : List ℕ) (input output faults : Por
     MidwayLong first pids (between input input) (between output output) (between faults faults) false s 0
 long_first first pids input output faults s is = record { midway = none_came first pids input output faults s is; pieces_in = omega arith }
 
--- what a push gives
+-- The state after a push
 pub pushed : {E : Type 0} (piece : List ℕ) (s t : WatchedView) (items : List Fed) (r : Result (Unit {0}) E) → is_err r ≡ false →
     ((first : FeedView) (came : List ℕ) (before : List Fed) → IsWatchedBy first came false s before →
     OnOk r (IsWatchedBy first (came ++ piece) false t (before ++ items))) →
@@ -325,7 +327,7 @@ fed_piece s t i1 i2 part n items r most within some reads clean ok push short = 
   held = held_short (length t.stream.held) r ok short;
 }
 
--- a read that gave nothing
+-- A read that gave no bytes
 pub none_read : (a b : Option (List ℕ)) (n : ℕ) (part : List ℕ) → n ≡ 0 → Consumes a b (take n part) → Consumes a b []
 none_read a b n part e h = subst (λ (m : ℕ). Consumes a b (take m part)) e h
 
@@ -347,7 +349,7 @@ long_more first pids i0 i1 i2 o0 o1 o2 f0 f1 f2 early late faulty s t new pieces
           read = Consumes-trans i0.bytes i1.bytes i2.bytes before.came p.piece before.passes.read p.read;
           written = all_written o0 o1 o2 before.fed new before.passes.written out.0;
           clean = out.1 ∙ before.passes.clean;
-          tells = all_told pids f0 f1 f2 before.fed new before.passes.tells out.2;
+          reports_all = all_lines_reported pids f0 f1 f2 before.fed new before.passes.reports_all out.2;
         };
         unfailed = p.clean ∙ before.unfailed;
         faulty_is = all_faulty early late faulty before.fed new before.faulty_is out.3 is;
@@ -355,7 +357,7 @@ long_more first pids i0 i1 i2 o0 o1 o2 f0 f1 f2 early late faulty s t new pieces
       pieces_in = omega (arith, m.pieces_in, length-append before.came p.piece, some);
     }
 
--- a read that shows that the description is of another stream
+-- A read that shows that the description belongs to another stream
 pub long_refused : (first : FeedView) (pids : List ℕ) (i0 i1 i2 o0 o1 o2 f0 f1 f2 : Port) (early late faulty : Bool) (s t : WatchedView) (new : List Fed)
     (pieces : ℕ) →
     MidwayLong first pids (between i0 i1) (between o0 o1) (between f0 f1) early s pieces → FeedsSome s (between i1 i2) t new →
@@ -373,7 +375,7 @@ pub long_enough : (first : FeedView) (pids : List ℕ) (input output faults : De
 long_enough first pids input output faults faulty s pieces m long =
     too_long first pids input output faults faulty s m.midway (le_trans long m.pieces_in)
 
--- 8. What the end of a stream feeds goes out
+-- 8. The items that the end of a stream feeds are written
 
 last_is : (first : FeedView) (came : List ℕ) (s : WatchedView) (before items shown : List Fed) → shown ≡ items → IsWatchedBy first came false s before →
     (IsWatchedBy first came false s before → IsWatchedOf first came (before ++ items)) → IsWatchedOf first came (before ++ shown)

@@ -1,4 +1,4 @@
--- Output that is written part by part, with its last bytes pending.
+-- Output that is written part by part, with its last bytes pending
 use Rattle.std.proofs.Common.{◌≡◌, ℕ, ◌+◌, ◌<◌, ◌≤◌, List, [], ◌++◌, length, take, refl, sym, ap, subst, ◌∙◌, append_assoc, get_or, drop, Result, Ok, Err}
 use Rattle.std.proofs.KnownBytes.{Appends-nil, Appends-trans}
 use Rattle.std.specs.Prelude.{OnOk}
@@ -12,11 +12,11 @@ use Rattle.devices.specs.declared.halt.Halt.{Halt}
 use Rattle.devices.specs.declared.halt.Halt.TheVariants.{Read, Write, Memory}
 use Rattle.es_records.specs.Records.{Puts, Sends}
 
--- nothing was done
+-- Nothing is written.
 pub puts_none : (port : Port) (pending : List ℕ) → Puts (between port port) pending pending (Ok tt)
 puts_none port pending = (record { sent = []; takes = Appends-nil port.bytes; is = refl }, refl)
 
--- a part more
+-- One more part is written.
 sends_more : (old mid new : Port) (one pending two left : List ℕ) → Sends (between old mid) one pending → Sends (between mid new) (pending ++ two) left →
     Sends (between old new) (one ++ two) left
 sends_more old mid new one pending two left a b = record {
@@ -33,7 +33,7 @@ puts_more old mid new one pending two after (Err Write) a b =
     (b.0, sends_more old mid new one pending two b.0 a.0 b.1, subst (λ (x : ℕ). Failed x new.failed) a.1 b.2)
 puts_more old mid new one pending two after (Err Memory) a b = absurd b
 
--- where it failed, it fails with more after it
+-- If writing a part fails, writing the part with more text after it fails in the same way.
 pub puts_failed : (output : Device) (one pending two other : List ℕ) (halt : Halt) → Puts output one pending (Err halt) →
     Puts output (one ++ two) other (Err halt)
 puts_failed output one pending two other Read a = absurd a
@@ -48,7 +48,7 @@ puts_failed output one pending two other Write a = (
 )
 puts_failed output one pending two other Memory a = absurd a
 
--- a text of which nothing is left is written
+-- A text without pending bytes is written whole.
 pub puts_whole : (output : Device) (text pending : List ℕ) (r : Result (Unit {0}) Halt) → (r ≡ Ok tt → pending ≡ []) → Puts output text pending r →
     WritesLine text output r
 puts_whole output text pending (Ok x) n a =
@@ -60,7 +60,7 @@ puts_whole output text pending (Err Write) n a =
     (record { taken = length a.1.sent; appends = subst (λ (y : List ℕ). Takes output y) (sym front) a.1.takes }, a.2)
 puts_whole output text pending (Err Memory) n a = absurd a
 
--- a text that is written whole, or of which the writer took a front
+-- A text that is written whole, or only its front is written
 pub puts_written : (output : Device) (text pending : List ℕ) (r : Result (Unit {0}) Halt) → (r ≡ Ok tt → pending ≡ []) → WritesLine text output r →
     Puts output text pending r
 puts_written output text pending (Ok x) n w =
@@ -70,24 +70,24 @@ puts_written output text pending (Err Write) n w =
     (drop w.0.taken text, record { sent = take w.0.taken text; takes = w.0.appends; is = sym (take-append-drop w.0.taken text) }, w.1)
 puts_written output text pending (Err Memory) n w = absurd w
 
--- a part more, where nothing was pending any more
+-- One more part, if nothing is pending
 pub puts_first : (old mid new : Port) (one pending two after : List ℕ) (r : Result (Unit {0}) Halt) → pending ≡ [] →
     Puts (between old mid) one pending (Ok tt) → Puts (between mid new) two after r → Puts (between old new) (one ++ two) after r
 puts_first old mid new one pending two after r n a b =
     puts_more old mid new one pending two after r a (subst (λ (x : List ℕ). Puts (between mid new) (x ++ two) after r) (sym n) b)
 
--- three parts, grouped otherwise
+-- Three parts, grouped differently
 pub puts_grouped : (output : Device) (one two three after : List ℕ) (r : Result (Unit {0}) Halt) → Puts output ((one ++ two) ++ three) after r →
     Puts output (one ++ (two ++ three)) after r
 puts_grouped output one two three after r p = subst (λ (x : List ℕ). Puts output x after r) (append_assoc one two three) p
 
--- the texts of the entries from one on
+-- The texts of the entries from entry i on
 texts_step : {T : Type 0} (f : T → List ℕ) (entries : List T) (i : ℕ) (t : T) → i < length entries → t ≡ get_or entries i t →
     flat_map f (drop i entries) ≡ f t ++ flat_map f (drop (i + 1) entries)
 texts_step {T = T} f entries i t s e = at_drop_more (λ (xs : List T). flat_map f xs) entries i t s
     ∙ ap (λ (x : T). f x ++ flat_map f (drop (i + 1) entries)) (sym e)
 
--- of entries those before one, and the text of that one
+-- The texts of the entries before entry i are written, then the text of entry i.
 pub record SendsFront {T : Type 0} (f : T → List ℕ) (old now : Port) (first pending : List ℕ) (entries : List T) (i : ℕ) : Type 0 where
   pub text : List ℕ
   pub puts : Puts (between old now) text pending (Ok tt)
@@ -126,7 +126,7 @@ front_whole {T = T} f old now first pending entries i s so =
     let all : so.text ≡ first ++ flat_map f entries = sym (append-nil so.text) ∙ ap (λ (x : List ℕ). so.text ++ x) (sym none) ∙ so.left in
     subst (λ (x : List ℕ). Puts (between old now) x pending (Ok tt)) all so.puts
 
--- the pending bytes are written last
+-- The pending bytes are written last.
 none_if : (r : Result (Unit {0}) Halt) (pending : List ℕ) → OnOk r (pending ≡ []) → r ≡ Ok tt → pending ≡ []
 none_if (Ok x) pending n e = n
 none_if (Err halt) pending n e = absurd cc

@@ -4,7 +4,7 @@ use Rattle.std.specs.Prelude.{◌≡◌, ◌⊎◌, ◌<◌, ◌≤◌, ◌-◌,
 use Rattle.std.specs.Io.KnownBytes.{Consumes, IsAtEnd, Keeps}
 use Rattle.counted_io.specs.Device.{CountsOne}
 use Rattle.devices.specs.Devices.{Device, Port, HasFailed, IsClean, IsUntouched, Takes, between}
-use Rattle.devices.specs.Lines.{Reports, Stopped, Tells}
+use Rattle.devices.specs.Lines.{Reports, Stopped, ReportsAll}
 use Rattle.devices.specs.Outcomes.{halt_line}
 use Rattle.devices.specs.declared.halt.Halt.{Halt}
 use Rattle.devices.specs.declared.halt.Halt.TheVariants.{Read, Write, Memory}
@@ -28,7 +28,7 @@ pub record Passes (pids : List ℕ) (came : List ℕ) (fed : List Fed) (input ou
   pub read : Consumes input.before.bytes input.after.bytes came
   pub written : Takes output (fed_records fed)
   pub clean : IsClean output
-  pub tells : Tells faults.before faults.after (fed_lines pids fed)
+  pub reports_all : ReportsAll faults.before faults.after (fed_lines pids fed)
 
 -- the input came to its end, and all that it feeds went out; or the description is of another stream, and the stream is taken to end with
 -- the read that shows it
@@ -68,7 +68,7 @@ pub record FailsToPass (first : FeedView) (pids : List ℕ) (input output faults
   pub taken : ℕ
   pub written : Takes output (fed_records before ++ take taken (fed_records last))
   pub failed : HasFailed output
-  pub tells : Tells faults.before faults.after (fed_lines pids before)
+  pub reports_all : ReportsAll faults.before faults.after (fed_lines pids before)
 
 abbrev pub PassesOn : FeedView → List ℕ → Device → Device → Device → Result Bool Halt → Type 0
 PassesOn first pids input output faults (Ok faulty) = PassesAll first pids input output faults faulty
@@ -104,7 +104,7 @@ FeedsPiece old input new fed (Err Memory) = (piece : List ℕ) × Consumes input
 -- the fed records go out, and then a line for everything else; or the writer fails within the records
 abbrev pub GoesOut : List ℕ → List Fed → Device → Device → Result Bool Halt → Type 0
 GoesOut pids fed output faults (Ok faulty) =
-    Takes output (fed_records fed) × IsClean output × Tells faults.before faults.after (fed_lines pids fed) × (faulty ≡ have_fault fed)
+    Takes output (fed_records fed) × IsClean output × ReportsAll faults.before faults.after (fed_lines pids fed) × (faulty ≡ have_fault fed)
 GoesOut pids fed output faults (Err Read) = ⊥
 GoesOut pids fed output faults (Err Write) = Stopped (fed_records fed) output × HasFailed output × IsUntouched faults
 GoesOut pids fed output faults (Err Memory) = ⊥
@@ -146,9 +146,9 @@ pub record EndsStream (first : FeedView) (pids : List ℕ) (input output faults 
 -- the run ends early: a device failed or memory was refused, and the last line says so
 pub record StopsStream (first : FeedView) (pids : List ℕ) (input output faults : Device) (status : ℕ) : Type 0 where
   pub halt : Halt
-  pub told : Port
-  pub passes : PassesOn first pids input output (between faults.before told) (Err halt)
-  pub reports : Reports (between told faults.after) (halt_line halt)
+  pub reported : Port
+  pub passes : PassesOn first pids input output (between faults.before reported) (Err halt)
+  pub reports : Reports (between reported faults.after) (halt_line halt)
   pub status_is : status ≡ 3
 
 abbrev pub RunsStream : FeedView → List ℕ → Device → Device → Device → ℕ → Type 0

@@ -3,7 +3,7 @@
 
 ghost use Rattle.std.specs.Prelude.{◌≡◌, ◌≤◌, ◌++◌, length};
 ghost use Rattle.devices.specs.Devices.{writes};
-ghost use Rattle.devices.specs.Lines.{Reports, Tells, WritesLine};
+ghost use Rattle.devices.specs.Lines.{Reports, ReportsAll, WritesLine};
 ghost use Rattle.es_feed.specs.FedLines as spec;
 ghost use Rattle.es_records.specs.Records.{Puts};
 
@@ -23,7 +23,8 @@ fn put_fed<W: Sink>(
     pending: &mut PendingBytes,
     fed: &(u8, Result<Unit, FeedFault>),
 ) -> Result<(), Halt>
-    ensures { Puts (writes W.Sink to.old to.new) (pending.old.items ++ spec.fed_record fed.now) pending.new.items result }
+    ensures { Puts (writes W.Sink to.old to.new) (pending.old.items ++ spec.fed_record fed.now)
+        pending.new.items result }
 {
     match &fed.1 {
         Ok(unit) => put_record(to, pending, fed.0, unit),
@@ -37,7 +38,8 @@ fn put_all_fed<W: Sink>(
     pending: &mut PendingBytes,
     fed: &[(u8, Result<Unit, FeedFault>)],
 ) -> Result<(), Halt>
-    ensures { Puts (writes W.Sink to.old to.new) (pending.old.items ++ spec.fed_records fed.now) pending.new.items result }
+    ensures { Puts (writes W.Sink to.old to.new) (pending.old.items ++ spec.fed_records fed.now)
+        pending.new.items result }
 {
     for one in fed {
         match put_fed(to, pending, one) {
@@ -241,8 +243,8 @@ fn report_fault<E: Sink>(faults: &mut E, pid: u16, fault: FeedFault)
 
 // Writes the line of a report, and returns whether it is a report and no unit.
 #[tactic(auto, unfolding(es_feed::specs::EachStream::has_fault))]
-fn tell_one<E: Sink>(faults: &mut E, pids: &[u16], fed: &(u8, Result<Unit, FeedFault>)) -> bool
-    ensures tells { Tells (writes E.Sink faults.old faults.new).before (writes E.Sink faults.old faults.new).after
+fn report_one<E: Sink>(faults: &mut E, pids: &[u16], fed: &(u8, Result<Unit, FeedFault>)) -> bool
+    ensures reports_all { ReportsAll (writes E.Sink faults.old faults.new).before (writes E.Sink faults.old faults.new).after
         (spec.lines_of pids.now fed.now) }
     ensures found { result ≡ spec.has_fault fed.now }
 {
@@ -257,18 +259,18 @@ fn tell_one<E: Sink>(faults: &mut E, pids: &[u16], fed: &(u8, Result<Unit, FeedF
 
 /// Reports each unit that has no moment, each loss of packets, whatever else cuts units, each new map and each jump of
 /// the clock, and returns whether there is one.
-pub(crate) fn tell_faults<E: Sink>(
+pub(crate) fn report_faults<E: Sink>(
     faults: &mut E,
     pids: &[u16],
     fed: &[(u8, Result<Unit, FeedFault>)],
 ) -> bool
-    ensures tells { Tells (writes E.Sink faults.old faults.new).before (writes E.Sink faults.old faults.new).after
+    ensures reports_all { ReportsAll (writes E.Sink faults.old faults.new).before (writes E.Sink faults.old faults.new).after
         (spec.fed_lines pids.now fed.now) }
     ensures found { result ≡ spec.have_fault fed.now }
 {
     let mut found = false;
     for one in fed {
-        if tell_one(faults, pids, one) {
+        if report_one(faults, pids, one) {
             found = true;
         }
     }

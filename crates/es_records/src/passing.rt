@@ -7,7 +7,7 @@ ghost use Rattle.es_feed.specs.Watching.{IsWatchedBy, watched_first};
 ghost use Rattle.es_feed.specs.FedLines as lines;
 ghost use Rattle.es_records.specs.Passing as spec;
 
-use crate::fed_records::{tell_faults, write_fed};
+use crate::fed_records::{report_faults, write_fed};
 use counted_io::{Sink, Source};
 use devices::{Halt, report_halt};
 use es_feed::UnitFeed;
@@ -30,7 +30,7 @@ fn pass_fed<W: Sink, E: Sink>(
         (writes E.Sink faults.old faults.new) result }
 {
     match write_fed(output, fed) {
-        Ok(()) => Ok(tell_faults(faults, pids, fed)),
+        Ok(()) => Ok(report_faults(faults, pids, fed)),
         Err(halt) => Err(halt),
     }
 }
@@ -154,7 +154,7 @@ fn pass_last<W: Sink, E: Sink>(
 }
 
 // Returns whether either is true.
-fn either(early: bool, late: bool) -> bool
+fn is_faulty_pass(early: bool, late: bool) -> bool
     ensures { result ≡ (early || late) }
 {
     early || late
@@ -186,7 +186,7 @@ fn pass_all<R: Source, W: Sink, E: Sink>(
         }
     };
     match pass_last(alloc, pids, stream, output, faults) {
-        Ok(late) => Ok(either(early, late)),
+        Ok(late) => Ok(is_faulty_pass(early, late)),
         Err(halt) => Err(halt),
     }
 }

@@ -1,4 +1,4 @@
--- Units of data streams that are due at one moment, as they come.
+-- Units of data streams that are due at the same moment, one by one.
 use Rattle.std.proofs.Common.{◌≡◌, ◌≤◌, ◌∙◌, ℕ, ◌+◌, ◌%◌, ◌^◌, ◌++◌, ◌==◌, ◌||◌, nat_le, Bool, true, false, Option, Some, None, List, [], ◌∷◌, refl, ap}
 use Rattle.std.proofs.Common.{arith}
 use Rattle.std.specs.Prelude.{⊤}
@@ -37,7 +37,7 @@ unfolding apart_dts with_dts is_same_next apart_by
 apart_last place None = refl
 apart_last place (Some u) = refl
 
--- 2. Units of which the first can be a moment after a DTS
+-- 2. Units, the first of them due at a moment after a DTS
 
 unfoldable pub Soon : ℕ → Option ℕ → List CarriedUnit → Type 0
 Soon base before [] = ⊤
@@ -50,7 +50,7 @@ far_back a d e shown same = omega (arith, shown, same)
 is_far : (n : ℕ) → 2 ^ 32 ≤ n → nat_le (2 ^ 32) n ≡ true
 is_far n far = grind (arith, nat_tests)
 
--- it has another DTS than the one before, whether it is of a row with the next one or not
+-- The unit's DTS differs from the DTS before it, whether or not the next unit has the same DTS.
 other_dts : (base : ℕ) (before : Option ℕ) (d e : ℕ) (same : Bool) → dts_not_increasing base (Some (dts_at base before d)) (apart_by same 0 e) ≡ None →
     (e == d) ≡ false
 unfolding apart_by dts_not_increasing
@@ -71,9 +71,9 @@ not_same base before u [] soon = refl
 not_same base before u (v ∷ us) soon =
     and_false (u.stream_id == 0xBD) (v.unit.dts == u.unit.dts) (other_dts base before u.unit.dts v.unit.dts (is_same_next v us) soon)
 
--- 3. A unit that is given, and those after it
+-- 3. A unit that is given, and the units after it
 
--- the last DTS after a unit that is given
+-- The last DTS after a unit that is given
 unfoldable pub dts_past : ℕ → Option ℕ → Option CarriedUnit → Option ℕ
 dts_past base before None = before
 dts_past base before (Some u) = Some (dts_at base before u.unit.dts)

@@ -1,4 +1,4 @@
--- Units from findings, one by one.
+-- Units from findings, finding by finding.
 use Rattle.std.proofs.Common.{◌≡◌, ◌≤◌, ◌<◌, ℕ, ◌+◌, ◌||◌, Bool, false, Option, None, unwrap_or, List, [], ◌∷◌, length, map, drop, get_or, refl, sym, inl, inr}
 use Rattle.std.proofs.Common.{add-one}
 use Rattle.std.specs.List.{list_any}
@@ -13,7 +13,7 @@ use Rattle.es_units.specs.CarriedUnits.{end_of, is_cut, start_id, first_id, is_p
 use Rattle.es_units.specs.Laws.{FindingsOfThePid}
 use Rattle.es_moments.specs.WireUnits.{CarriedUnit}
 
--- 1. What a finding of another PID is for the units
+-- 1. A finding of another PID adds nothing to the units
 
 pub other_pid_ignored : (pid : ℕ) (f : FindingView) → has_pid pid f.pid ≡ false → role_of pid f ≡ Ignored
 unfolding role_of
@@ -80,7 +80,7 @@ same_in split pid (f ∷ fs) = elim (cases_Bool (has_pid pid f.pid)) [
 pub same_units : FindingsOfThePid
 same_units pid fs = rw (same_split pid fs) (same_in (is_split pid fs) pid fs)
 
--- 2. A finding, and those after it
+-- 2. A finding, and the findings after it
 
 pub continuation_at : {X : Type 0} (view : X → FindingView) (id pid i : ℕ) (fs : List X) (f : X) → i < length fs → f ≡ get_or fs i f →
     continuation id pid (map view (drop i fs)) ≡ continued_by (more_bytes id (role_of pid (view f))) (continuation id pid (map view (drop (i + 1) fs)))

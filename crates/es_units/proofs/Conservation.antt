@@ -1,4 +1,4 @@
--- What is in no unit is told.
+-- Bytes that are in no unit are reported.
 use Rattle.std.proofs.Common.{◌≡◌, ◌∙◌, ℕ, ◌++◌, ◌==◌, ◌&&◌, ◌||◌, Bool, true, false, if◌then◌else◌, Option, Some, None, List, [], ◌∷◌, length, flat_map}
 use Rattle.std.proofs.Common.{nat_le, refl, sym, ap}
 use Rattle.std.specs.List.{list_any}
@@ -23,36 +23,36 @@ use Rattle.es_units.specs.declared.unit_warning.UnitWarningCause.{UnitWarningCau
 use Rattle.es_units.specs.declared.unit_warning.UnitWarningCause.TheVariants as causes
 use Rattle.es_moments.specs.WireUnits.{CarriedUnit, unit_with}
 
--- 1. What is said of units, and what is not
+-- 1. Bytes in units, and bytes outside units
 
--- the bytes of units
+-- The bytes of units
 abbrev bytes_of : List CarriedUnit → List ℕ
 bytes_of us = flat_map (λ u. u.unit.bytes) us
 
--- nothing is left out by a warning, if there is one
+-- No warning reports bytes that are left out.
 abbrev IsQuiet : ℕ → Option UnitWarningCause → Type 0
 IsQuiet packet cause = list_any leaves_out (warning_list packet cause) ≡ false
 
--- the bytes that go on with the current unit, if there is one
+-- The bytes that continue the current unit, if any
 rest_of : Option ℕ → ℕ → List FindingView → List ℕ
 rest_of None pid fs = []
 rest_of (Some id) pid fs = continuation id pid fs
 
--- those from a role on
+-- The bytes that continue the current unit, from a role on
 rest_from : Option ℕ → RoleView → ℕ → List FindingView → List ℕ
 rest_from None b pid fs = []
 rest_from (Some id) b pid fs = continued_by (more_bytes id b) (continuation id pid fs)
 
--- a warning of something that is left out is not quiet
-told : (place : ℕ) (cause : UnitWarningCause) → IsQuiet place (Some cause) → is_left_out cause ≡ true → ⊥
+-- A warning about left-out bytes is not quiet.
+reported : (place : ℕ) (cause : UnitWarningCause) → IsQuiet place (Some cause) → is_left_out cause ≡ true → ⊥
 unfolding warning_list leaves_out
-told place cause quiet out = absurd (let no : true ≡ false = rw out at quiet in cc)
+reported place cause quiet out = absurd (let no : true ≡ false = rw out at quiet in cc)
 
 truncated : (place at count size : ℕ) (end : Bool) → IsQuiet place (Some (if end then causes.TruncatedByEnd size else causes.Truncated size)) → ⊥
-truncated place at count size true quiet = told place (causes.TruncatedByEnd size) quiet refl
-truncated place at count size false quiet = told place (causes.Truncated size) quiet refl
+truncated place at count size true quiet = reported place (causes.TruncatedByEnd size) quiet refl
+truncated place at count size false quiet = reported place (causes.Truncated size) quiet refl
 
--- 2. A role, with what follows
+-- 2. A role, and the findings after it
 
 abbrev Goes : Bool → ℕ → Option ℕ → RoleView → List FindingView → Type 0
 Goes split pid current b fs =
@@ -66,7 +66,7 @@ unfolding rest_of rest_from current_after body_of more_bytes continued_by units_
 by_ignored split pid None fs next = next
 by_ignored split pid (Some id) fs next = next
 
--- a unit in front of others
+-- A unit in front of later units
 one_before : (u : CarriedUnit) (later : List CarriedUnit) (b : Bool) → (length u.unit.bytes == 0) ≡ b → bytes_of (if b then later else u ∷ later) ≡ u.unit.bytes
     ++ bytes_of later
 one_before u later true is = rw (nil_from_length u.unit.bytes (eqb-true (length u.unit.bytes) 0 is)) refl
@@ -92,7 +92,7 @@ by_part : (split : Bool) (pid id : ℕ) (body : List ℕ) (fs : List FindingView
 by_part split pid id body fs next =
     ap (λ (bs : List ℕ). body ++ bs) next ∙ sym (append_assoc body (continuation id pid fs) (bytes_of (units_in split pid fs)))
 
--- of the current unit's stream_id, or of another
+-- A PES packet with the stream_id of the current unit, or with another stream_id
 by_same : (split : Bool) (pid place size id now : ℕ) (body : List ℕ) (unended same : Bool) (fs : List FindingView) → (id == now) ≡ same →
     IsQuiet place (if same then (if unended then Some causes.OpenEnded else None) else Some (causes.OtherStreamId id size)) →
     Follows split pid (Some now) (Continuation id body) fs → Goes split pid (Some now) (Continuation id body) fs
@@ -106,7 +106,7 @@ by_unstamped : (split : Bool) (pid place size id : ℕ) (current : Option ℕ) (
     IsQuiet place (unstamped_cause current id unended size) → Follows split pid current (Continuation id body) fs →
     Goes split pid current (Continuation id body) fs
 unfolding unstamped_cause
-by_unstamped split pid place size id None body unended fs quiet next = absurd (told place (causes.NoUnitBefore size) quiet refl)
+by_unstamped split pid place size id None body unended fs quiet next = absurd (reported place (causes.NoUnitBefore size) quiet refl)
 by_unstamped split pid place size id (Some now) body unended fs quiet next = by_same split pid place size id now body unended (id == now) fs refl quiet next
 
 by_absent : (split : Bool) (pid place size id : ℕ) (current : Option ℕ) (body : List ℕ) (unended padding : Bool) (fs : List FindingView) →
@@ -120,7 +120,7 @@ by_first : (split : Bool) (pid place size : ℕ) (current : Option ℕ) (u : Car
     (split && is_cut u.stream_id pid fs) ≡ lost →
     IsQuiet place (first_cause lost alone unended size) → Follows split pid current (Start u) fs → Goes split pid current (Start u) fs
 unfolding first_cause
-by_first split pid place size current u alone unended true fs is quiet next = absurd (told place causes.PartLost quiet refl)
+by_first split pid place size current u alone unended true fs is quiet next = absurd (reported place causes.PartLost quiet refl)
 by_first split pid place size current u alone unended false fs is quiet next = by_start split pid current u fs is next
 
 by_pes : (split : Bool) (pid packet place id : ℕ) (current : Option ℕ) (body : List ℕ) (unended : Bool) (marks : Marks) (stamps : Stamps)
@@ -144,19 +144,20 @@ unfolding cause_of_what role_of_what id_of
 by_what split pid count packet at place current unstamped access IsDuplicate fs quiet next = by_ignored split pid current fs next
 by_what split pid count packet at place current unstamped access (IsBadPacket error) fs quiet next = by_ignored split pid current fs next
 by_what split pid count packet at place current unstamped access IsErrored fs quiet next = by_ignored split pid current fs next
-by_what split pid count packet at place current unstamped access (IsStray size) fs quiet next = absurd (told place causes.Stray quiet refl)
+by_what split pid count packet at place current unstamped access (IsStray size) fs quiet next = absurd (reported place causes.Stray quiet refl)
 by_what split pid count packet at place current unstamped access (BreaksCounter expected found) fs quiet next =
-    absurd (told place (causes.Counter expected found) quiet refl)
-by_what split pid count packet at place current unstamped access IsScrambled fs quiet next = absurd (told place causes.Scrambled quiet refl)
+    absurd (reported place (causes.Counter expected found) quiet refl)
+by_what split pid count packet at place current unstamped access IsScrambled fs quiet next = absurd (reported place causes.Scrambled quiet refl)
 by_what split pid count packet at place current unstamped access (IsTruncated bytes) fs quiet next =
     absurd (truncated place at count (length bytes) (nat_le count at) quiet)
-by_what split pid count packet at place current unstamped access (IsSection bytes) fs quiet next = absurd (told place causes.Section quiet refl)
-by_what split pid count packet at place current unstamped access (IsBadSection error) fs quiet next = absurd (told place (causes.BadSection error) quiet refl)
-by_what split pid count packet at place current unstamped access (IsBadPes error) fs quiet next = absurd (told place (causes.BadPes error) quiet refl)
+by_what split pid count packet at place current unstamped access (IsSection bytes) fs quiet next = absurd (reported place causes.Section quiet refl)
+by_what split pid count packet at place current unstamped access (IsBadSection error) fs quiet next =
+    absurd (reported place (causes.BadSection error) quiet refl)
+by_what split pid count packet at place current unstamped access (IsBadPes error) fs quiet next = absurd (reported place (causes.BadPes error) quiet refl)
 by_what split pid count packet at place current unstamped access (IsPes header unended body) fs quiet next =
     by_pes split pid packet place header.id current body unended (header_marks access header) header.stamps fs quiet next
 
--- a finding, of this PID or of another one
+-- A finding of this PID or of another PID
 by_finding : (split : Bool) (pid count packet at place : ℕ) (current : Option ℕ) (unstamped access own : Bool) (what : WhatView) (fs : List FindingView) →
     IsQuiet place
     (if own then cause_of_what count at current (split && is_cut (id_of what) pid fs) (length (continuation (id_of what) pid fs) == 0) what else None) →
@@ -166,7 +167,7 @@ by_finding split pid count packet at place current unstamped access true what fs
     by_what split pid count packet at place current unstamped access what fs quiet next
 by_finding split pid count packet at place current unstamped access false what fs quiet next = by_ignored split pid current fs next
 
--- 3. All of them
+-- 3. All findings
 
 or_none : (a b : Bool) → (a || b) ≡ false → (a ≡ false) × (b ≡ false)
 or_none false false is = (refl, refl)

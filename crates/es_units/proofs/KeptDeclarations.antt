@@ -1,4 +1,4 @@
--- Units that a stream declares enough for.
+-- Units for which a stream declares enough.
 use Rattle.std.proofs.Common.{◌≡◌, ◌≤◌, ℕ, ◌+◌, ◌-◌, Option, Some, None, List, [], ◌∷◌, length, map, arith, All}
 use Rattle.std.proofs.lemmas.List.Elements.{All-nil, All-cons, All-head, All-tail}
 use Rattle.pes_packet.specs.AccessUnits.{AccessUnit}
@@ -18,7 +18,7 @@ use Rattle.es_units.specs.Laws.{FirstDue, UnitsAreKept}
 use Rattle.es_moments.proofs.StampFaults.{place_none, timely}
 use Rattle.es_moments.proofs.UnitCounts.{within_burst, bytes_most}
 
--- 1. Each by itself
+-- 1. Each unit alone
 
 unit_is : (r : StreamParameters) (limit base : ℕ) (before : Option ℕ) (u : AccessUnit) → unit_fault limit base before u ≡ None →
     1 ≤ length u.bytes → length (unit_at base before u).bytes + marks_size (unit_at base before u).marks ≤ r.size →
@@ -40,7 +40,7 @@ units_each r limit base place before (u ∷ us) none some size pts =
     (units_each r limit base (place + 1) (Some (dts_at base before u.dts)) us both.1 (All-tail (λ u. 1 ≤ length u.bytes) u us some) (omega (arith, size))
     (omega (arith, pts)))
 
--- 2. Their distances
+-- 2. The distances of units
 
 spaced_after : (l : OwnedStream) (base last : ℕ) (us : List AccessUnit) → l.parameters.interval ≤ interval_after last (moved base (Some last) us) →
     Spaced l.parameters.interval (last + l.parameters.interval) (map (timed l) (moved base (Some last) us))
@@ -57,7 +57,7 @@ unfolding moved Spaced min_interval FirstDue
 spaced_all l base [] le due = tt
 spaced_all l base (u ∷ us) le due = unfold unit_at in (due, spaced_after l base (dts_at base None u.dts) us le)
 
--- 3. Their sizes
+-- 3. The sizes of units
 
 sized_all : (l : OwnedStream) (us : List AccessUnit) → max_unit_size us ≤ l.parameters.size → Sized (19 + l.parameters.size) (map (timed l) us)
 unfolding Sized max_unit_size
@@ -66,7 +66,7 @@ sized_all l (u ∷ us) le =
     let most = bytes_most l.parameters.stream_id l.parameters.base0 l.parameters.size u (omega (arith, le)) in
     (omega (arith, most), sized_all l us (omega (arith, le)))
 
--- 4. The number of their packets
+-- 4. The number of packets of units
 
 grouped_all : (l : OwnedStream) (group most : ℕ) (us : List AccessUnit) → max_unit_size us ≤ l.parameters.size → max_group group (map (timed l) us) ≤ most →
     GroupsWithin group most (max_packets_per_unit l.parameters) (map (timed l) us)
@@ -86,7 +86,7 @@ allowed_all (Pace burst pace) l us size spaced allows =
     burst_law.more burst pace l.parameters.interval l.parameters.lead (map (timed l) us) spaced
     (within_burst (greatest_level pace (map (timed l) us)) burst (omega (arith, allows)))
 
--- 5. All together
+-- 5. All declarations together
 
 pub units_kept : UnitsAreKept
 units_kept l limit base wire none some declares =

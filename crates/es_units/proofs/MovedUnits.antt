@@ -1,4 +1,4 @@
--- Units moved one by one.
+-- Units that are moved one by one.
 use Rattle.std.proofs.Common.{Some, List, [], ◌∷◌, refl, ap}
 use Rattle.pes_packet.specs.AccessUnits.{AccessUnit}
 use Rattle.es_units.specs.Laws.{MovedInTurn}

@@ -1,4 +1,4 @@
--- Places of the findings of a PID: those between a place and the next one are of other PIDs.
+-- The places of the findings of a PID; all findings between two consecutive places are of other PIDs.
 use Rattle.std.proofs.Common.{◌≡◌, ◌≢◌, ◌∙◌, ℕ, zero, suc, ◌+◌, ◌<◌, ◌≤◌, ◌==◌, Bool, true, false, if◌then◌else◌, Option, Some, None, List, [], ◌∷◌}
 use Rattle.std.proofs.Common.{length, drop, map, set, replicate, get_or, slice_get, option_map, refl, sym, ap, arith, inl, inr, drop-drop, drop-cons}
 use Rattle.std.proofs.lemmas.Bool.{cases_Bool, eqb-false}
@@ -9,9 +9,9 @@ use Rattle.demux.specs.Laws.{found_of, has_pid}
 use Rattle.es_moments.proofs.ApartUnits.{same_number}
 use Rattle.es_units.specs.PidPlaces.{IsOnWay, pids_in, place_from, next_place, AreLinks}
 
--- 1. The first of a PID among some findings
+-- 1. The first finding of a PID in a list
 
--- how many are before it
+-- The number of findings before it
 unfoldable pub before_first : ℕ → List (Option ℕ) → ℕ
 before_first pid [] = 0
 before_first pid (p ∷ ps) = if has_pid pid p then 0 else suc (before_first pid ps)
@@ -50,7 +50,7 @@ past_by pid f fs false other later =
     (let more : before_first pid (pids_in (f ∷ fs)) ≡ suc (before_first pid (pids_in fs)) = rw other refl in more)
     ∙ later ∙ (let out : found_of pid fs ≡ found_of pid (f ∷ fs) = rw other refl in out)
 
--- what is passed over is of other PIDs
+-- The skipped findings are of other PIDs.
 found_past : (pid : ℕ) (fs : List FindingView) → found_of pid (drop (before_first pid (pids_in fs)) fs) ≡ found_of pid fs
 unfolding before_first
 found_past pid [] = refl
@@ -58,11 +58,11 @@ found_past pid (f ∷ fs) = past_by pid f fs (has_pid pid f.pid) refl (found_pas
 
 -- 2. A walk
 
--- it is at a finding of the PID, or past them all
+-- The walk is at a finding of the PID, or past all findings.
 abbrev pub IsOn : {X : Type 0} → (X → FindingView) → ℕ → ℕ → List X → Type 0
 IsOn view pid at fs = IsOnWay pid at (pids_in (map view fs))
 
--- it comes to this place from a place before which it has passed all
+-- From place `from` the walk gets to this place: the next finding of the PID, or the end.
 abbrev pub ComesTo : {X : Type 0} → (X → FindingView) → ℕ → ℕ → ℕ → List X → Type 0
 ComesTo view pid from at fs = at ≡ place_from pid from (drop from (pids_in (map view fs)))
 
@@ -102,7 +102,7 @@ rest_of view pid from at fs comes =
     ∙ ap (found_of pid) (sym (drop-map view n (drop from fs)))
     ∙ found_past pid rest
 
--- what the findings of the PID alone say is the same of the findings from there on
+-- A result that depends on the findings of the PID alone is the same from this place on.
 pub same_past : {X T : Type 0} (view : X → FindingView) (said : List FindingView → T) (pid from at : ℕ) (fs : List X) →
     ((ls : List FindingView) → said (found_of pid ls) ≡ said ls) → ComesTo view pid from at fs →
     said (map view (drop from fs)) ≡ said (map view (drop at fs))
@@ -120,7 +120,7 @@ pid_at view i fs none p below is =
     slice_get-map (λ (f : FindingView). f.pid) (map view fs) i ∙ ap (option_map (λ (f : FindingView). f.pid)) (slice_get-map view fs i)
     ∙ ap (λ (o : Option _). option_map (λ (f : FindingView). f.pid) (option_map view o)) (slice_get-get_or fs i none below) ∙ ap Some is
 
--- the PIDs of findings of which one changes, but for its PID
+-- A changed finding with the same PID leaves the list of PIDs as it is.
 pub pids_set : {X : Type 0} (view : X → FindingView) (i : ℕ) (fs : List X) (f g : X) → i < length fs → f ≡ get_or fs i f → (view g).pid ≡ (view f).pid →
     pids_in (map view (set fs i g)) ≡ pids_in (map view fs)
 pids_set view i fs f g below at same =
@@ -130,9 +130,9 @@ pids_set view i fs f g below at same =
     ap pids_in (map-set view fs i g) ∙ map-set (λ (x : FindingView). x.pid) (map view fs) i (view g) ∙ ap (set ps i) same
     ∙ set_same ps i (view f).pid here
 
--- 3. Links, made from the last finding to the first
+-- 3. Links, made from the last finding to the first finding
 
--- those of the findings from a place on
+-- The links of the findings from a place on
 pub record AreLinksFrom (left : ℕ) (firsts nexts : List ℕ) (pids : List (Option ℕ)) : Type 0 where
   pub all_pids : length firsts ≡ 65_536
   pub all_places : length nexts ≡ length pids
@@ -176,7 +176,7 @@ split_at left pids p is =
 here_or_past : (left at : ℕ) → left ≤ at → (left == at) ≡ false → left + 1 ≤ at
 here_or_past left at over apart = omega (arith, over, eqb-false left at apart)
 
--- a finding of no PID
+-- A finding without a PID
 pub links_passed : (left next : ℕ) (firsts nexts : List ℕ) (pids : List (Option ℕ)) → next ≡ left + 1 → slice_get pids left ≡ Some None →
     AreLinksFrom next firsts nexts pids → AreLinksFrom left firsts nexts pids
 unfolding place_from
@@ -199,7 +199,7 @@ own_first left pid q firsts rest pids below split later = elim (cases_Bool (pid 
   | inr apart ↦ rw (split, apart) (set_there firsts pid q left (eqb-false pid q apart) ∙ later)
 ]
 
--- a finding of a PID
+-- A finding with a PID
 pub links_taken : (left next pid first : ℕ) (firsts nexts : List ℕ) (pids : List (Option ℕ)) → next ≡ left + 1 → pid < 65_536 →
     slice_get pids left ≡ Some (Some pid) → first ≡ get_or firsts pid first →
     AreLinksFrom next firsts nexts pids → AreLinksFrom left (set firsts pid left) (set nexts left first) pids

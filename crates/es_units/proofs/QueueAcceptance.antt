@@ -1,4 +1,4 @@
--- Units that keep a declaration are taken one by one.
+-- A queue takes each unit of units that keep a declaration.
 use Rattle.std.proofs.Common.{◌≡◌, ◌≤◌, ◌<◌, ℕ, ◌+◌, ◌^◌, ◌==◌, ◌++◌, nat_lt, Bool, false, None, List, [], ◌∷◌, length, map, refl, sym, subst, arith, All, inl}
 use Rattle.std.proofs.Common.{inr}
 use Rattle.std.proofs.lemmas.Bool.{cases_Bool, le-ltb, lt-leb}
@@ -64,7 +64,7 @@ room_none l capacity us u room over =
     rw (lt-leb capacity (length (left_before l 0 us).units) few)
     (packets_none l.parameters.allowance (is_over l.parameters.allowance (map (timed l) us) (timed l u)) over)
 
--- 2. The units before it, and it
+-- 2. The last unit, and the units before it
 
 next_least : (apart from d : ℕ) (texts : List PesPacket) → next_due apart from texts ≤ d → next_due apart 0 texts ≤ d
 unfolding next_due
@@ -108,7 +108,7 @@ last_of l us u some kept =
       over = allowed.1;
     }
 
--- 3. One by one
+-- 3. One unit after another
 
 kept_front : (l : OwnedStream) (us more : List AccessUnit) → 0 < allowance_rows l.parameters.allowance → Kept l (us ++ more) → Kept l us
 kept_front l us [] some kept = subst (λ (x : List AccessUnit). Kept l x) (append-nil us) kept

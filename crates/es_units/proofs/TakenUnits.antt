@@ -1,4 +1,4 @@
--- Units that are moved out of findings.
+-- Units whose bodies are moved out of findings.
 use Rattle.std.proofs.Common.{◌≡◌, ◌<◌, ◌∙◌, ◌++◌, ◌==◌, ℕ, suc, Bool, true, false, if◌then◌else◌, Some, List, [], ◌∷◌, length, map, take, drop, set, get_or}
 use Rattle.std.proofs.Common.{refl, sym, ap}
 use Rattle.std.proofs.Math.Seq.{drop-cons}
@@ -19,12 +19,12 @@ use Rattle.es_units.specs.TakenUnits.{body_of, OthersStay}
 use Rattle.es_units.proofs.CarriedUnits.{same_units}
 use Rattle.es_moments.specs.WireUnits.{CarriedUnit, unit_with}
 
--- 1. The body of a PES packet with which a unit starts
+-- 1. The body of a PES packet that starts a unit
 
 with_body : CarriedUnit → List ℕ → CarriedUnit
 with_body u bytes = unit_with u.packet u.stream_id u.unit.dts u.unit.pts u.unit.marks bytes
 
--- a role with that body, if it is a start
+-- A role with this body, if it starts a unit
 in_role : RoleView → List ℕ → RoleView
 in_role (Start u) bytes = Start (with_body u bytes)
 in_role r bytes = r
@@ -74,7 +74,7 @@ unfolding in_role with_body
 start_body pid f packet id dts pts marks bytes is =
     sym (in_finding pid f) ∙ ap (λ (r : RoleView). in_role r (body_of f.what)) (sym is)
 
--- 2. What is found of other PIDs
+-- 2. Findings of other PIDs
 
 pub stay_same : (pid : ℕ) (fs gs : List FindingView) → gs ≡ fs → OthersStay pid fs gs
 stay_same pid fs gs is other apart = ap (found_of other) is
@@ -82,7 +82,7 @@ stay_same pid fs gs is other apart = ap (found_of other) is
 none_found : (pid other : ℕ) (f : FindingView) → (pid == other) ≡ false → f.pid ≡ Some pid → found_of other (f ∷ []) ≡ []
 none_found pid other f apart is = rw (is, apart) refl
 
--- of a finding of this one
+-- A finding of this PID changes no finding of another PID.
 pub stay_moved : (pid : ℕ) (f g : FindingView) → f.pid ≡ Some pid → g.pid ≡ Some pid → OthersStay pid (f ∷ []) (g ∷ [])
 stay_moved pid f g is stays other apart = none_found pid other g apart stays ∙ sym (none_found pid other f apart is)
 
@@ -95,7 +95,7 @@ of_parts other before f later =
     filter-append (λ (finding : FindingView). has_pid other finding.pid) before (f ∷ later)
     ∙ ap (λ (l : List FindingView). found_of other before ++ l) (filter-append (λ (finding : FindingView). has_pid other finding.pid) (f ∷ []) later)
 
--- of one of several
+-- A changed finding of this PID in a list changes no finding of another PID.
 stay_set : (pid i : ℕ) (fs : List FindingView) (f g : FindingView) → i < length fs → f ≡ get_or fs i f → OthersStay pid (f ∷ []) (g ∷ []) →
     OthersStay pid fs (set fs i g)
 stay_set pid i fs f g below at one other apart =
@@ -115,7 +115,7 @@ stay_at view pid i all fs gs f g below at is so_far one =
     (let set_as : map view gs ≡ set (map view fs) i (view g) = rw is (map-set view fs i g) in
     rw set_as (stay_set pid i (map view fs) (view f) (view g) (let b : i < length (map view fs) = rw (length-map fs view) below in b) at' one))
 
--- then its units are the same
+-- The units of another PID stay the same.
 pub others_carried : (pid other : ℕ) (fs gs : List FindingView) → OthersStay pid fs gs → (pid == other) ≡ false →
     carried_units other gs ≡ carried_units other fs
 others_carried pid other fs gs stay apart = sym (same_units other gs) ∙ ap (carried_units other) (stay other apart) ∙ same_units other fs

@@ -1,4 +1,4 @@
--- The units that findings give one by one are those that they carry.
+-- The units that findings give one by one are the units that the findings carry.
 use Rattle.std.proofs.Common.{◌≡◌, ◌∙◌, ℕ, ◌≤◌, ◌<◌, ◌+◌, ◌++◌, ◌==◌, ◌&&◌, ◌||◌, Bool, true, false, if◌then◌else◌, Option, Some, None, unwrap_or, List, []}
 use Rattle.std.proofs.Common.{◌∷◌, length, map, drop, get_or, option_map, refl, sym, ap, ap₂, add-one, inl, inr}
 use Rattle.std.specs.Option.{option_to_list}
@@ -16,7 +16,7 @@ use Rattle.es_units.proofs.CarriedUnits.{other_pid_ignored, same_continuation, s
 use Rattle.es_units.proofs.PidPlaces.{ComesTo, same_past}
 use Rattle.es_moments.specs.WireUnits.{CarriedUnit, unit_with}
 
--- 1. In turn
+-- 1. Findings in two consecutive lists
 
 pub in_turn : GivenInTurn
 unfolding given after_findings
@@ -31,14 +31,14 @@ unfolding has_id lengthened
 not_lengthened id body None is = refl
 not_lengthened id body (Some u) is = rw is refl
 
--- 2. The unit under way, with what follows
+-- 2. The current unit, with the findings after it
 
--- the units from it on
+-- The current unit and the units after it
 pub units_with : Bool → ℕ → Option CarriedUnit → List FindingView → List CarriedUnit
 units_with split pid None fs = units_in split pid fs
 units_with split pid (Some u) fs = whole_unit (split && is_cut u.stream_id pid fs) (with_more u (continuation u.stream_id pid fs)) (units_in split pid fs)
 
--- with a role before these findings
+-- The current unit and the units after it, with a role before these findings
 units_past : Bool → ℕ → Option CarriedUnit → RoleView → List FindingView → List CarriedUnit
 units_past split pid None b fs = units_from split pid b fs (units_in split pid fs)
 units_past split pid (Some u) b fs = whole_unit (split && unwrap_or (end_of u.stream_id b) (is_cut u.stream_id pid fs))
@@ -58,7 +58,7 @@ if_kept : (lost : Bool) (u : CarriedUnit) (later : List CarriedUnit) → whole_u
 if_kept true u later = refl
 if_kept false u later = if_empty (length u.unit.bytes == 0) u later
 
--- that ends with no more bytes
+-- The current unit ends with no more bytes.
 ends : (lost : Bool) (u : CarriedUnit) (later : List CarriedUnit) → whole_unit lost (with_more u []) later ≡ option_to_list (if_whole lost u) ++ later
 ends lost u later = ap (λ (w : CarriedUnit). whole_unit lost w later) (same_unit u) ∙ if_kept lost u later
 
@@ -114,7 +114,7 @@ with_next : (s : UnitsSoFar) (f : FindingView) (fs : List FindingView) →
     ++ units_with s.split s.pid (after_finding s f).unit fs
 with_next s f fs = past_here s.split s.pid s.unit f fs ∙ one_step s.split s.pid s.unit (role_of s.pid f) fs
 
--- 3. All of them
+-- 3. All findings
 
 with_none : (split : Bool) (pid : ℕ) (u : Option CarriedUnit) → units_with split pid u [] ≡ option_to_list (ended_unit false u)
 unfolding units_with units_in is_cut continuation ended_unit
@@ -136,7 +136,7 @@ pub are_carried : GivenAreCarried
 unfolding units_with
 are_carried pid fs = each_given (none_so_far pid (is_split pid fs)) fs
 
--- 4. Where nothing is cut
+-- 4. No unit is cut
 
 pub or_none : (a b : Bool) → (a || b) ≡ false → (a ≡ false) × (b ≡ false)
 or_none false false is = (refl, refl)
@@ -162,7 +162,7 @@ pub uncut_carried : UncutAreCarried
 unfolding units_with
 uncut_carried split pid fs whole = uncut (is_split pid fs) split pid fs whole ∙ each_given (none_so_far pid split) fs
 
--- 5. A list that is gone through
+-- 5. A walk over a list
 
 pub units_step : {X : Type 0} (view : X → FindingView) (s t : UnitsSoFar) (i : ℕ) (fs : List X) (f : X) (given_one : Option CarriedUnit)
     (all before after : List CarriedUnit) →
@@ -195,12 +195,12 @@ units_finish view s i fs last all before after over is ends_as pushed =
 
 -- 6. Whether a unit is cut
 
--- the one under way, of this stream_id, or one of these findings
+-- Whether the current unit with this stream_id, or a unit of these findings, is cut
 pub cut_with : ℕ → Option ℕ → List FindingView → Bool
 cut_with pid None fs = has_cut pid fs
 cut_with pid (Some id) fs = is_cut id pid fs || has_cut pid fs
 
--- with a role before these findings
+-- Whether a unit is cut, with a role before these findings
 cut_past : ℕ → Option ℕ → RoleView → List FindingView → Bool
 cut_past pid None b fs = is_start_cut pid b fs || has_cut pid fs
 cut_past pid (Some id) b fs = unwrap_or (end_of id b) (is_cut id pid fs) || (is_start_cut pid b fs || has_cut pid fs)
@@ -283,7 +283,7 @@ pub cut_start : {X : Type 0} (view : X → FindingView) (pid : ℕ) (fs : List X
 unfolding cut_with
 cut_start view pid fs u is = rw is refl
 
--- 7. Findings of other PIDs say nothing
+-- 7. Findings of other PIDs change nothing
 
 same_with : (split : Bool) (pid : ℕ) (u : Option CarriedUnit) (fs : List FindingView) → units_with split pid u (found_of pid fs) ≡ units_with split pid u fs
 unfolding units_with

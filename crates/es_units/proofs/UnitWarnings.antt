@@ -1,4 +1,4 @@
--- What is left out, finding by finding.
+-- The warnings about left-out bytes, finding by finding.
 use Rattle.std.proofs.Common.{◌≡◌, ◌≤◌, ◌<◌, ℕ, suc, ◌+◌, ◌++◌, ◌==◌, ◌&&◌, Bool, true, false, ◌||◌, Option, None, List, [], ◌∷◌, length, map, drop, get_or}
 use Rattle.std.proofs.Common.{◌∙◌, refl, sym, ap, ap₂, arith, add-one, inl, inr}
 use Rattle.std.proofs.Math.Seq.{drop-cons}
@@ -43,7 +43,7 @@ pub left_end : {X : Type 0} (view : X → FindingView) (split : Bool) (pid count
 unfolding warnings_from
 left_end view split pid count i current fs over = rw (drop_all i fs over) refl
 
--- whether more bytes come later matters only of a PES packet without bytes
+-- Whether more bytes follow matters only for a PES packet without bytes.
 twice : (a b : Bool) → (a && (a && b)) ≡ (a && b)
 twice true b = refl
 twice false b = refl
@@ -70,7 +70,7 @@ alone_if_empty count packet current lost alone IsErrored = refl
 alone_if_empty count packet current lost alone (IsStray size) = refl
 alone_if_empty count packet current lost alone (IsPes header unended body) = alone_of_pes current lost alone unended header.id header.stamps (length body)
 
--- before the first finding
+-- Before the first finding
 pub left_start : {X : Type 0} (view : X → FindingView) (split : Bool) (pid count : ℕ) (fs : List X) (none : List UnitWarning) → none ≡ [] →
     warnings_from split pid count None (map view fs) ≡ none ++ warnings_from split pid count None (map view (drop 0 fs))
 left_start view split pid count fs none is = rw is refl
@@ -79,7 +79,7 @@ pub none_before : {X : Type 0} (view : X → FindingView) (pid : ℕ) (fs : List
     has_cut pid (map view fs) ≡ (false || cut_with pid None (map view (drop 0 fs)))
 none_before view pid fs = cut_start view pid fs None refl
 
--- where no unit is cut, it is all the same whether units have several PES packets
+-- If no unit is cut, warnings do not depend on whether units have several PES packets.
 by_stamps : (a b : Bool) (pid : ℕ) (current : Option ℕ) (alone unended : Bool) (id first : ℕ) (marks : Marks) (stamps : Stamps) (body : List ℕ)
     (fs : List FindingView) →
     is_start_cut pid (pes_role first id marks stamps body) fs ≡ false →
@@ -128,7 +128,7 @@ uncut_warnings a b pid count current (f ∷ fs) whole =
     rw (same_cause a b pid count current f fs (has_pid pid f.pid) refl two.0, uncut_warnings a b pid count (current_after current (role_of pid f)) fs two.1)
     refl
 
--- bytes after none
+-- Bytes after an empty list
 pub alone_more : (xs ys : List ℕ) → length xs ≡ 0 → (length (xs ++ ys) == 0) ≡ (length ys == 0)
 alone_more [] ys none = refl
 alone_more (x ∷ xs) ys none = absurd (let no : ⊥ = omega (arith, none) in no)
@@ -136,7 +136,7 @@ alone_more (x ∷ xs) ys none = absurd (let no : ⊥ = omega (arith, none) in no
 pub alone_some : (xs ys : List ℕ) → 0 < length xs → (length (xs ++ ys) == 0) ≡ false
 alone_some xs ys some = not_none (length (xs ++ ys)) (omega (arith, length-append xs ys, some))
 
--- findings of other PIDs say nothing
+-- Findings of other PIDs change no cause of a warning.
 pub same_cause_of : (split : Bool) (pid count : ℕ) (current : Option ℕ) (f : FindingView) (fs : List FindingView) →
     cause_of split pid count current f (found_of pid fs) ≡ cause_of split pid count current f fs
 unfolding cause_of

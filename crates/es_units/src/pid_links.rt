@@ -60,7 +60,8 @@ impl<A: Allocator> PidLinks<A> {
         }
     }
 
-    /// Returns the place of the next finding of the PID of the finding at `at`; the number of findings, if there is none.
+    /// Returns the place of the next finding of the PID of the finding at `at`; the number of findings, if there is
+    /// none.
     pub fn next(&self, at: usize) -> usize
         ensures { (pids : List (Option ℕ)) (pid : ℕ) → spec.AreLinks self.now pids →
             slice_get pids at ≡ Some (Some pid) → result ≡ spec.next_place pid at pids }

@@ -234,7 +234,8 @@ fn cause_of<A: Allocator>(
 ) -> Option<UnitWarningCause>
     requires links { AreLinks links.now (pids_in (map finding_view findings.now)) }
     requires on { IsOnWay pid from (pids_in (map finding_view findings.now)) }
-    ensures { result ≡ spec.cause_of split pid count current (finding_view finding.now) (drop from (map finding_view findings.now)) }
+    ensures { result ≡ spec.cause_of split pid count current (finding_view finding.now)
+        (drop from (map finding_view findings.now)) }
 {
     if finding.pid != Some(pid) {
         return None;

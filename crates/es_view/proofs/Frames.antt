@@ -10,11 +10,11 @@ use Rattle.es_events.specs.declared.entry_events.Place.{Place}
 use Rattle.es_events.specs.declared.view_options.ViewOptions.{ViewOptions}
 use Rattle.es_view.specs.EntryFrames.{AreCounted, Counted, frame_after, frame_events, frames_after, frames_events, frames_held}
 
--- a frame that no list has
+-- A frame that is in no list
 abbrev pub no_part : FramePart
 no_part = record { place = 0; size = 0; ahead = 0 }
 
--- what the buffers hold after some frames, with those that are left, and the events that are still to come
+-- The content of the buffers after some frames, with the frames that remain and the later events
 pub record Settled (options : ViewOptions) (at : FramePlace) (window : ℕ) (place : Place) (b : CountedBuffers) (ps : List FramePart) (events : List Event)
     (last : Counted) (whole : List Event) : Type 0 where
   pub now : Counted
@@ -49,7 +49,7 @@ pub all_written : (options : ViewOptions) (at : FramePlace) (window : ℕ) (plac
 unfolding frames_events
 all_written options at window place b events last whole s = sym (append-nil events) ∙ s.rest
 
--- and of video
+-- The content of the video buffers after some frames
 pub record SettledVideo (options : ViewOptions) (at : FramePlace) (window : ℕ) (b : CountedBuffers) (sizes : Option VideoSizes) (ps : List FramePart)
     (last : Counted) : Type 0 where
   pub now : Counted
@@ -77,7 +77,7 @@ pub all_of_video : (options : ViewOptions) (at : FramePlace) (window : ℕ) (b :
 unfolding frames_after
 all_of_video options at window b sizes last s = subst (λ (c : Counted). HoldsVideoOf b.buffers sizes c.held) s.kept s.video
 
--- what the buffers hold after frames depends on nothing that is counted
+-- The content of the buffers after frames does not depend on any count.
 pub held_alone : (options : ViewOptions) (at : FramePlace) (window : ℕ) (c : Counted) (ps : List FramePart) →
     (frames_after options at window c ps).held ≡ frames_held options at c.held ps
 unfolding frames_after frames_held

@@ -1,4 +1,4 @@
--- A stream that is viewed by access units, or is not.
+-- Streams that are viewed by access units, and streams that are not.
 use Rattle.std.proofs.Common.{◌≡◌, ◌∙◌, sym, ℕ, Bool, List, ◌++◌, Option, Some, None, refl, ap, subst}
 use Rattle.std.specs.Prelude.{unwrap_or, is_some, if◌then◌else◌}
 use Rattle.sound_frames.specs.declared.frame_headers.FrameKind.{FrameKind}
@@ -27,7 +27,7 @@ use Rattle.es_events.specs.declared.mark_tally.MarkTally.{MarkTally}
 use Rattle.es_events.specs.Tallies.{more, none_counted}
 use Rattle.es_view.proofs.Frames.{held_alone}
 
--- whether it is
+-- Whether the stream is viewed by access units
 pub no_frames : (o : Option EntryFrames) (framed : Option Framed) → o ≡ None → AreFrames o framed → framed ≡ None
 unfolding AreFrames
 no_frames None None is k = refl
@@ -48,7 +48,7 @@ has_frames (Some x) fr (Some f) is k =
     let same : x ≡ fr = cc in
     record { state = f; is = refl; walk = ap (λ (y : EntryFrames). y.walk) (sym same) ∙ k.0; tick = ap (λ (y : EntryFrames). y.tick) (sym same) ∙ k.1 }
 
--- what is counted
+-- The counts
 abbrev pub counted_of : EntryState → Held → Tally → Counted
 counted_of e h t = record { held = h; tally = t; delayed = e.delayed }
 
@@ -80,7 +80,7 @@ pub framed_video : (entry : StreamEntry) (e : EntryState) (f : Framed) → IsEnt
 unfolding held_in
 framed_video entry e f k is = subst (λ (o : Option Framed). HoldsVideoOf entry.seen.buffers e.video (held_in o e.held)) is k.video
 
--- a packet has entered the buffers of one that is not
+-- A packet has entered the buffers of a stream that is not viewed by access units.
 pub whole_entered : (entry entry' : StreamEntry) (options : ViewOptions) (index window : ℕ) (clock : Option PcrSample) (e : EntryState) (packet : PacketView) →
     IsEntry entry e → e.framed ≡ None →
     entry'.pid ≡ entry.pid → entry'.clock_pid ≡ entry.clock_pid → entry'.counter ≡ entry.counter → entry'.frames ≡ None → entry'.limit ≡ entry.limit →
@@ -110,7 +110,7 @@ pub whole_found : (options : ViewOptions) (index : ℕ) (clock : Option PcrSampl
 unfolding events_entered
 whole_found options index clock place e packet none = rw none refl
 
--- and of one that is
+-- A packet has entered the buffers of a stream that is viewed by access units.
 pub framed_entered : (entry entry' : StreamEntry) (options : ViewOptions) (index window : ℕ) (clock : Option PcrSample) (e : EntryState) (packet : PacketView)
     (f : Framed) (fr : EntryFrames) →
     IsEntry entry e → e.framed ≡ Some f → entry'.pid ≡ entry.pid → entry'.clock_pid ≡ entry.clock_pid → entry'.counter ≡ entry.counter →
@@ -143,7 +143,7 @@ pub framed_found : (options : ViewOptions) (index : ℕ) (clock : Option PcrSamp
 unfolding events_entered
 framed_found options index clock place e packet f is = rw is refl
 
--- what the buffers hold then
+-- The content of the buffers after the packet entered
 pub entered_held : (options : ViewOptions) (index window : ℕ) (clock : Option PcrSample) (e : EntryState) (packet : PacketView) →
     seen_held (entry_entered options index window clock e packet) ≡ held_after options index clock e packet e.framed
 unfolding held_in framed_after held_after
@@ -160,7 +160,7 @@ entered_held options index window clock e packet = by e.framed
         (front_after options window (is_unread (beginning_in e.counter packet)) p.arriving (count_of p f.walk) (counted_of e f.held f.tally))
         (frames_among p f.walk)
 
--- and once it is counted
+-- The content of the buffers after the packet was counted
 pub entry_counted : (entry entry' : StreamEntry) (options : ViewOptions) (index window : ℕ) (clock : Option PcrSample) (e : EntryState) (packet : PacketView) →
     IsEntry entry (entry_entered options index window clock e packet) → entry'.pid ≡ entry.pid → entry'.clock_pid ≡ entry.clock_pid →
     entry'.counter ≡ counter_after e.counter packet → entry'.frames ≡ entry.frames → entry'.limit ≡ entry.limit → entry'.video_tally ≡ entry.video_tally →

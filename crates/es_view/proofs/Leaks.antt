@@ -1,4 +1,4 @@
--- The multiplexing buffer of a stream of video, if it is viewed: how long it is not empty.
+-- The multiplexing buffer of a video stream, if it is viewed: how long it is not empty.
 use Rattle.std.proofs.Common.{◌≡◌, ◌∙◌, ℕ, List, [], ◌++◌, Option, Some, None, refl, sym, ap, ap₂, subst, append-nil}
 use Rattle.tstd_rows.specs.Held.{Held}
 use Rattle.tstd_rows.specs.HeldVideo.{HoldsVideo, IsVideoHeld, VideoSizes}
@@ -30,7 +30,7 @@ some_leaks None v sizes h stay is k f = absurd cc
 some_leaks (Some w) v None h stay is k f = absurd k
 some_leaks (Some w) v (Some s) h stay is k f = let same : w ≡ v = cc in f s (subst (λ (x : VideoBuffers). IsVideoHeld x s h.rate h.parts) same k)
 
--- and whether such a time has ended
+-- Whether a time without an empty multiplexing buffer has ended
 pub none_stays : (options : ViewOptions) (place : Place) (video : Option VideoBuffers) (sizes : Option VideoSizes) (held h : Held) (events : List Event) →
     video ≡ None → HoldsVideo video sizes h.rate h.parts →
     events ≡ events ++ leak_ended options place (leak_busy_of sizes held) (leak_busy_of sizes h)

@@ -1,4 +1,4 @@
--- The bytes of units that are in a main buffer at a moment, one unit after another.
+-- The bytes of units in a main buffer at a moment, one unit after another.
 use Rattle.std.proofs.Common.{◌≡◌, ◌∙◌, ℕ, ◌+◌, ◌<◌, ◌≤◌, nat_lt, List, [], ◌∷◌, length, drop, get_or, refl, ap, arith, add-one, inl, inr, le_refl}
 use Rattle.std.proofs.lemmas.List.{drop_all}
 use Rattle.std.proofs.lemmas.Bool.{cases_Bool}
@@ -11,7 +11,7 @@ use Rattle.tstd_rows.specs.declared.stream_buffers.StreamBuffers.{StreamBuffers}
 use Rattle.tstd_rows.specs.declared.transport_buffer.TransportBuffer.{TransportBuffer}
 use Rattle.es_view.specs.HeldEvents.{main_now}
 
--- one more of those from i on, and none past the end
+-- The bytes of the units from i on are the bytes of unit i and of the units after it.
 pub buffered_next : (x : ℕ) (units : List BufferedUnit) (i : ℕ) (d : BufferedUnit) → i < length units →
     all_buffered x (drop i units) ≡ buffered_bytes x (get_or units i d) + all_buffered x (drop (i + 1) units)
 unfolding all_buffered
@@ -21,7 +21,7 @@ pub buffered_end : (x : ℕ) (units : List BufferedUnit) (i : ℕ) → length un
 unfolding all_buffered
 buffered_end x units i over = rw (drop_all i units over) refl
 
--- no more than all of them
+-- At most all bytes of a unit are in the buffer.
 pub one_fewer : (x : ℕ) (unit : BufferedUnit) → buffered_bytes x unit ≤ unit.bytes
 one_fewer x unit = elim (cases_Bool (nat_lt x unit.until)) [ inl a ↦ rw a (omega arith) | inr a ↦ rw a (omega arith) ]
 
@@ -30,7 +30,7 @@ unfolding all_buffered all_bytes
 all_fewer x [] = omega arith
 all_fewer x (unit ∷ units) = omega (arith, one_fewer x unit, all_fewer x units)
 
--- together they are what the buffer holds when the last byte has left the transport buffer
+-- The bytes of all units make up the buffer when the last byte has left the transport buffer.
 pub main_sum : (b : StreamBuffers) (h : Held) → IsHeld b h →
     all_buffered b.view.transport.last b.view.main.earlier.items + buffered_bytes b.view.transport.last b.view.main.current ≡ main_now h
 main_sum b h k =

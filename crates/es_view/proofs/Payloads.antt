@@ -17,7 +17,7 @@ pub same_place : (packet limit base base' tick tick' : ℕ) → base ≡ base' �
     (record { packet = packet; limit = limit; base = base'; tick = tick' })
 same_place packet limit base base' tick tick' p q = rw (p, q) refl
 
--- what is said of the buffers after the payload's front and its frames is said of them after the payload
+-- The buffers after the front of a payload and its frames are the buffers after the payload.
 pub after_payload : (S : Counted → Type 0) (options : ViewOptions) (window : ℕ) (unread : Bool) (limit : ℕ) (p : FramedPayload) (w : WalkView) (tick : ℕ)
     (c : Counted) (at : FramePlace) (count : ℕ)
     (parts : List FramePart) → at ≡ place_of limit p tick → count ≡ count_of p w → parts ≡ frames_among p w →
@@ -27,7 +27,7 @@ after_payload S options window unread limit p w tick c at count parts is_at is_c
     (subst (λ (n : ℕ). S (frames_after options at window (front_after options window unread p.arriving n c) (frames_among p w))) is_count
     (subst (λ (ps : List FramePart). S (frames_after options at window (front_after options window unread p.arriving count c) ps)) are k))
 
--- and what is found of it
+-- The events of the payload
 pub payload_written : (options : ViewOptions) (place : Place) (limit : ℕ) (p : FramedPayload) (w : WalkView) (tick : ℕ) (h : Held) (at : FramePlace) (count : ℕ)
     (parts : List FramePart)
     (t0 t1 t2 : List Event) → at ≡ place_of limit p tick → count ≡ count_of p w → parts ≡ frames_among p w →
@@ -44,7 +44,7 @@ payload_written options place limit p w tick h at count parts t0 t1 t2 is_at is_
     ∙ ap (λ (ps : List FramePart). t1 ++ frames_events options place (place_of limit p tick) (front_held options p w h) ps) are in
     two ∙ ap (λ (t : List Event). t ++ b) one ∙ append_assoc t0 a b
 
--- alike payloads, in alike states, leave alike buffers
+-- Equal payloads, in equal states, leave equal buffers.
 pub alike_after : (S : Counted → Type 0) (options : ViewOptions) (window : ℕ) (unread unread' : Bool) (limit limit' : ℕ) (p p' : FramedPayload)
     (w w' : WalkView) (tick tick' : ℕ) (c : Counted) →
     unread ≡ unread' → limit ≡ limit' → p ≡ p' → w ≡ w' → tick ≡ tick' →
@@ -56,7 +56,7 @@ alike_after S options window unread unread' limit limit' p p' w w' tick tick' c 
     (subst (λ (x : ℕ). S (payload_after options window unread' x p w tick c)) h2
     (subst (λ (x : Bool). S (payload_after options window x limit p w tick c)) h1 k))))
 
--- and alike events
+-- Equal payloads, in equal states, give equal events.
 pub alike_events : (options : ViewOptions) (place : Place) (limit limit' : ℕ) (p p' : FramedPayload) (w w' : WalkView) (tick tick' : ℕ) (h : Held) →
     limit ≡ limit' → p ≡ p' → w ≡ w' → tick ≡ tick' →
     payload_events options place limit p w tick h ≡ payload_events options place limit' p' w' tick' h

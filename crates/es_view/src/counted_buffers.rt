@@ -116,7 +116,8 @@ pub(crate) fn add_entered(
 
 // Returns what a packet found in both buffers of video.
 fn video_row_of(buffers: &StreamBuffers, packet: u64, entered: &VideoEntered) -> TraceRow
-    ensures { (h : Held) → IsHeld buffers.now h → result ≡ video_row h packet (video_view entered.now) entered.now.unit }
+    ensures { (h : Held) → IsHeld buffers.now h →
+        result ≡ video_row h packet (video_view entered.now) entered.now.unit }
 {
     let begins = entered.unit.is_some();
     TraceRow {
@@ -181,7 +182,8 @@ impl CountedBuffers {
     /// Returns how long the buffers are not empty.
     #[tactic(auto, unfolding(crate::specs::EntryFrames::leak_busy_of))]
     pub(crate) fn busy(&self) -> BusySeen
-        ensures { (h : Held) (sizes : Option VideoSizes) → IsHeld self.now.buffers h → HoldsVideoOf self.now.buffers sizes h →
+        ensures { (h : Held) (sizes : Option VideoSizes) → IsHeld self.now.buffers h →
+            HoldsVideoOf self.now.buffers sizes h →
             result ≡ spec.busy_seen sizes h }
     {
         let multiplexing = match &self.buffers.video {
@@ -197,7 +199,8 @@ impl CountedBuffers {
     /// Returns how many times the buffers were not empty for too long.
     #[tactic(auto, unfolding(crate::specs::EntryFrames::leak_busy_of, crate::specs::EntryFrames::leak_count))]
     pub(crate) fn busy_counts(&self) -> BusyCounts
-        ensures { (h : Held) (sizes : Option VideoSizes) → IsHeld self.now.buffers h → HoldsVideoOf self.now.buffers sizes h →
+        ensures { (h : Held) (sizes : Option VideoSizes) → IsHeld self.now.buffers h →
+            HoldsVideoOf self.now.buffers sizes h →
             result ≡ spec.counts_of (spec.busy_seen sizes h) }
     {
         let multiplexing = match &self.buffers.video {
@@ -232,13 +235,19 @@ impl CountedBuffers {
         video_tally: &mut VideoTally,
         events: &mut Vec<Event>,
     ) -> Result<(), AllocError>
-        ensures counted { (c : Counted) → AreCounted self.old c → OnOk result (AreCounted self.new (spec.whole_after options.now window unread arriving.now c)) }
-        ensures video { (c : Counted) (sizes : Option VideoSizes) → AreCounted self.old c → HoldsVideoOf self.old.buffers sizes c.held →
+        ensures counted { (c : Counted) → AreCounted self.old c →
+            OnOk result (AreCounted self.new (spec.whole_after options.now window unread arriving.now c)) }
+        ensures video { (c : Counted) (sizes : Option VideoSizes) → AreCounted self.old c →
+            HoldsVideoOf self.old.buffers sizes c.held →
             OnOk result (HoldsVideoOf self.new.buffers sizes (after c.held options.now.arrival arriving.now)) }
-        ensures tally { (c : Counted) (sizes : Option VideoSizes) → AreCounted self.old c → HoldsVideoOf self.old.buffers sizes c.held →
-            OnOk result (video_tally.new ≡ spec.video_counted video_tally.old sizes c.held options.now.arrival arriving.now) }
-        ensures found { (c : Counted) (sizes : Option VideoSizes) → AreCounted self.old c → HoldsVideoOf self.old.buffers sizes c.held →
-            OnOk result (events.new.items ≡ events.old.items ++ spec.whole_events options.now place.now arriving.now sizes c.held) }
+        ensures tally { (c : Counted) (sizes : Option VideoSizes) → AreCounted self.old c →
+            HoldsVideoOf self.old.buffers sizes c.held →
+            OnOk result (video_tally.new
+            ≡ spec.video_counted video_tally.old sizes c.held options.now.arrival arriving.now) }
+        ensures found { (c : Counted) (sizes : Option VideoSizes) → AreCounted self.old c →
+            HoldsVideoOf self.old.buffers sizes c.held →
+            OnOk result (events.new.items
+            ≡ events.old.items ++ spec.whole_events options.now place.now arriving.now sizes c.held) }
     {
         let limits = video_limits(&self.buffers);
         let mut entered = Entered::new();
@@ -270,9 +279,12 @@ impl CountedBuffers {
         count: u64,
         events: &mut Vec<Event>,
     ) -> Result<(), AllocError>
-        ensures counted { (c : Counted) → AreCounted self.old c → OnOk result (AreCounted self.new (spec.front_after options.now window unread arriving.now count c)) }
-        ensures video { (c : Counted) (sizes : Option VideoSizes) → AreCounted self.old c → HoldsVideoOf self.old.buffers sizes c.held →
-            OnOk result (HoldsVideoOf self.new.buffers sizes (spec.front_after options.now window unread arriving.now count c).held) }
+        ensures counted { (c : Counted) → AreCounted self.old c →
+            OnOk result (AreCounted self.new (spec.front_after options.now window unread arriving.now count c)) }
+        ensures video { (c : Counted) (sizes : Option VideoSizes) → AreCounted self.old c →
+            HoldsVideoOf self.old.buffers sizes c.held →
+            OnOk result (HoldsVideoOf self.new.buffers sizes
+            (spec.front_after options.now window unread arriving.now count c).held) }
         ensures found { (c : Counted) → AreCounted self.old c → OnOk result (events.new.items
             ≡ events.old.items ++ spec.front_events options.now place.now arriving.now count c.held) }
     {
@@ -302,9 +314,12 @@ impl CountedBuffers {
         frame: &FramePart,
         events: &mut Vec<Event>,
     ) -> Result<(), AllocError>
-        ensures counted { (c : Counted) → AreCounted self.old c → OnOk result (AreCounted self.new (spec.frame_after options.now at.now window c frame.now)) }
-        ensures video { (c : Counted) (sizes : Option VideoSizes) → AreCounted self.old c → HoldsVideoOf self.old.buffers sizes c.held →
-            OnOk result (HoldsVideoOf self.new.buffers sizes (spec.frame_after options.now at.now window c frame.now).held) }
+        ensures counted { (c : Counted) → AreCounted self.old c →
+            OnOk result (AreCounted self.new (spec.frame_after options.now at.now window c frame.now)) }
+        ensures video { (c : Counted) (sizes : Option VideoSizes) → AreCounted self.old c →
+            HoldsVideoOf self.old.buffers sizes c.held →
+            OnOk result (HoldsVideoOf self.new.buffers sizes
+            (spec.frame_after options.now at.now window c frame.now).held) }
         ensures found { (c : Counted) → AreCounted self.old c → OnOk result (events.new.items
             ≡ events.old.items ++ spec.frame_events options.now place.now at.now c.held frame.now) }
     {
@@ -337,9 +352,12 @@ impl CountedBuffers {
         frames: &[FramePart],
         events: &mut Vec<Event>,
     ) -> Result<(), AllocError>
-        ensures counted { (c : Counted) → AreCounted self.old c → OnOk result (AreCounted self.new (spec.frames_after options.now at.now window c frames.now)) }
-        ensures video { (c : Counted) (sizes : Option VideoSizes) → AreCounted self.old c → HoldsVideoOf self.old.buffers sizes c.held →
-            OnOk result (HoldsVideoOf self.new.buffers sizes (spec.frames_after options.now at.now window c frames.now).held) }
+        ensures counted { (c : Counted) → AreCounted self.old c →
+            OnOk result (AreCounted self.new (spec.frames_after options.now at.now window c frames.now)) }
+        ensures video { (c : Counted) (sizes : Option VideoSizes) → AreCounted self.old c →
+            HoldsVideoOf self.old.buffers sizes c.held →
+            OnOk result (HoldsVideoOf self.new.buffers sizes
+            (spec.frames_after options.now at.now window c frames.now).held) }
         ensures found { (c : Counted) → AreCounted self.old c → OnOk result (events.new.items
             ≡ events.old.items ++ spec.frames_events options.now place.now at.now c.held frames.now) }
     {

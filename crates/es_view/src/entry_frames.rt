@@ -114,15 +114,20 @@ impl EntryFrames {
         seen: &mut CountedBuffers,
         events: &mut Vec<Event>,
     ) -> Result<(), AllocError>
-        ensures walk { OnOk result (self.new.walk ≡ walk_after (spec.walk_in (spec.payload_view payload.now) self.old.walk) payload.now.bytes.now) }
+        ensures walk { OnOk result (self.new.walk
+            ≡ walk_after (spec.walk_in (spec.payload_view payload.now) self.old.walk) payload.now.bytes.now) }
         ensures tick { OnOk result (self.new.tick ≡ unwrap_or payload.now.tick self.old.tick) }
         ensures counted { (c : Counted) → AreCounted seen.old c → OnOk result (AreCounted seen.new
-            (spec.payload_after options.now window unread limit (spec.payload_view payload.now) self.old.walk self.old.tick c)) }
-        ensures video { (c : Counted) (sizes : Option VideoSizes) → AreCounted seen.old c → HoldsVideoOf seen.old.buffers sizes c.held →
+            (spec.payload_after options.now window unread limit
+            (spec.payload_view payload.now) self.old.walk self.old.tick c)) }
+        ensures video { (c : Counted) (sizes : Option VideoSizes) → AreCounted seen.old c →
+            HoldsVideoOf seen.old.buffers sizes c.held →
             OnOk result (HoldsVideoOf seen.new.buffers sizes
-            (spec.payload_after options.now window unread limit (spec.payload_view payload.now) self.old.walk self.old.tick c).held) }
+            (spec.payload_after options.now window unread limit
+            (spec.payload_view payload.now) self.old.walk self.old.tick c).held) }
         ensures found { (c : Counted) → AreCounted seen.old c → OnOk result (events.new.items
-            ≡ events.old.items ++ spec.payload_events options.now place.now limit (spec.payload_view payload.now) self.old.walk self.old.tick c.held) }
+            ≡ events.old.items ++ spec.payload_events options.now place.now limit
+            (spec.payload_view payload.now) self.old.walk self.old.tick c.held) }
     {
         begin_walk(&mut self.walk, payload.beginning, payload.tick);
         let tick = payload.tick.unwrap_or(self.tick);

@@ -129,7 +129,8 @@ pub(crate) fn payload_of<'a>(
     packet: &Packet<'a>,
 ) -> FramedPayload<'a>
     requires { beginning ≡ spec.beginning_in counter (packet_view packet.now) }
-    ensures { frames.payload_view result ≡ spec.payload_of options.now index rx counter clock.now (packet_view packet.now) }
+    ensures { frames.payload_view result
+        ≡ spec.payload_of options.now index rx counter clock.now (packet_view packet.now) }
 {
     let size = packet.payload.unwrap_or(&[]).len() as u64;
     FramedPayload {

@@ -14,7 +14,8 @@ use tstd_rows::StreamBuffers;
 // Returns the most and the least bytes in the main buffer: if no payload byte entered it, what it holds now.
 #[tactic(auto, unfolding(crate::specs::HeldEvents::main_held))]
 fn main_held(tally: &Tally, buffers: &StreamBuffers) -> (u64, u64)
-    ensures { (h : Held) → IsHeld buffers.now h → result ≡ spec.main_held tally.now.window_main h tally.now.window_least }
+    ensures { (h : Held) → IsHeld buffers.now h →
+        result ≡ spec.main_held tally.now.window_main h tally.now.window_least }
 {
     match tally.window_least {
         None => {

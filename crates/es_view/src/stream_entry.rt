@@ -52,7 +52,8 @@ pub struct StreamEntry {
 // Returns the buffer that bytes leave when they are decoded.
 #[tactic(auto, unfolding(crate::specs::Entries::last_buffer))]
 fn last_buffer(buffers: &StreamBuffers) -> BufferKind
-    ensures { (h : Held) (sizes : Option VideoSizes) → HoldsVideoOf buffers.now sizes h → result ≡ spec.last_buffer sizes }
+    ensures { (h : Held) (sizes : Option VideoSizes) → HoldsVideoOf buffers.now sizes h →
+        result ≡ spec.last_buffer sizes }
 {
     match &buffers.video {
         None => BufferKind::Main,
@@ -90,7 +91,8 @@ fn push_stays(
     before: &BusyCounts,
     buffers: &StreamBuffers,
 ) -> Result<(), AllocError>
-    ensures { (h held : Held) (sizes : Option VideoSizes) → before.now ≡ frames.counts_of (frames.busy_seen sizes held) →
+    ensures { (h held : Held) (sizes : Option VideoSizes) →
+        before.now ≡ frames.counts_of (frames.busy_seen sizes held) →
         IsHeld buffers.now h → HoldsVideoOf buffers.now sizes h → OnOk result (events.new.items ≡ events.old.items
         ++ frames.stays_ended options.now place.now (frames.busy_seen sizes held) (frames.busy_seen sizes h)) }
 {
@@ -141,7 +143,8 @@ impl StreamEntry {
         ensures entry { (e : EntryState) → IsEntry self.old e → OnOk result
             (IsEntry self.new (spec.entry_entered options.now index window clock.now e (packet_view packet.now))) }
         ensures found { (e : EntryState) → IsEntry self.old e → OnOk result (events.new.items
-            ≡ events.old.items ++ spec.events_entered options.now index clock.now place.now e (packet_view packet.now) e.framed) }
+            ≡ events.old.items ++ spec.events_entered options.now index clock.now place.now e
+            (packet_view packet.now) e.framed) }
     {
         let unread = is_unread(beginning);
         let rx = self.seen.buffers.rx;

@@ -1,4 +1,4 @@
--- The fields of a line, each by what it says.
+-- The fields of a line, one after another
 use Rattle.std.proofs.Common.{◌≡◌, [], ◌∷◌, refl}
 use Rattle.event_lines.specs.FieldViews.{FieldView}
 

@@ -1,4 +1,4 @@
--- Parts of a text, one after another.
+-- Parts of a text, one after another
 use Rattle.std.proofs.Common.{◌≡◌, ◌∙◌, ℕ, List, ◌++◌, Result, Ok, Err, ap, append_assoc}
 use Rattle.std.specs.Prelude.{OnOk}
 

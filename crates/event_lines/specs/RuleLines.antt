@@ -2,6 +2,7 @@
 use Rattle.std.specs.Prelude.{ℕ, Bool, List, [], ◌∷◌, codes}
 use Rattle.events.specs.declared.event.ClockFault.{ClockFault}
 use Rattle.events.specs.declared.event.TableFault.{TableFault}
+use Rattle.events.specs.declared.rule_event.AbsentTable.{AbsentTable}
 use Rattle.events.specs.declared.rule_event.BufferStay.{BufferStay}
 use Rattle.events.specs.declared.rule_event.ClockFigures.{ClockFigures}
 use Rattle.events.specs.declared.rule_event.OtherTable.{OtherTable}
@@ -33,6 +34,9 @@ abbrev pub scrambled_line : Bool → List ℕ → ScrambledPacket → List ℕ
 scrambled_line json word e = line_of json word
     (number_field (codes "pid") e.pid ∷ number_field (codes "packet") e.packet ∷ [])
 
+abbrev pub no_table_line : Bool → AbsentTable → List ℕ
+no_table_line json e = line_of json (codes "no_table") (number_field (codes "pid") e.pid ∷ number_field (codes "table") e.table ∷ [])
+
 abbrev pub stay_line : Bool → List ℕ → BufferStay → List ℕ
 stay_line json word e = line_of json word
     (number_field (owner_word e.buffer) e.number ∷ word_field (codes "buffer") (word_of e.buffer)
@@ -56,6 +60,7 @@ rule_line json (rules.SectionDistance e) = distance_line json e
 rule_line json (rules.OtherTable e) = other_table_line json e
 rule_line json (rules.ScrambledTable e) = scrambled_line json (codes "scrambled_table") e
 rule_line json (rules.NoCat e) = scrambled_line json (codes "no_cat") e
+rule_line json (rules.NoTable e) = no_table_line json e
 rule_line json (rules.NotEmpty e) = stay_line json (codes "not_empty") e
 rule_line json (rules.Delayed e) = stay_line json (codes "delayed") e
 rule_line json (rules.VariableRate e) = variable_line json e

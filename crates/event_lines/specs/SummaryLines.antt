@@ -2,8 +2,8 @@
 use Rattle.std.specs.Prelude.{ℕ, ◌==◌, if◌then◌else◌, Bool, List, [], ◌∷◌, ◌++◌, codes, flat_map, Option, Some, None}
 use Rattle.events.specs.declared.check_counts.CheckTotals.{CheckTotals}
 use Rattle.events.specs.declared.check_counts.FaultCount.{FaultCount}
-use Rattle.events.specs.declared.check_counts.Untold.{Untold}
-use Rattle.events.specs.declared.check_counts.Untold.TheVariants.{NoClock, VariableRate}
+use Rattle.events.specs.declared.check_counts.NoVerdict.{NoVerdict}
+use Rattle.events.specs.declared.check_counts.NoVerdict.TheVariants.{NoClock, VariableRate}
 use Rattle.events.specs.declared.fault.Fault.{Fault}
 use Rattle.events.specs.declared.fault.Measured.{Measured}
 use Rattle.events.specs.declared.fault_kind.FaultSource.{FaultSource}
@@ -64,9 +64,9 @@ faults_line json e = first_text json (codes "faults") ++ (field_text json (word_
 
 -- 3. Checks
 
-unfoldable pub untold_word : Untold → List ℕ
-untold_word NoClock = codes "no_clock"
-untold_word VariableRate = codes "variable_rate"
+unfoldable pub no_verdict_word : NoVerdict → List ℕ
+no_verdict_word NoClock = codes "no_clock"
+no_verdict_word VariableRate = codes "variable_rate"
 
 abbrev pub check_fields : CheckTotals → List FieldView
 check_fields e = word_field (codes "number") (number_of e.check) ∷ word_field (codes "name") (name_of e.check) ∷ []
@@ -74,12 +74,12 @@ check_fields e = word_field (codes "number") (number_of e.check) ∷ word_field 
 abbrev pub counted_text : Bool → FaultCount → List ℕ
 counted_text json count = flat_map (field_text json) (count_fields (codes "faults") count) ++ times_text json count.from count.to
 
-unfoldable pub result_text : Bool → FaultCount → Option Untold → List ℕ
+unfoldable pub result_text : Bool → FaultCount → Option NoVerdict → List ℕ
 result_text json count None = counted_text json count
-result_text json count (Some reason) = field_text json (word_field (codes "untold") (untold_word reason))
+result_text json count (Some reason) = field_text json (word_field (codes "untold") (no_verdict_word reason))
 
 abbrev pub check_line : Bool → CheckTotals → List ℕ
-check_line json e = first_text json (codes "check") ++ (flat_map (field_text json) (check_fields e) ++ result_text json e.count e.untold)
+check_line json e = first_text json (codes "check") ++ (flat_map (field_text json) (check_fields e) ++ result_text json e.count e.no_verdict)
 
 -- 4. The verdict, as a sentence
 

@@ -1,6 +1,8 @@
 -- The sentences of the verdict.
 use Rattle.std.specs.Prelude.{ℕ, ◌==◌, if◌then◌else◌, List, [], ◌++◌, codes, decimal, Option, Some, None}
 use Rattle.events.specs.declared.check_counts.CheckTotals.{CheckTotals}
+use Rattle.events.specs.declared.check_counts.NoVerdict.{NoVerdict}
+use Rattle.events.specs.declared.check_counts.NoVerdict.TheVariants.{NoClock, VariableRate}
 use Rattle.events.specs.declared.summary.BufferVerdict.{BufferVerdict}
 use Rattle.events.specs.declared.summary.CheckVerdict.{CheckVerdict}
 use Rattle.events.specs.declared.summary.FaultVerdict.{FaultVerdict}
@@ -42,8 +44,16 @@ checks_by (Some e) =
     codes ": " ++
     (number_of e.check ++ (codes " " ++ (name_of e.check ++ (codes ", faults " ++ (decimal e.count.faults ++ time_text e.count.from e.count.to)))))
 
+-- the checks that are not made: without a clock the checks of times, and at a rate that varies PCR_accuracy_error
+unfoldable pub unmade_text : Option NoVerdict → List ℕ
+unmade_text None = []
+unmade_text (Some NoClock) =
+    codes "; not made (no_clock): 1.3.a, 1.5.a, 2.3.a, 2.4, 2.5, 3.1 to 3.3, 3.5 to 3.10"
+unmade_text (Some VariableRate) = codes "; not made (variable_rate): 2.4"
+
 abbrev pub checks_text : CheckVerdict → List ℕ
-checks_text e = codes "checks: " ++ (decimal e.failed ++ (codes " of " ++ (decimal e.checks ++ (codes " failed" ++ checks_by e.first))))
+checks_text e = codes "checks: " ++
+    (decimal e.failed ++ (codes " of " ++ (decimal e.checks ++ (codes " failed" ++ (checks_by e.first ++ unmade_text e.unmade)))))
 
 abbrev pub faults_text : FaultVerdict → List ℕ
 faults_text e = codes "faults: " ++ (decimal e.faults ++ (codes " (" ++ (decimal e.rows ++ codes " by kind and stream)")))

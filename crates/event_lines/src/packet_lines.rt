@@ -52,7 +52,8 @@ pub(crate) fn write_program_excess(
     word: &str,
     e: &ProgramExcess,
 ) -> Result<(), AllocError>
-    ensures { OnOk result (string_bytes text.new ≡ string_bytes text.old ++ spec.program_excess_line json word.now e.now) }
+    ensures { OnOk result (string_bytes text.new
+        ≡ string_bytes text.old ++ spec.program_excess_line json word.now e.now) }
 {
     let fields = [
         number("program", u128::from(e.program)),

@@ -5,8 +5,8 @@ ghost use Rattle.event_lines.specs.RuleLines as spec;
 use crate::lines::{number, signed, word, write_line};
 use crate::trace_lines::write_trace;
 use events::{
-    BufferStay, ClockFault, ClockFigures, OtherTable, RuleEvent, ScrambledPacket, TableFault,
-    VariableRate,
+    AbsentTable, BufferStay, ClockFault, ClockFigures, OtherTable, RuleEvent, ScrambledPacket,
+    TableFault, VariableRate,
 };
 use std::alloc::AllocError;
 
@@ -65,6 +65,17 @@ fn write_scrambled(
     write_line(text, json, line, &fields)
 }
 
+// Appends `no_table`.
+fn write_no_table(text: &mut String, json: bool, e: &AbsentTable) -> Result<(), AllocError>
+    ensures { OnOk result (string_bytes text.new ≡ string_bytes text.old ++ spec.no_table_line json e.now) }
+{
+    let fields = [
+        number("pid", u128::from(e.pid)),
+        number("table", u128::from(e.table)),
+    ];
+    write_line(text, json, "no_table", &fields)
+}
+
 // Appends `not_empty` and `delayed`.
 fn write_stay(text: &mut String, json: bool, line: &str, e: &BufferStay) -> Result<(), AllocError>
     ensures { OnOk result (string_bytes text.new ≡ string_bytes text.old ++ spec.stay_line json line.now e.now) }
@@ -119,6 +130,7 @@ pub(crate) fn write_rule(text: &mut String, json: bool, event: &RuleEvent) -> Re
         RuleEvent::OtherTable(e) => write_other_table(text, json, e),
         RuleEvent::ScrambledTable(e) => write_scrambled(text, json, "scrambled_table", e),
         RuleEvent::NoCat(e) => write_scrambled(text, json, "no_cat", e),
+        RuleEvent::NoTable(e) => write_no_table(text, json, e),
         RuleEvent::NotEmpty(e) => write_stay(text, json, "not_empty", e),
         RuleEvent::Delayed(e) => write_stay(text, json, "delayed", e),
         RuleEvent::VariableRate(e) => write_variable(text, json, e),

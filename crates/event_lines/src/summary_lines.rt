@@ -6,7 +6,7 @@ ghost use Rattle.event_lines.specs.SummaryLines as spec;
 use crate::lines::{number, seconds, word, write_field, write_fields, write_first};
 use crate::verdict_text::write_verdict_text;
 use events::{
-    CheckTotals, Fault, FaultCount, FaultSource, FaultTotals, Measured, SummaryEvent, Untold,
+    CheckTotals, Fault, FaultCount, FaultSource, FaultTotals, Measured, NoVerdict, SummaryEvent,
     Verdict,
 };
 use std::alloc::AllocError;
@@ -150,13 +150,13 @@ fn write_faults(text: &mut String, json: bool, e: &FaultTotals) -> Result<(), Al
     write_times(text, json, e.count.from, e.count.to)
 }
 
-#[tactic(auto, unfolding(crate::specs::SummaryLines::untold_word))]
-fn untold_word(reason: Untold) -> &'static str
-    ensures { result.now ≡ spec.untold_word reason }
+#[tactic(auto, unfolding(crate::specs::SummaryLines::no_verdict_word))]
+fn no_verdict_word(reason: NoVerdict) -> &'static str
+    ensures { result.now ≡ spec.no_verdict_word reason }
 {
     match reason {
-        Untold::NoClock => "no_clock",
-        Untold::VariableRate => "variable_rate",
+        NoVerdict::NoClock => "no_clock",
+        NoVerdict::VariableRate => "variable_rate",
     }
 }
 
@@ -180,11 +180,12 @@ fn write_counted(text: &mut String, json: bool, count: &FaultCount) -> Result<()
 
 #[tactic(auto, unfolding(crate::specs::SummaryLines::result_text))]
 fn write_result(text: &mut String, json: bool, e: &CheckTotals) -> Result<(), AllocError>
-    ensures { OnOk result (string_bytes text.new ≡ string_bytes text.old ++ spec.result_text json e.now.count e.now.untold) }
+    ensures { OnOk result (string_bytes text.new
+        ≡ string_bytes text.old ++ spec.result_text json e.now.count e.now.no_verdict) }
 {
-    match e.untold {
+    match e.no_verdict {
         None => write_counted(text, json, &e.count),
-        Some(reason) => write_field(text, json, &word("untold", untold_word(reason))),
+        Some(reason) => write_field(text, json, &word("untold", no_verdict_word(reason))),
     }
 }
 

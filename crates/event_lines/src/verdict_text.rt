@@ -3,7 +3,10 @@ ghost use Rattle.std.specs.Prelude.{◌≡◌, ◌++◌, OnOk, string_bytes};
 ghost use Rattle.event_lines.specs.VerdictTexts as spec;
 
 use crate::lines::write_seconds;
-use events::{BufferVerdict, CheckVerdict, FaultVerdict, UnitVerdict, Verdict, WorstBuffer};
+use events::{
+    BufferVerdict, CheckTotals, CheckVerdict, FaultVerdict, NoVerdict, UnitVerdict, Verdict,
+    WorstBuffer,
+};
 use std::alloc::AllocError;
 use std::fmt::Write;
 
@@ -59,13 +62,12 @@ fn write_units(text: &mut String, e: &UnitVerdict) -> Result<(), AllocError>
     write!(text, "units: {late} of {units} late")
 }
 
+// Appends the first failed check.
 #[tactic(auto, unfolding(crate::specs::VerdictTexts::checks_by))]
-fn write_checks(text: &mut String, e: &CheckVerdict) -> Result<(), AllocError>
-    ensures { OnOk result (string_bytes text.new ≡ string_bytes text.old ++ spec.checks_text e.now) }
+fn write_first_failed(text: &mut String, first: &Option<CheckTotals>) -> Result<(), AllocError>
+    ensures { OnOk result (string_bytes text.new ≡ string_bytes text.old ++ spec.checks_by first.now) }
 {
-    let (checks, failed) = (e.checks, e.failed);
-    write!(text, "checks: {failed} of {checks} failed")?;
-    match &e.first {
+    match first {
         None => Ok(()),
         Some(first) => {
             let (number, name, faults) = (
@@ -77,6 +79,28 @@ fn write_checks(text: &mut String, e: &CheckVerdict) -> Result<(), AllocError>
             write_time(text, first.count.from, first.count.to)
         }
     }
+}
+
+#[tactic(auto, unfolding(crate::specs::VerdictTexts::unmade_text))]
+fn unmade_text(unmade: Option<NoVerdict>) -> &'static str
+    ensures { result.now ≡ spec.unmade_text unmade }
+{
+    match unmade {
+        None => "",
+        Some(NoVerdict::NoClock) => {
+            "; not made (no_clock): 1.3.a, 1.5.a, 2.3.a, 2.4, 2.5, 3.1 to 3.3, 3.5 to 3.10"
+        }
+        Some(NoVerdict::VariableRate) => "; not made (variable_rate): 2.4",
+    }
+}
+
+fn write_checks(text: &mut String, e: &CheckVerdict) -> Result<(), AllocError>
+    ensures { OnOk result (string_bytes text.new ≡ string_bytes text.old ++ spec.checks_text e.now) }
+{
+    let (checks, failed) = (e.checks, e.failed);
+    write!(text, "checks: {failed} of {checks} failed")?;
+    write_first_failed(text, &e.first)?;
+    text.push_str(unmade_text(e.unmade))
 }
 
 fn write_faults(text: &mut String, e: &FaultVerdict) -> Result<(), AllocError>

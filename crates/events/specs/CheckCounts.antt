@@ -7,8 +7,8 @@ use Rattle.events.specs.declared.check_counts.CheckCounts.{CheckCounts}
 use Rattle.events.specs.declared.check_counts.CheckTotals.{CheckTotals}
 use Rattle.events.specs.declared.check_counts.FaultCount.{FaultCount}
 use Rattle.events.specs.declared.check_counts.StreamTime.{StreamTime}
-use Rattle.events.specs.declared.check_counts.Untold.{Untold}
-use Rattle.events.specs.declared.check_counts.Untold.TheVariants.{NoClock, VariableRate}
+use Rattle.events.specs.declared.check_counts.NoVerdict.{NoVerdict}
+use Rattle.events.specs.declared.check_counts.NoVerdict.TheVariants.{NoClock, VariableRate}
 use Rattle.events.specs.declared.check_counts.TheConstants.{NO_FAULTS}
 use Rattle.events.specs.declared.event.Event.{Event}
 use Rattle.events.specs.declared.event.Event.TheVariants as events
@@ -80,13 +80,13 @@ is_timed checks.EmptyBuffer = true
 is_timed checks.DataDelay = true
 
 -- no verdict on times for a recording whose packets have no moment, and none on the accuracy of clock references for a recording whose rate varies
-abbrev pub untold_of : Check → StreamTime → Option Untold
-untold_of check time =
+abbrev pub no_verdict_of : Check → StreamTime → Option NoVerdict
+no_verdict_of check time =
     if not time.clocked && is_timed check then Some NoClock
     else (if time.varies && place_of check == place_of checks.PcrAccuracy then Some VariableRate else None)
 
 abbrev pub totals_of : StreamTime → CheckCount → CheckTotals
-totals_of time row = record { check = row.check; count = row.count; untold = untold_of row.check time }
+totals_of time row = record { check = row.check; count = row.count; no_verdict = no_verdict_of row.check time }
 
 abbrev pub events_of : StreamTime → List CheckCount → List Event
 events_of time rows = map (λ row. events.Check (totals_of time row)) rows

@@ -97,6 +97,7 @@ rule_fault (rules.SectionDistance e) at = Some (table_fault kinds.SectionDistanc
 rule_fault (rules.OtherTable e) at = Some (point kinds.OtherTable (Table e.pid e.table) e.packet at)
 rule_fault (rules.ScrambledTable e) at = Some (point kinds.ScrambledTable (Stream e.pid) e.packet at)
 rule_fault (rules.NoCat e) at = Some (point kinds.NoCat (Stream e.pid) e.packet at)
+rule_fault (rules.NoTable e) at = Some (point kinds.NoTable (Table e.pid e.table) 0 None)
 rule_fault (rules.NotEmpty e) at = Some (stay_fault kinds.NotEmpty e)
 rule_fault (rules.Delayed e) at = Some (stay_fault kinds.Delayed e)
 rule_fault (rules.VariableRate e) at = None

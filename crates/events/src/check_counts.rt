@@ -25,7 +25,7 @@ pub struct FaultCount {
 
 /// Why a check can't be made of a stream.
 #[derive(Clone, Copy)]
-pub enum Untold {
+pub enum NoVerdict {
     /// No packet has a moment.
     NoClock,
     /// The rate of the stream varies.
@@ -37,7 +37,7 @@ pub enum Untold {
 pub struct CheckTotals {
     pub check: Check,
     pub count: FaultCount,
-    pub untold: Option<Untold>,
+    pub no_verdict: Option<NoVerdict>,
 }
 
 /// A check and its faults.
@@ -252,13 +252,13 @@ fn is_timed(check: Check) -> bool
 }
 
 // Returns why a check can't be made, if it can't be.
-fn untold_of(check: Check, time: StreamTime) -> Option<Untold>
-    ensures { result ≡ spec.untold_of check time }
+fn no_verdict_of(check: Check, time: StreamTime) -> Option<NoVerdict>
+    ensures { result ≡ spec.no_verdict_of check time }
 {
     if !time.clocked && is_timed(check) {
-        Some(Untold::NoClock)
+        Some(NoVerdict::NoClock)
     } else if time.varies && check.place() == Check::PcrAccuracy.place() {
-        Some(Untold::VariableRate)
+        Some(NoVerdict::VariableRate)
     } else {
         None
     }
@@ -270,7 +270,7 @@ fn totals_of(row: CheckCount, time: StreamTime) -> CheckTotals
     CheckTotals {
         check: row.check,
         count: row.count,
-        untold: untold_of(row.check, time),
+        no_verdict: no_verdict_of(row.check, time),
     }
 }
 

@@ -243,6 +243,12 @@ fn rule_fault(event: RuleEvent, at: Option<u128>) -> Option<Fault>
             e.packet,
             at,
         )),
+        RuleEvent::NoTable(e) => Some(point(
+            FaultKind::NoTable,
+            FaultSource::Table(e.pid, e.table),
+            0,
+            None,
+        )),
         RuleEvent::NotEmpty(e) => Some(stay_fault(FaultKind::NotEmpty, &e)),
         RuleEvent::Delayed(e) => Some(stay_fault(FaultKind::Delayed, &e)),
         RuleEvent::VariableRate(_) => None,

@@ -42,6 +42,7 @@ pub enum FaultKind {
     Rest,
     NoStamps,
     StampJump,
+    NoTable,
 }
 
 /// Where a fault is: in the whole stream, in the stream of a PID, in the tables of a program, or in a table by PID and
@@ -96,6 +97,7 @@ impl FaultKind {
             FaultKind::Rest => "rest",
             FaultKind::NoStamps => "no_stamps",
             FaultKind::StampJump => "stamp_jump",
+            FaultKind::NoTable => "no_table",
         }
     }
 
@@ -140,6 +142,7 @@ impl FaultKind {
             FaultKind::Rest => 32,
             FaultKind::NoStamps => 33,
             FaultKind::StampJump => 34,
+            FaultKind::NoTable => 35,
         }
     }
 
@@ -201,7 +204,9 @@ fn check_of_section(kind: FaultKind, pid: u16, table: u8) -> Option<Check>
 {
     match kind {
         FaultKind::OtherTable => Check::of_pid(pid),
-        FaultKind::TableRepetition | FaultKind::SectionDistance => Check::of_table(table),
+        FaultKind::TableRepetition | FaultKind::SectionDistance | FaultKind::NoTable => {
+            Check::of_table(table)
+        }
         _ => kind.check(),
     }
 }

@@ -1,6 +1,7 @@
 //! Events of a transport stream, as plain data.
 //!
-//! - [`Event`]: an event at a packet, in a window, or at the end of the stream (docs/VIEW.md has the lines and their fields).
+//! - [`Event`]: an event at a packet, in a window, or at the end of the stream (docs/VIEW.md has the lines and their
+//!   fields).
 //! - [`TimedEvent`]: an event with its moment.
 //! - [`PidName`]: what the packets of a PID carry: a table by its PID, the map of a program, or a stream of a coding.
 //! - [`Fault`]: the fault of an event ([`fault_of`]), where and when.
@@ -24,7 +25,7 @@ mod video_event;
 
 pub use check::Check;
 pub use check_counts::{
-    CheckCount, CheckCounts, CheckTotals, FaultCount, NO_FAULT, StreamTime, Untold, fails,
+    CheckCount, CheckCounts, CheckTotals, FaultCount, NO_FAULT, NoVerdict, StreamTime, fails,
 };
 pub use event::{
     BufferExcess, ClockFault, ClockTotals, Event, FarAhead, HeldFigures, LateUnit, MainTotals,
@@ -38,8 +39,8 @@ pub use mark_event::MarkTotals;
 pub use packet_fault::{CheckWordFault, CounterFault, RefusalCause, RefusedPacket};
 pub use pid_name::PidName;
 pub use rule_event::{
-    BufferKind, BufferStay, ClockFigures, OtherTable, RuleEvent, ScrambledPacket, TracePoint,
-    VariableRate,
+    AbsentTable, BufferKind, BufferStay, ClockFigures, OtherTable, RuleEvent, ScrambledPacket,
+    TracePoint, VariableRate,
 };
 pub use summary::{
     BufferVerdict, CheckVerdict, FaultTotals, FaultVerdict, SummaryEvent, UnitVerdict, Verdict,

@@ -37,6 +37,14 @@ pub struct OtherTable {
     pub packet: u64,
 }
 
+/// A table without a section in the whole input.
+#[derive(Clone, Copy)]
+pub struct AbsentTable {
+    pub pid: u16,
+    /// Its table_id.
+    pub table: u8,
+}
+
 /// A packet whose transport_scrambling_control is not 00.
 #[derive(Clone, Copy)]
 pub struct ScrambledPacket {
@@ -54,8 +62,8 @@ pub struct VariableRate {
 }
 
 /// The clock references of a PID in a window: their number, the greatest time from one to the next in ticks, the
-/// greatest inaccuracy in nanoseconds, and by how many ticks the program clock is ahead of the arrival, or behind it, at
-/// the last of them; 0 if no reference has one.
+/// greatest inaccuracy in nanoseconds, and by how many ticks the program clock is ahead of the arrival, or behind it,
+/// at the last of them; 0 if no reference has one.
 #[derive(Clone, Copy)]
 pub struct ClockFigures {
     /// The number of the window.
@@ -100,6 +108,8 @@ pub enum RuleEvent {
     ScrambledTable(ScrambledPacket),
     /// A stream has scrambled packets and no CAT (2.6).
     NoCat(ScrambledPacket),
+    /// A stream has no PAT (1.3.a), or no PMT of a program that its PAT names (1.5.a).
+    NoTable(AbsentTable),
     /// A transport buffer or a multiplexing buffer is not empty for too long (3.9).
     NotEmpty(BufferStay),
     /// Bytes stay in the buffers of a stream for too long (3.10).

@@ -2,7 +2,7 @@
 ghost use Rattle.std.specs.Prelude.{◌≡◌};
 ghost use Rattle.events.specs.FaultTotals as spec;
 
-use crate::check_counts::{CheckTotals, FaultCount, NO_FAULT};
+use crate::check_counts::{CheckTotals, FaultCount, NO_FAULT, NoVerdict};
 use crate::fault::{Fault, Measured};
 use crate::fault_kind::{FaultKind, FaultSource};
 use crate::rule_event::BufferKind;
@@ -45,12 +45,13 @@ pub struct UnitVerdict {
     pub late: u64,
 }
 
-/// How many checks are made, how many of them fail, and the first of these.
+/// How many checks are made, how many of them fail, and the first of these; and why some are not made, if some are not.
 #[derive(Clone, Copy)]
 pub struct CheckVerdict {
     pub checks: u64,
     pub failed: u64,
     pub first: Option<CheckTotals>,
+    pub unmade: Option<NoVerdict>,
 }
 
 /// How many faults there are, and how many by kind and stream.

@@ -1,10 +1,10 @@
--- What is said of a job, by the words of its parts.
+-- The explanation of a job, by the explanations of its parts.
 use Rattle.std.proofs.Common.{◌≡◌, ◌∙◌, ◌==◌, ℕ, Bool, true, false, List, [], length, Option, Some, Result, Ok, Err, ap, refl, subst, sym}
 use Rattle.std.proofs.Common.{Global, IfOk, String, string_bytes}
 use Rattle.std.proofs.lemmas.Result.{IfOk-weaker}
 use Rattle.std.specs.Prelude.{if◌then◌else◌}
 use Rattle.checked_jobs.specs.JobFaults.{IsJob, job_view, plans_view}
-use Rattle.checked_jobs.specs.Jobs.{JobView, job_of}
+use Rattle.checked_jobs.specs.Jobs.{JobView, job_of, parts_of}
 use Rattle.checked_jobs.specs.declared.job_fault.JobFault.{JobFault}
 use Rattle.checked_jobs.specs.declared.job_fault.JobReadError.TheVariants.{Fault as NoJob}
 use Rattle.checked_jobs.specs.declared.jobs.CheckedJob.{CheckedJob}
@@ -20,10 +20,11 @@ use Rattle.tsmux_cli.specs.Multiplexing.{cause_of}
 use Rattle.tsmux_cli.specs.declared.mux_jobs.MuxFault.{MuxFault}
 use Rattle.tsmux_cli.specs.declared.mux_jobs.MuxJob.{MuxJob}
 use Rattle.tsmux_cli.specs.declared.mux_jobs.MuxJobError.TheVariants.{Fault}
-use Rattle.explained_jobs.specs.JobWords.{IsJobExplained, IsRestExplained, IsSecondAlone, IsSecondExplained, after_plan, begins_plan, dry}
-use Rattle.explained_jobs.specs.JobWords.{error_words, fault_words, headed, or_words, second_alone, second_words, units_words}
+use Rattle.explained_jobs.specs.JobWords.{ArePartsExplained, IsJobExplained, IsRestExplained, IsSecondAlone, IsSecondExplained, after_plan}
+use Rattle.explained_jobs.specs.JobWords.{begins_plan, dry, error_words, fault_words, headed, lacks_plan, or_words, parts_words, plan_line}
+use Rattle.explained_jobs.specs.JobWords.{second_alone, second_words, units_words}
 
--- 1. These words, or the next
+-- 1. The first words, or the next words if there are none
 
 first_of : (first next : List ℕ) → (length first == 0) ≡ false → first ≡ or_words first next
 unfolding or_words
@@ -33,20 +34,37 @@ next_of : (first next : List ℕ) → (length first == 0) ≡ true → next ≡ 
 unfolding or_words
 next_of first next none = sym (ap (λ (b : Bool). if b then next else first) none)
 
--- 2. The whole
+-- 2. The whole explanation
 
-pub words_first : (bytes text : List ℕ) → IsExplained bytes text → (length text == 0) ≡ false → IsJobExplained bytes text
+abbrev no_note : TomlNoteView
+no_note = record { place = 0; message = [] }
+
+pub words_first : (bytes text : List ℕ) → IsExplained bytes text → (length text == 0) ≡ false → ArePartsExplained bytes text
 words_first bytes text e some = record {
   first = e.0;
   second = e.0;
   is = first_of text (after_plan e.0 bytes (job_of false bytes)) some ∙ ap (λ (xs : List ℕ). or_words xs (after_plan e.0 bytes (job_of false bytes))) e.1;
 }
 
-pub words_after : (bytes first text : List ℕ) → IsExplained bytes first → (length first == 0) ≡ true → IsRestExplained bytes text → IsJobExplained bytes text
+pub words_after : (bytes first text : List ℕ) → IsExplained bytes first → (length first == 0) ≡ true → IsRestExplained bytes text → ArePartsExplained bytes text
 words_after bytes first text e none r = record {
   first = e.0;
   second = r.0;
   is = r.1 ∙ next_of first (after_plan r.0 bytes (job_of false bytes)) none ∙ ap (λ (xs : List ℕ). or_words xs (after_plan r.0 bytes (job_of false bytes))) e.1;
+}
+
+pub asks_for_plan : (bytes text : List ℕ) → lacks_plan bytes (parts_of bytes) ≡ true → text ≡ plan_line → IsJobExplained bytes text
+asks_for_plan bytes text lacks is = record {
+  first = no_note;
+  second = no_note;
+  is = is ∙ sym (ap (λ (b : Bool). if b then plan_line else parts_words no_note no_note bytes) lacks);
+}
+
+pub has_parts : (bytes text : List ℕ) → lacks_plan bytes (parts_of bytes) ≡ false → ArePartsExplained bytes text → IsJobExplained bytes text
+has_parts bytes text has e = record {
+  first = e.first;
+  second = e.second;
+  is = e.is ∙ sym (ap (λ (b : Bool). if b then plan_line else parts_words e.first e.second bytes) has);
 }
 
 -- 3. A second plan
@@ -64,10 +82,7 @@ pub second_after : (bytes rest first text : List ℕ) → IsSecondAlone bytes re
 second_after bytes rest first text e none is =
     (e.0, is ∙ next_of first (units_words true (mux_job_of true bytes)) none ∙ ap (λ (xs : List ℕ). or_words xs (units_words true (mux_job_of true bytes))) e.1)
 
--- 4. What comes after the first plan
-
-abbrev no_note : TomlNoteView
-no_note = record { place = 0; message = [] }
+-- 4. The text after the first plan
 
 pub no_job : (bytes text : List ℕ) (fault : JobFault) → IsJob (job_of false bytes) (Err (NoJob fault)) → text ≡ [] → IsRestExplained bytes text
 unfolding after_plan
@@ -122,7 +137,7 @@ pub fault_read : (switch : Bool) (bytes : List ℕ) (input : Device) (fault : Mu
 fault_read switch bytes input fault begins r =
     subst (λ (xs : List ℕ). IsMuxJob (mux_job_of switch xs) (Err fault)) (whole_bytes input.before.bytes bytes r.bytes begins r.read.0) r.is
 
--- 6. Their units
+-- 6. The units of a job
 
 words_of_job : (switch : Bool) (j : MuxJobView) → error_words j (cause_of (dry switch) j) ≡ units_words switch (Ok j)
 unfolding units_words
@@ -143,7 +158,7 @@ units_of_job switch wanted first second error text is again cause words =
     words ∙ ap (error_words second) cause ∙ ap (λ (j : MuxJobView). error_words j (cause_of (dry switch) first)) same
     ∙ words_of_job switch first ∙ ap (units_words switch) is
 
--- a fault, or the units of a job that is read twice, said by the last call
+-- The last call reports a fault, or the units of a job that is read twice.
 pub fault_said : {E : Type 0} (switch : Bool) (wanted : Result MuxJobView MuxFaultView) (job : Result MuxJob MuxFault) (fault : MuxFault)
     (r : Result (String Global) E) → IsMuxJob wanted job → job ≡ Err fault → IfOk r (λ text. string_bytes text ≡ fault_words (mux_fault_view fault)) →
     IfOk r (λ text. string_bytes text ≡ units_words switch wanted)

@@ -1,7 +1,7 @@
--- The words for a whole job: for its description and plan, for a second plan, for its records and units.
+-- The words for a whole job: for a plan that is missing, for its description and plan, for a second plan, for its records and units.
 use Rattle.std.specs.Prelude.{◌≡◌, ℕ, ◌==◌, Bool, true, false, if◌then◌else◌, List, [], ◌++◌, length, Option, Some, None, Result, Ok, Err}
 use Rattle.std.specs.Prelude.{codes, decimal, nat_eq}
-use Rattle.std.specs.List.{starts_with}
+use Rattle.std.specs.List.{list_any, starts_with}
 use Rattle.slot_plan.specs.Entries.{Entry}
 use Rattle.mux_core.specs.declared.multiplexing.MuxError.{MuxError}
 use Rattle.mux_core.specs.declared.multiplexing.MuxError.TheVariants.{TooManySlots, Periods, Feed, Device, Memory}
@@ -97,10 +97,22 @@ after_plan note bytes (Err fault) = []
 after_plan note bytes (Ok j) = if begins_plan j.rest then second_words note bytes j.rest else units_words false (mux_job_of false bytes)
 
 -- the words for the description and the plan, otherwise the words for the bytes after them
-abbrev pub job_words : TomlNoteView → TomlNoteView → List ℕ → List ℕ
-job_words first second bytes = or_words (explained first bytes) (after_plan second bytes (job_of false bytes))
+abbrev pub parts_words : TomlNoteView → TomlNoteView → List ℕ → List ℕ
+parts_words first second bytes = or_words (explained first bytes) (after_plan second bytes (job_of false bytes))
 
--- whatever the TOML reader says: for a second plan by itself, for it and the units after it, for the bytes after the first plan, for the whole job
+-- records follow a description without a plan: no line is `tsplan 1`, and a byte is zero, as in each record and in no TOML text
+unfoldable pub lacks_plan : List ℕ → Option (List ℕ × List ℕ) → Bool
+lacks_plan bytes None = list_any (λ b. b == 0) bytes
+lacks_plan bytes (Some parts) = false
+
+abbrev pub plan_line : List ℕ
+plan_line = codes "expected a plan between the description and the records: no line is tsplan 1, and the input has zero bytes, as records have\n"
+
+-- the line that asks for a plan, if it is missing; otherwise the words for the parts
+abbrev pub job_words : TomlNoteView → TomlNoteView → List ℕ → List ℕ
+job_words first second bytes = if lacks_plan bytes (parts_of bytes) then plan_line else parts_words first second bytes
+
+-- for any message of the TOML reader: a second plan by itself; it and the units after it; the bytes after the first plan; all parts; the job
 abbrev pub IsSecondAlone : List ℕ → List ℕ → List ℕ → Type 0
 IsSecondAlone bytes rest text = (note : TomlNoteView) × (text ≡ headed (explained note (second_alone bytes rest)))
 
@@ -109,6 +121,11 @@ IsSecondExplained bytes rest text = (note : TomlNoteView) × (text ≡ second_wo
 
 abbrev pub IsRestExplained : List ℕ → List ℕ → Type 0
 IsRestExplained bytes text = (note : TomlNoteView) × (text ≡ after_plan note bytes (job_of false bytes))
+
+pub record ArePartsExplained (bytes text : List ℕ) : Type 0 where
+  pub first : TomlNoteView
+  pub second : TomlNoteView
+  pub is : text ≡ parts_words first second bytes
 
 pub record IsJobExplained (bytes text : List ℕ) : Type 0 where
   pub first : TomlNoteView

@@ -144,15 +144,51 @@ fn rest_text(alloc: Global, bytes: &[u8]) -> Result<String, AllocError>
     Ok(text)
 }
 
-/// Returns the first fault of a job in words: of its description, its plan, a second plan, its records or its units; an
-/// empty text if none is known.
+// Returns the words about the description and the plan, or about everything after them.
 #[tactic(auto, using(crate::proofs::Explained::words_first, crate::proofs::Explained::words_after))]
-pub fn explain_job(alloc: Global, bytes: &[u8]) -> Result<String, AllocError>
-    ensures { IfOk result (λ text. spec.IsJobExplained bytes.now (string_bytes text)) }
+fn parts_text(alloc: Global, bytes: &[u8]) -> Result<String, AllocError>
+    ensures { IfOk result (λ text. spec.ArePartsExplained bytes.now (string_bytes text)) }
 {
     let words = explain(alloc, bytes)?;
     if !words.is_empty() {
         return Ok(words);
     }
     rest_text(alloc, bytes)
+}
+
+// Returns whether records follow a description without a plan: no line is `tsplan 1`, and a byte is zero, as in each
+// record and in no TOML text.
+#[tactic(auto, unfolding(crate::specs::JobWords::lacks_plan))]
+fn lacks_plan(bytes: &[u8]) -> bool
+    ensures { result ≡ spec.lacks_plan bytes.now (parts_of bytes.now) }
+{
+    match parts_of(bytes) {
+        None => bytes.contains(&0),
+        Some(_) => false,
+    }
+}
+
+// Returns the line that asks for a plan.
+fn plan_line(alloc: Global) -> Result<String, AllocError>
+    ensures { IfOk result (λ text. string_bytes text ≡ spec.plan_line) }
+{
+    let mut text = String::new(alloc);
+    text.push_str(
+        "expected a plan between the description and the records: no line is tsplan 1, and the input has zero bytes, as records have\n",
+    )?;
+    Ok(text)
+}
+
+/// Returns the first fault of a job in words: that it has records and no plan, or a fault of its description, its plan,
+/// a second plan, its records or its units; an empty text if no fault is known.
+#[tactic(auto, using(crate::proofs::Explained::asks_for_plan, crate::proofs::Explained::has_parts))]
+pub fn explain_job(alloc: Global, bytes: &[u8]) -> Result<String, AllocError>
+    ensures { IfOk result (λ text. spec.IsJobExplained bytes.now (string_bytes text)) }
+{
+    if lacks_plan(bytes) {
+        let text = plan_line(alloc)?;
+        return Ok(text);
+    }
+    let text = parts_text(alloc, bytes)?;
+    Ok(text)
 }

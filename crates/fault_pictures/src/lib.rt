@@ -3,8 +3,8 @@
 //! - [`TracePictures`]: takes events (`TracePictures::take`), and writes the pictures at the end
 //!   (`TracePictures::write`), each with its numbers as a table.
 //!
-//! `points` draws a packet, `pictures` the title, the scale and the size around all packets of a buffer; `links` has links
-//! to the pictures that are there.
+//! `points` draws a packet, `pictures` the title, the scale and the size around all packets of a buffer; `links` has
+//! links to the pictures that are there.
 #![tactic(auto)]
 
 mod links;

@@ -7,6 +7,7 @@ use events::{BufferKind, TracePoint};
 use std::alloc::AllocError;
 use std::fmt::Write;
 
+// Appends a link to the picture of the buffer with this word of a PID.
 #[tactic(auto, unfolding(crate::specs::Links::link_text))]
 fn write_link_text(text: &mut String, pid: u16, word: &str) -> Result<(), AllocError>
     ensures { OnOk result (string_bytes text.new ≡ string_bytes text.old ++ spec.link_text pid word.now) }
@@ -14,7 +15,7 @@ fn write_link_text(text: &mut String, pid: u16, word: &str) -> Result<(), AllocE
     write!(text, ",&#160;<a href=#trace-{pid}-{word}>picture</a>")
 }
 
-// A link to the section of the pictures, if there is a point.
+// Returns a link to the section of the pictures, if there is a point.
 #[tactic(auto, unfolding(crate::specs::Links::section_link_if))]
 fn section_link_if(last: &Option<TracePoint>) -> &'static str
     ensures { result.now ≡ spec.section_link_if last.now }
@@ -26,7 +27,7 @@ fn section_link_if(last: &Option<TracePoint>) -> &'static str
 }
 
 impl TracePictures {
-    // Whether there is a picture of the buffer of a kind of a PID.
+    // Returns whether there is a picture of the buffer of a kind of a PID.
     fn has_picture(&self, pid: u16, kind: BufferKind) -> bool
         ensures { result ≡ spec.has_picture self.now pid kind }
     {

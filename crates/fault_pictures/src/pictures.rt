@@ -22,7 +22,7 @@ fn write_title_word(text: &mut String, word: &str) -> Result<(), AllocError>
     write!(text, ", {word} buffer: at most ")
 }
 
-// The size of the buffer, at the end of the title.
+// Appends the size of the buffer, at the end of the title.
 #[tactic(auto, unfolding(crate::specs::Pictures::title_size))]
 fn write_title_size(text: &mut String, size: u64) -> Result<(), AllocError>
     ensures { OnOk result (string_bytes text.new ≡ string_bytes text.old ++ spec.title_size size) }
@@ -31,7 +31,7 @@ fn write_title_size(text: &mut String, size: u64) -> Result<(), AllocError>
     text.push_str(" bytes</p>\n")
 }
 
-// The most that the buffer held, and its size.
+// Appends the most bytes that the buffer held, and its size.
 #[tactic(auto, unfolding(crate::specs::Pictures::title_bytes))]
 fn write_title_bytes(text: &mut String, point: &TracePoint) -> Result<(), AllocError>
     ensures { OnOk result (string_bytes text.new ≡ string_bytes text.old ++ spec.title_bytes point.now) }
@@ -41,7 +41,7 @@ fn write_title_bytes(text: &mut String, point: &TracePoint) -> Result<(), AllocE
     write_title_size(text, point.size)
 }
 
-// The buffer, and the most that it held.
+// Appends the name of the buffer, and the most bytes that it held.
 #[tactic(auto, unfolding(crate::specs::Pictures::title))]
 fn write_title(text: &mut String, labels: &PidLabels, point: &TracePoint) -> Result<(), AllocError>
     ensures { OnOk result (string_bytes text.new ≡ string_bytes text.old ++ spec.title labels.now point.now) }
@@ -72,7 +72,7 @@ fn write_level_head(text: &mut String, y: u64) -> Result<(), AllocError>
     )
 }
 
-// A line across the picture, with its number of bytes.
+// Appends a line across the picture, with its number of bytes.
 #[tactic(auto, unfolding(crate::specs::Pictures::level))]
 fn write_level(text: &mut String, y: u64, value: u128) -> Result<(), AllocError>
     ensures { OnOk result (string_bytes text.new ≡ string_bytes text.old ++ spec.level y value) }
@@ -92,7 +92,7 @@ fn write_limit_head(text: &mut String, y: u64) -> Result<(), AllocError>
     )
 }
 
-// The size of the buffer.
+// Appends the line of the size of the buffer.
 #[tactic(auto, unfolding(crate::specs::Pictures::limit))]
 fn write_limit(text: &mut String, y: u64, size: u64) -> Result<(), AllocError>
     ensures { OnOk result (string_bytes text.new ≡ string_bytes text.old ++ spec.limit y size) }
@@ -102,7 +102,7 @@ fn write_limit(text: &mut String, y: u64, size: u64) -> Result<(), AllocError>
     text.push_str("</text>\n")
 }
 
-// The scale: nothing, and the most that the buffer held.
+// Appends the scale: the lines of 0 bytes, and of the most bytes that the buffer held.
 #[tactic(auto, unfolding(crate::specs::Pictures::levels))]
 fn write_levels(text: &mut String, point: &TracePoint) -> Result<(), AllocError>
     ensures { OnOk result (string_bytes text.new ≡ string_bytes text.old ++ spec.levels point.now) }
@@ -112,14 +112,14 @@ fn write_levels(text: &mut String, point: &TracePoint) -> Result<(), AllocError>
     text.push_str("<text class=\"end\" x=\"840\" y=\"30\">bytes</text>\n")
 }
 
-// The line of all packets.
+// Appends the line of all packets.
 fn write_line(text: &mut String, line: &str) -> Result<(), AllocError>
     ensures { OnOk result (string_bytes text.new ≡ string_bytes text.old ++ spec.line_text line.now) }
 {
     write!(text, "<path class=\"line s0\" d=\"M{line}\"/>\n")
 }
 
-// The size of the buffer, and the end of the picture.
+// Appends the size of the buffer, and the end of the picture.
 #[tactic(auto, unfolding(crate::specs::Pictures::limit_end))]
 fn write_limit_end(text: &mut String, point: &TracePoint) -> Result<(), AllocError>
     ensures { OnOk result (string_bytes text.new ≡ string_bytes text.old ++ spec.limit_end point.now) }
@@ -129,7 +129,7 @@ fn write_limit_end(text: &mut String, point: &TracePoint) -> Result<(), AllocErr
     text.push_str("</svg>\n")
 }
 
-// The line of all packets, and the size of the buffer.
+// Appends the line of all packets, and the size of the buffer.
 #[tactic(auto, unfolding(crate::specs::Pictures::curve))]
 fn write_curve(text: &mut String, point: &TracePoint, line: &str) -> Result<(), AllocError>
     ensures { OnOk result (string_bytes text.new ≡ string_bytes text.old ++ spec.curve point.now line.now) }
@@ -138,7 +138,7 @@ fn write_curve(text: &mut String, point: &TracePoint, line: &str) -> Result<(), 
     write_limit_end(text, point)
 }
 
-// The picture itself.
+// Appends the picture itself.
 #[tactic(auto, unfolding(crate::specs::Pictures::drawing))]
 fn write_drawing(
     text: &mut String,
@@ -154,7 +154,7 @@ fn write_drawing(
     write_curve(text, point, line)
 }
 
-// The numbers as a table.
+// Appends the numbers as a table.
 #[tactic(auto, unfolding(crate::specs::Pictures::numbers))]
 fn write_numbers(text: &mut String, rows: &str) -> Result<(), AllocError>
     ensures { OnOk result (string_bytes text.new ≡ string_bytes text.old ++ spec.numbers rows.now) }

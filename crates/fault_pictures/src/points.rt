@@ -25,14 +25,14 @@ pub(crate) fn height_of(peak: u128, value: u128) -> u64
     2_200 - drawn(value).min(peak) * 2_000 / peak.max(1)
 }
 
-// How far across a picture a packet begins, by its number, of 64.
+// Returns how far across a picture a packet begins, by its number, of 64.
 fn across(row: u64) -> u64
     ensures { result ≡ spec.across row }
 {
     900 + 8_600 * row.min(64) / 64
 }
 
-// The least number of bytes in the buffer, or the greatest if the least is not known.
+// Returns the least number of bytes in the buffer; the greatest number if the least is not known.
 #[tactic(auto, unfolding(crate::specs::Points::least_or))]
 fn least_of(point: &TracePoint) -> u128
     ensures { result ≡ spec.least_or point.now.most point.now.least }
@@ -69,7 +69,7 @@ fn write_unit(text: &mut String, x: u64) -> Result<(), AllocError>
     )
 }
 
-// Where a unit begins.
+// Appends the mark of a unit, if a unit begins.
 fn write_unit_if(text: &mut String, row: u64, point: &TracePoint) -> Result<(), AllocError>
     ensures { OnOk result (string_bytes text.new ≡ string_bytes text.old ++ spec.unit_if row point.now) }
 {
@@ -90,7 +90,7 @@ fn write_over(text: &mut String, x: u64, y: u64) -> Result<(), AllocError>
     )
 }
 
-// Where the buffer holds the most.
+// Appends the mark of the greatest number of bytes, if the buffer holds the most at this packet.
 fn write_over_if(text: &mut String, row: u64, point: &TracePoint) -> Result<(), AllocError>
     ensures { OnOk result (string_bytes text.new ≡ string_bytes text.old ++ spec.over_if row point.now) }
 {
@@ -115,7 +115,7 @@ fn write_moment_head(text: &mut String, x: u64) -> Result<(), AllocError>
     )
 }
 
-// The moment of a packet.
+// Appends the moment of a packet.
 #[tactic(auto, unfolding(crate::specs::Points::moment))]
 fn write_moment(text: &mut String, x: u64, left: u128) -> Result<(), AllocError>
     ensures { OnOk result (string_bytes text.new ≡ string_bytes text.old ++ spec.moment x left) }
@@ -125,7 +125,7 @@ fn write_moment(text: &mut String, x: u64, left: u128) -> Result<(), AllocError>
     text.push_str(" ms</text>\n")
 }
 
-// The moment of every sixteenth packet.
+// Appends the moment of every sixteenth packet.
 fn write_moment_if(text: &mut String, row: u64, point: &TracePoint) -> Result<(), AllocError>
     ensures { OnOk result (string_bytes text.new ≡ string_bytes text.old ++ spec.moment_if row point.now) }
 {
@@ -153,7 +153,7 @@ fn write_cell(text: &mut String, value: u64) -> Result<(), AllocError>
     write_grouped(text, value)
 }
 
-// A cell of a number that may not be known.
+// Appends the cell of a number that may not be known.
 #[tactic(auto, unfolding(crate::specs::Points::cell_if))]
 fn write_cell_if(text: &mut String, value: Option<u64>) -> Result<(), AllocError>
     ensures { OnOk result (string_bytes text.new ≡ string_bytes text.old ++ spec.cell_if value) }
@@ -164,7 +164,7 @@ fn write_cell_if(text: &mut String, value: Option<u64>) -> Result<(), AllocError
     }
 }
 
-// Whether a unit begins.
+// Appends whether a unit begins.
 #[tactic(auto, unfolding(crate::specs::Points::begin_cell))]
 fn write_begin(text: &mut String, begins: bool) -> Result<(), AllocError>
     ensures { OnOk result (string_bytes text.new ≡ string_bytes text.old ++ spec.begin_cell begins) }
@@ -176,7 +176,7 @@ fn write_begin(text: &mut String, begins: bool) -> Result<(), AllocError>
     }
 }
 
-// The packet and its moment.
+// Appends the packet and its moment.
 #[tactic(auto, unfolding(crate::specs::Points::place_cells))]
 fn write_place(text: &mut String, point: &TracePoint) -> Result<(), AllocError>
     ensures { OnOk result (string_bytes text.new ≡ string_bytes text.old ++ spec.place_cells point.now) }

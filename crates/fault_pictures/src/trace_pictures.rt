@@ -13,8 +13,8 @@ use std::marker::Model;
 const HEAD: &str =
     "<h2 id=traces>Greatest excesses</h2><p class=\"soft\">Each buffer that held more than its size, packet by packet of its stream: up to 31 packets before the greatest excess, and up to 32 after it. The line rises as a packet's bytes enter, and falls between two packets as units leave; a dashed line down: a unit begins. Moments: when the packet's last byte has left the transport buffer.</p>\n";
 
-/// The first point of each picture; the whole pictures; and the last point of the open picture, the number of its points,
-/// their line, marks and rows.
+/// The first point of each picture; the whole pictures; and the last point of the open picture, the number of its
+/// points, their line, marks and rows.
 #[derive(Drop)]
 pub struct TracePictures {
     pub firsts: Vec<TracePoint>,
@@ -43,7 +43,7 @@ impl Model for TracePictures {
     } };
 }
 
-// A number for each kind of buffer.
+// Returns a number for each kind of buffer.
 #[tactic(auto, unfolding(crate::specs::TracePictures::kind_number))]
 fn kind_number(kind: BufferKind) -> u64
     ensures { result ≡ spec.kind_number kind }
@@ -65,7 +65,7 @@ pub(crate) fn is_of(pid: u16, kind: BufferKind, point: &TracePoint) -> bool
     point.pid == pid && kind_number(point.buffer) == kind_number(kind)
 }
 
-// Whether a point belongs to another buffer than the last point.
+// Returns whether a point belongs to another buffer than the last point.
 #[tactic(auto, unfolding(crate::specs::TracePictures::is_other))]
 fn is_other(last: &Option<TracePoint>, point: &TracePoint) -> bool
     ensures { result ≡ spec.is_other last.now point.now }
@@ -99,7 +99,7 @@ impl TracePictures {
         }
     }
 
-    // No picture is open.
+    // Clears the open picture.
     fn clear(&mut self)
         ensures { self.new ≡ spec.cleared self.old }
     {
@@ -110,7 +110,7 @@ impl TracePictures {
         self.rows.clear();
     }
 
-    // The open picture is whole, if there is one.
+    // Ends the open picture, if there is one: it is whole.
     #[tactic(auto, unfolding(crate::specs::TracePictures::last_picture))]
     fn close(&mut self, labels: &PidLabels) -> Result<(), AllocError>
         ensures { OnOk result (self.new ≡ spec.closed labels.now self.old) }
@@ -139,7 +139,7 @@ impl TracePictures {
         Ok(())
     }
 
-    // A point of the open picture.
+    // Adds a point to the open picture.
     fn add(&mut self, point: &TracePoint) -> Result<(), AllocError>
         ensures { OnOk result (self.new ≡ spec.with_point self.old point.now) }
     {
@@ -153,7 +153,7 @@ impl TracePictures {
         Ok(())
     }
 
-    // A point of the open picture or of a new picture.
+    // Takes a point of the open picture or of a new picture.
     fn take_point(&mut self, labels: &PidLabels, point: &TracePoint) -> Result<(), AllocError>
         ensures { OnOk result (self.new ≡ spec.after_point labels.now self.old point.now) }
     {
@@ -174,14 +174,15 @@ impl TracePictures {
         }
     }
 
-    // All pictures: the whole pictures, then the open picture.
+    // Appends all pictures: the whole pictures, then the open picture.
     fn write_all(
         &self,
         text: &mut String,
         labels: &PidLabels,
         last: &TracePoint,
     ) -> Result<(), AllocError>
-        ensures { OnOk result (string_bytes text.new ≡ string_bytes text.old ++ spec.all_text labels.now self.now last.now) }
+        ensures { OnOk result (string_bytes text.new
+            ≡ string_bytes text.old ++ spec.all_text labels.now self.now last.now) }
     {
         text.push_str(head_text())?;
         text.push_str(self.done.as_str())?;
@@ -198,7 +199,8 @@ impl TracePictures {
     /// Appends the pictures, if there are any, with their head.
     #[tactic(auto, unfolding(crate::specs::TracePictures::text_with))]
     pub fn write(&self, text: &mut String, labels: &PidLabels) -> Result<(), AllocError>
-        ensures { OnOk result (string_bytes text.new ≡ string_bytes text.old ++ spec.pictures_text labels.now self.now) }
+        ensures { OnOk result (string_bytes text.new
+            ≡ string_bytes text.old ++ spec.pictures_text labels.now self.now) }
     {
         match &self.last {
             None => Ok(()),

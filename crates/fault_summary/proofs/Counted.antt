@@ -47,7 +47,7 @@ turned_test a b = by (a == b) (b == a) refl refl
     by true false p q = absurd (grind (arith, nat_tests))
     by false true p q = absurd (grind (arith, nat_tests))
 
--- a key's entry after another's is inserted
+-- The entry of a key after an entry is inserted, for the same key or another key
 found : (key k : ℕ) (x : FaultTotals) (es : List (ℕ × FaultTotals)) (t : Bool) → (k == key) ≡ t →
     lookup (nat_eq key) (insert_entry nat_eq es k x) ≡ cond t (Some x) (lookup (nat_eq key) es)
 found key k x [] t e = rw (turned_test key k ∙ e) refl

@@ -1,5 +1,6 @@
 pub mod FaultRows
 pub mod BufferFigures
 pub mod Verdicts
+pub mod SyncRuns
 pub mod Summaries
 pub mod Laws

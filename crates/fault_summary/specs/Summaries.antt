@@ -13,6 +13,9 @@ use Rattle.fault_summary.specs.BufferFigures.{no_buffer}
 use Rattle.fault_summary.specs.BufferFigures as figures
 use Rattle.fault_summary.specs.FaultRows.{RowEntries, no_rows, row_events}
 use Rattle.fault_summary.specs.FaultRows as faults
+use Rattle.fault_summary.specs.SyncRuns.{no_run, with_loss}
+use Rattle.fault_summary.specs.SyncRuns as runs
+use Rattle.fault_summary.specs.declared.sync_runs.SyncRun.{SyncRun}
 use Rattle.fault_summary.specs.Verdicts.{check_verdict, verdict_events}
 use Rattle.fault_summary.specs.declared.buffer_figures.BufferFigures.{BufferFigures}
 
@@ -20,12 +23,13 @@ pub record SummaryState : Type 0 where
   pub counts : CheckCounts
   pub rows : RowEntries
   pub faults : ℕ
+  pub run : SyncRun
   pub figures : BufferFigures
   pub varies : Bool
 
 -- before the first event; `varies` if the stream's rate is known to vary
 abbrev pub nothing : Bool → SummaryState
-nothing varies = record { counts = no_faults; rows = no_rows; faults = 0; figures = no_buffer; varies = varies }
+nothing varies = record { counts = no_faults; rows = no_rows; faults = 0; run = no_run; figures = no_buffer; varies = varies }
 
 -- 1. An event, with the fault that it says there is
 
@@ -35,6 +39,7 @@ is_variable_rule (rules.SectionDistance e) = false
 is_variable_rule (rules.OtherTable e) = false
 is_variable_rule (rules.ScrambledTable e) = false
 is_variable_rule (rules.NoCat e) = false
+is_variable_rule (rules.NoTable e) = false
 is_variable_rule (rules.NotEmpty e) = false
 is_variable_rule (rules.Delayed e) = false
 is_variable_rule (rules.VariableRate e) = true
@@ -85,15 +90,18 @@ with_figures s event = record {
   counts = s.counts;
   rows = s.rows;
   faults = s.faults;
+  run = s.run;
   figures = figures.with_event s.figures event;
   varies = s.varies || is_variable event;
 }
 
+-- a loss of synchronization counts in its check alone
 abbrev pub with_fault : SummaryState → Fault → SummaryState
 with_fault s fault = record {
-  counts = with_counted s.counts fault;
+  counts = with_counted (with_loss s.counts s.run fault) fault;
   rows = faults.with_fault s.rows fault;
   faults = min (s.faults + 1) (2 ^ 64 - 1);
+  run = runs.with_fault s.run fault;
   figures = s.figures;
   varies = s.varies;
 }

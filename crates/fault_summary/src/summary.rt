@@ -4,18 +4,20 @@ ghost use Rattle.fault_summary.specs.Summaries as spec;
 
 use crate::buffer_figures::BufferFigures;
 use crate::fault_rows::FaultRows;
+use crate::sync_runs::{SyncRun, count_loss};
 use crate::verdicts::{checks_of, push_verdict};
 use events::{CheckCounts, Event, Fault, RuleEvent, StreamTime};
 use std::alloc::{AllocError, Global};
 use std::marker::Model;
 
-/// The faults of a stream by check, and by kind and source; their number, which stops at 2^64 - 1; what its buffers
-/// held; and whether its rate varies.
+/// The faults of a stream by check, and by kind and source; their number, which stops at 2^64 - 1; the last packets in a
+/// row that do not begin with 0x47; what the stream's buffers held; and whether its rate varies.
 #[derive(Drop)]
 pub struct Summary {
     pub counts: CheckCounts,
     pub rows: FaultRows,
     pub faults: u64,
+    pub run: SyncRun,
     pub figures: BufferFigures,
     pub varies: bool,
 }
@@ -25,7 +27,8 @@ impl Model for Summary {
 
     ghost Value = { SummaryState };
 
-    ghost view = { λ s. record { counts = s.counts; rows = s.rows; faults = s.faults; figures = s.figures; varies = s.varies } };
+    ghost view = { λ s.
+        record { counts = s.counts; rows = s.rows; faults = s.faults; run = s.run; figures = s.figures; varies = s.varies } };
 }
 
 // Returns whether an event says that the rate varies.
@@ -58,6 +61,7 @@ impl Summary {
             counts: CheckCounts::new(),
             rows: FaultRows::new(alloc),
             faults: 0,
+            run: SyncRun::new(),
             figures: BufferFigures::new(),
             varies,
         }
@@ -67,6 +71,8 @@ impl Summary {
     fn take_fault(&mut self, fault: &Fault) -> Result<(), AllocError>
         ensures { OnOk result (self.new ≡ spec.with_fault self.old fault.now) }
     {
+        count_loss(&mut self.counts, self.run, fault);
+        self.run = self.run.after(fault);
         self.counts.take(fault);
         self.rows.take(fault)?;
         self.faults = self.faults.saturating_add(1);

@@ -4,7 +4,7 @@ ghost use Rattle.fault_summary.specs.Verdicts as spec;
 
 use crate::buffer_figures::BufferFigures;
 use crate::fault_rows::FaultRows;
-use events::{CheckTotals, CheckVerdict, Event, FaultVerdict, SummaryEvent, Verdict};
+use events::{CheckTotals, CheckVerdict, Event, FaultVerdict, NoVerdict, SummaryEvent, Verdict};
 use std::alloc::AllocError;
 
 fn no_check() -> CheckVerdict
@@ -14,6 +14,7 @@ fn no_check() -> CheckVerdict
         checks: 0,
         failed: 0,
         first: None,
+        unmade: None,
     }
 }
 
@@ -21,7 +22,7 @@ fn no_check() -> CheckVerdict
 fn has_failed(totals: &CheckTotals) -> bool
     ensures { result ≡ spec.has_failed totals.now }
 {
-    totals.untold.is_none() && totals.count.faults != 0
+    totals.no_verdict.is_none() && totals.count.faults != 0
 }
 
 #[tactic(auto, unfolding(crate::specs::Verdicts::first_failed))]
@@ -40,15 +41,27 @@ fn first_failed(before: Option<CheckTotals>, totals: &CheckTotals) -> Option<Che
     }
 }
 
+// Returns why checks are not made: the reason of the last one.
+#[tactic(auto, unfolding(crate::specs::Verdicts::last_reason))]
+fn last_reason(before: Option<NoVerdict>, next: Option<NoVerdict>) -> Option<NoVerdict>
+    ensures { result ≡ spec.last_reason before next }
+{
+    match next {
+        None => before,
+        Some(reason) => Some(reason),
+    }
+}
+
 fn with_check(verdict: CheckVerdict, totals: &CheckTotals) -> CheckVerdict
     ensures { result ≡ spec.with_check verdict totals.now }
 {
     CheckVerdict {
         checks: verdict
             .checks
-            .saturating_add(u64::from(totals.untold.is_none())),
+            .saturating_add(u64::from(totals.no_verdict.is_none())),
         failed: verdict.failed.saturating_add(u64::from(has_failed(totals))),
         first: first_failed(verdict.first, totals),
+        unmade: last_reason(verdict.unmade, totals.no_verdict),
     }
 }
 

@@ -1,4 +1,4 @@
--- The map of which a finding has a version.
+-- The map whose version a finding has
 use Rattle.std.proofs.Common.{◌≡◌, ◌∙◌, ◌<◌, ◌≤◌, ℕ, ◌+◌, Bool, if◌then◌else◌, true, false, Option, Some, None, List, length, drop, get_or, slice_get}
 use Rattle.std.proofs.Common.{slice_set, refl, sym, ap, add-one, inl, inr, ◌⊎◌, arith}
 use Rattle.std.specs.Prelude.{is_some}

@@ -1,4 +1,4 @@
--- What a clock reference feeds.
+-- What a clock reference feeds
 use Rattle.std.proofs.Common.{◌≡◌, ◌∙◌, ◌<◌, ◌≤◌, ℕ, ◌+◌, ◌-◌, ◌^◌, ◌++◌, ◌&&◌, Bool, true, false, if◌then◌else◌, Option, Some, None, List, [], ◌∷◌, All}
 use Rattle.std.proofs.Common.{length}
 use Rattle.std.proofs.Common.{drop, get_or, slice_get, slice_set, refl, sym, ap, add-one, inl, inr, ◌⊎◌, arith}
@@ -16,7 +16,7 @@ use Rattle.fed_streams.specs.Feeding.{with_streams}
 use Rattle.fed_streams.specs.Ticks.{IsPast, TicksArePast, after_end, after_end_at, fed_end, fed_end_at, is_passed, is_passed_by, passed_from, under_way}
 use Rattle.fed_streams.specs.Ticks.{without_unit}
 
--- 1. A list of streams that is gone through
+-- 1. A list of streams, stream by stream
 
 stream_step : (o : Origin) (late k : ℕ) (ss : List FedStreamView) (s : FedStreamView) → k < length ss → s ≡ get_or ss k s →
     passed_from o late k (drop k ss) ≡ (if is_passed o late s then Some k else passed_from o late (k + 1) (drop (k + 1) ss))
@@ -43,7 +43,7 @@ pub greatest_end : (least k : ℕ) (ss : List FedStreamView) → length ss ≤ k
 unfolding greatest_from
 greatest_end least k ss over = rw (drop_all k ss over) refl
 
--- 2. The stream whose unit under way ends
+-- 2. The stream whose current unit ends
 
 there : (ss : List FedStreamView) (k : ℕ) → k < length ss →
     ((x : FedStreamView) × (k < length ss) × (slice_get ss k ≡ Some x) × (get_or ss k x ≡ x)) ⊎ ((length ss ≤ k) × (slice_get ss k ≡ None)) →
@@ -86,7 +86,7 @@ ended_fed feed k due one before after below is feeds grows =
 
 -- 3. Ticks
 
--- a stream of which all that was fed is due before a moment, and the unit under way after it
+-- A stream whose fed units are due before a moment, and whose current unit is due after it
 fed_before : (before : Option ℕ) (late : ℕ) → dts_or_0 before < late → IfSome before (λ dts. dts < late)
 unfolding dts_or_0
 fed_before None late below = tt
@@ -97,7 +97,7 @@ unfolding is_passed_by
 waits_past None late is = tt
 waits_past (Some due) late is = let over : late < due - 63 = search (arith, is) in omega (arith, over)
 
--- the greatest is no less than any of them
+-- The greatest moment is no less than any moment in the list.
 least_below : (least late : ℕ) (ss : List FedStreamView) → greatest_from least ss < late → least < late
 unfolding greatest_from
 least_below least late [] below = below

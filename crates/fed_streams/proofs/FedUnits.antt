@@ -1,4 +1,4 @@
--- What is fed, finding by finding.
+-- The units that are fed, finding by finding
 use Rattle.std.proofs.Common.{◌≡◌, ◌∙◌, ◌<◌, ℕ, ◌+◌, ◌++◌, false, if◌then◌else◌, Option, Some, None, List, [], ◌∷◌, length, map, drop, get_or, slice_get}
 use Rattle.std.proofs.Common.{slice_set, refl, sym, ap, ap₂, add-one, inl, inr, ◌⊎◌, ◌≤◌, arith}
 use Rattle.std.specs.Option.{option_to_list}
@@ -10,13 +10,14 @@ use Rattle.demux.specs.Laws.{has_pid}
 use Rattle.es_units.specs.UnitSteps.{ended_unit, start_of}
 use Rattle.fed_streams.specs.declared.due.Due.{Due}
 use Rattle.fed_streams.specs.declared.origin.Origin.{Origin}
-use Rattle.fed_streams.specs.Feeding.{FedStreamView, Fed, FeedView, origin_after, stream_with, fed_by, whole_by, after_found, told_fed, due_of, with_streams}
+use Rattle.fed_streams.specs.Feeding.{FedStreamView, Fed, FeedView, origin_after, stream_with, fed_by, whole_by, after_found, reported_fed, due_of}
+use Rattle.fed_streams.specs.Feeding.{with_streams}
 use Rattle.fed_streams.specs.Feeding.{place_from, feed_with, after_at, fed_at, after_place, fed_place, after_unit, fed_unit, after_one, fed_one, after_all}
 use Rattle.fed_streams.specs.Feeding.{fed_all}
 use Rattle.fed_streams.specs.Feeding.{fed_last, seen_by, seen_in, seen_of, seen_place, FedInTurn}
 use Rattle.fed_streams.specs.declared.restart.Seen.TheVariants.{NoUnit}
 
--- 1. In turn
+-- 1. The findings in turn
 
 pub in_turn : FedInTurn
 unfolding fed_all after_all
@@ -56,7 +57,7 @@ unfolding after_place after_at
 after_is feed f k s at is = rw (sym at) (rw is refl)
 
 fed_is : (feed : FeedView) (f : FindingView) (k : ℕ) (s : FedStreamView) → Some k ≡ place_from f.pid 0 feed.streams → slice_get feed.streams k ≡ Some s →
-    fed_unit feed f ≡ option_to_list (fed_by (due_of feed) feed.origin s (whole_by s f)) ++ option_to_list (told_fed s f)
+    fed_unit feed f ≡ option_to_list (fed_by (due_of feed) feed.origin s (whole_by s f)) ++ option_to_list (reported_fed s f)
 unfolding fed_place fed_at
 fed_is feed f k s at is = rw (sym at) (rw is refl)
 
@@ -94,21 +95,21 @@ placed_after feed f k due o streams at below is sets fixes =
     (slice_set feed.streams k (stream_with d feed.origin (after_found s.0 f) (whole_by s.0 f)))) is
     ∙ sym (after_is feed f k s.0 at s.1)
 
-pub placed_fed : (feed : FeedView) (f : FindingView) (k : ℕ) (due : Due) (one told : Option Fed) (before middle after : List Fed) →
+pub placed_fed : (feed : FeedView) (f : FindingView) (k : ℕ) (due : Due) (one reported : Option Fed) (before middle after : List Fed) →
     Some k ≡ place_from f.pid 0 feed.streams → k < length feed.streams → due ≡ due_of feed →
     ((s : FedStreamView) → slice_get feed.streams k ≡ Some s → one ≡ fed_by due feed.origin s (whole_by s f)) →
-    ((s : FedStreamView) → slice_get feed.streams k ≡ Some s → told ≡ told_fed s f) →
-    middle ≡ before ++ option_to_list one → after ≡ middle ++ option_to_list told → after ≡ before ++ fed_unit feed f
-placed_fed feed f k due one told before middle after at below is feeds tells first last =
+    ((s : FedStreamView) → slice_get feed.streams k ≡ Some s → reported ≡ reported_fed s f) →
+    middle ≡ before ++ option_to_list one → after ≡ middle ++ option_to_list reported → after ≡ before ++ fed_unit feed f
+placed_fed feed f k due one reported before middle after at below is feeds reports first last =
     let s = there feed.streams k below (slice_get_cases feed.streams k).1 in
-    last ∙ ap (λ (xs : List Fed). xs ++ option_to_list told) first
-    ∙ append_assoc before (option_to_list one) (option_to_list told)
-    ∙ ap (λ (o : Option Fed). before ++ (option_to_list o ++ option_to_list told)) (feeds s.0 s.1)
-    ∙ ap (λ (d : Due). before ++ (option_to_list (fed_by d feed.origin s.0 (whole_by s.0 f)) ++ option_to_list told)) is
-    ∙ ap (λ (o : Option Fed). before ++ (option_to_list (fed_by (due_of feed) feed.origin s.0 (whole_by s.0 f)) ++ option_to_list o)) (tells s.0 s.1)
+    last ∙ ap (λ (xs : List Fed). xs ++ option_to_list reported) first
+    ∙ append_assoc before (option_to_list one) (option_to_list reported)
+    ∙ ap (λ (o : Option Fed). before ++ (option_to_list o ++ option_to_list reported)) (feeds s.0 s.1)
+    ∙ ap (λ (d : Due). before ++ (option_to_list (fed_by d feed.origin s.0 (whole_by s.0 f)) ++ option_to_list reported)) is
+    ∙ ap (λ (o : Option Fed). before ++ (option_to_list (fed_by (due_of feed) feed.origin s.0 (whole_by s.0 f)) ++ option_to_list o)) (reports s.0 s.1)
     ∙ ap (λ (xs : List Fed). before ++ xs) (sym (fed_is feed f k s.0 at s.1))
 
--- 3. A list that is gone through
+-- 3. A list of findings, one after another
 
 all_step : {X : Type 0} (view : X → FindingView) (feed : FeedView) (i : ℕ) (fs : List X) (f : X) → i < length fs → f ≡ get_or fs i f →
     map view (drop i fs) ≡ view f ∷ map view (drop (i + 1) fs)

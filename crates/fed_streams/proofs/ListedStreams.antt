@@ -1,4 +1,4 @@
--- Streams of a list, by their places.
+-- Streams of a list, by their places
 use Rattle.std.proofs.Common.{◌≡◌, ◌≢◌, ◌∙◌, ℕ, zero, suc, ◌+◌, Bool, true, false, if◌then◌else◌, Option, Some, None, List, [], ◌∷◌, map, slice_get, slice_set}
 use Rattle.std.proofs.Common.{refl, sym, ap, subst, arith}
 use Rattle.std.proofs.lemmas.Option.{slice_get-map}
@@ -22,7 +22,7 @@ get_set_other (x ∷ xs) zero (suc k) t other = refl
 get_set_other (x ∷ xs) (suc j) zero t other = refl
 get_set_other (x ∷ xs) (suc j) (suc k) t other = get_set_other xs j k t (λ e. other (ap suc e))
 
--- 2. Its number and its PID stay
+-- 2. The number and the PID of a stream stay the same
 
 pub record Key : Type 0 where
   pub number : ℕ
@@ -42,7 +42,7 @@ set_keys (x ∷ xs) (suc j) s t at same = ap (λ (ks : List Key). key x ∷ ks) 
 pub key_at : (ss : List FedStreamView) (k : ℕ) (s : FedStreamView) → slice_get ss k ≡ Some s → slice_get (keys ss) k ≡ Some (key s)
 key_at ss k s at = slice_get-map key ss k ∙ ap (λ (o : Option FedStreamView). option_map key o) at
 
--- numbered by their places, and each with a PID of its own
+-- The streams are numbered by their places, and each has a PID of its own.
 pub record AreKeys (ks : List Key) : Type 0 where
   pub number : (k : ℕ) (x : Key) → slice_get ks k ≡ Some x → x.number ≡ k
   pub own : (j k : ℕ) (x y : Key) → slice_get ks j ≡ Some x → slice_get ks k ≡ Some y → x.pid ≡ y.pid → j ≡ k
@@ -80,7 +80,7 @@ placed pid j ss is =
     let same : j ≡ p.place = omega (arith, p.is) in
     record { stream = p.stream; at = subst (λ i. slice_get ss i ≡ Some p.stream) (sym same) p.at; has = p.has }
 
--- where there is none, none has it
+-- If no place is found for a PID, no stream has this PID.
 none_if : (pid : Option ℕ) (k i : ℕ) (s t : FedStreamView) (ss : List FedStreamView) (own : Bool) → has_pid s.units.pid pid ≡ own →
     ((i : ℕ) → place_from pid (k + 1) ss ≡ None → slice_get ss i ≡ Some t → has_pid t.units.pid pid ≡ false) →
     (if own then Some k else place_from pid (k + 1) ss) ≡ None → slice_get (s ∷ ss) i ≡ Some t → has_pid t.units.pid pid ≡ false
@@ -94,7 +94,7 @@ unfolding place_from
 not_placed pid k i t [] none at = absurd cc
 not_placed pid k i t (s ∷ ss) none at = none_if pid k i s t ss (has_pid s.units.pid pid) refl (λ i none at. not_placed pid (k + 1) i t ss none at) none at
 
--- 4. A stream whose unit under way is passed
+-- 4. A stream whose current unit is passed
 
 pub record Passed (k j : ℕ) (ss : List FedStreamView) : Type 0 where
   pub place : ℕ

@@ -1,4 +1,4 @@
--- A unit under way that is not cut by what comes after it.
+-- A current unit that is not cut by later findings
 use Rattle.std.proofs.Common.{◌≡◌, ℕ, ◌==◌, ◌&&◌, Bool, true, false, Option, Some, None, List, ◌∷◌, refl}
 use Rattle.std.specs.Prelude.{is_some, not, unwrap_or}
 use Rattle.pid_findings.specs.Views.{FindingView}
@@ -6,7 +6,7 @@ use Rattle.es_units.specs.CarriedUnits.{RoleView, Ignored, Start, Continuation, 
 use Rattle.es_units.specs.UnitSteps.{goes_on_as, is_start_cut, lengthened}
 use Rattle.es_moments.specs.WireUnits.{CarriedUnit}
 
--- the unit under way is cut by these findings, or with a role before them
+-- Whether these findings cut the current unit, or a role before them does
 unfoldable pub under_cut : ℕ → Option CarriedUnit → List FindingView → Bool
 under_cut pid None fs = false
 under_cut pid (Some u) fs = is_cut u.stream_id pid fs
@@ -20,7 +20,7 @@ unfolding under_cut past_cut is_cut
 past_here pid None f fs = refl
 past_here pid (Some u) f fs = refl
 
--- so it goes on, or is followed by the next one, and is not cut after it either
+-- The unit continues or the next unit follows, and later findings do not cut it.
 unfoldable pub Uncut : ℕ → Option CarriedUnit → Option CarriedUnit → List FindingView → Type 0
 Uncut pid u next fs = (under_cut pid next fs ≡ false) × ((is_some u && not (is_some next)) ≡ false)
 
@@ -42,7 +42,7 @@ uncut_step pid (Some u) (Start next) fs here whole = (whole, refl)
 uncut_step pid (Some u) (Continuation id body) fs here whole = uncut_more pid id u body fs (id == u.stream_id) refl here
 uncut_step pid (Some u) (Interruption unstamped) fs here whole = absurd cc
 
--- none is under way
+-- Without a current unit, findings cut nothing.
 pub no_unit : (pid : ℕ) (fs : List FindingView) → under_cut pid None fs ≡ false
 unfolding under_cut
 no_unit pid fs = refl

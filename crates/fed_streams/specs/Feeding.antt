@@ -1,6 +1,7 @@
 -- The units of a description's streams from what is found of a stream, finding by finding, each at its moment as soon as it is
 -- whole.
-use Rattle.std.specs.Prelude.{ℕ, ◌+◌, ◌-◌, ◌++◌, ◌==◌, ◌&&◌, ◌||◌, not, max, nat_lt, Bool, false, if◌then◌else◌, Option, Some, None, is_none, is_some, Result, true}
+use Rattle.std.specs.Prelude.{ℕ, ◌+◌, ◌-◌, ◌++◌, ◌==◌, ◌&&◌, ◌||◌, not, max, nat_lt, Bool, false, if◌then◌else◌, Option, Some, None, is_none, is_some, Result}
+use Rattle.std.specs.Prelude.{true}
 use Rattle.std.specs.Prelude.{Ok, Err, List, [], ◌∷◌, length, slice_get, slice_set, ◌≡◌}
 use Rattle.std.specs.Option.{option_to_list}
 use Rattle.pes_packet.specs.AccessUnits.{AccessUnit}
@@ -178,19 +179,19 @@ abbrev pub stray_of : FedStreamView → FindingView → Option ℕ
 stray_of s f = stray_by (s.follow && not s.stray) f.packet f.what
 
 -- what is reported of it: lost packets in any case
-abbrev pub told_by : FedStreamView → FindingView → Option FeedFault
-told_by s f = fault_by (lost_by f.packet f.what) (cut_by (s.follow && not (is_some (unit_after s f))) f) (stray_of s f)
+abbrev pub reported_by : FedStreamView → FindingView → Option FeedFault
+reported_by s f = fault_by (lost_by f.packet f.what) (cut_by (s.follow && not (is_some (unit_after s f))) f) (stray_of s f)
 
-unfoldable pub told_of : ℕ → Option FeedFault → Option Fed
-told_of number None = None
-told_of number (Some fault) = Some (number, Err fault)
+unfoldable pub fault_fed : ℕ → Option FeedFault → Option Fed
+fault_fed number None = None
+fault_fed number (Some fault) = Some (number, Err fault)
 
-abbrev pub told_fed : FedStreamView → FindingView → Option Fed
-told_fed s f = told_of s.number (told_by s f)
+abbrev pub reported_fed : FedStreamView → FindingView → Option Fed
+reported_fed s f = fault_fed s.number (reported_by s f)
 
 -- units follow one another after it
 abbrev pub follow_after : FedStreamView → FindingView → Bool
-follow_after s f = is_some (unit_after s f) || (s.follow && not (is_some (told_by s f)))
+follow_after s f = is_some (unit_after s f) || (s.follow && not (is_some (reported_by s f)))
 
 abbrev pub after_found : FedStreamView → FindingView → FedStreamView
 after_found s f = record s { units = after_finding s.units f; follow = follow_after s f; stray = stray_after s.stray f.what; place = place_by s f }
@@ -261,7 +262,7 @@ after_at feed f k (Some s) = feed_with feed k (after_found s f) (whole_by s f)
 
 unfoldable pub fed_at : FeedView → FindingView → Option FedStreamView → List Fed
 fed_at feed f None = []
-fed_at feed f (Some s) = option_to_list (fed_by (due_of feed) feed.origin s (whole_by s f)) ++ option_to_list (told_fed s f)
+fed_at feed f (Some s) = option_to_list (fed_by (due_of feed) feed.origin s (whole_by s f)) ++ option_to_list (reported_fed s f)
 
 unfoldable pub after_place : FeedView → FindingView → Option ℕ → FeedView
 after_place feed f None = feed
@@ -373,12 +374,12 @@ unfoldable pub other_fed : Option OtherStream → Option Fed
 other_fed None = None
 other_fed (Some other) = Some (255, Err (Other other))
 
-abbrev pub told_first : FeedView → FindingView → List Fed
-told_first feed f =
+abbrev pub reported_first : FeedView → FindingView → List Fed
+reported_first feed f =
     option_to_list (other_fed (other_stream f feed.maps)) ++ (option_to_list (map_fed (new_map f feed.maps)) ++ option_to_list (packet_fed (packet_fault f)))
 
 abbrev pub fed_one : FeedView → FindingView → List Fed
-fed_one feed f = told_first feed f ++ fed_found (watched feed f) f
+fed_one feed f = reported_first feed f ++ fed_found (watched feed f) f
 
 -- 5. Findings one after another
 

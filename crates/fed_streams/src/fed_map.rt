@@ -62,7 +62,8 @@ fn is_map(begun: Option<(u64, Kind)>) -> bool
 // The map of a program that a finding of a PID has.
 #[tactic(auto, unfolding(crate::specs::Maps::map_on))]
 fn map_on<'f>(program_number: u16, finding: &'f Finding<'_>) -> Option<Pmt<'f>>
-    ensures { option_map pmt_view result ≡ spec.map_on program_number (finding_view finding.now) (finding_view finding.now).pid }
+    ensures { option_map pmt_view result
+        ≡ spec.map_on program_number (finding_view finding.now) (finding_view finding.now).pid }
 {
     let Some(pid) = finding.pid else {
         return None;
@@ -190,7 +191,8 @@ impl FedMap {
     // Takes a finding, and gives the version that it changes, if it does.
     #[tactic(auto, unfolding(crate::specs::Maps::map_with, crate::specs::Maps::map_change))]
     fn take(&mut self, finding: &Finding<'_>) -> Option<NewMap>
-        ensures map { self.new ≡ spec.map_with self.old (spec.current_found self.old.program_number (finding_view finding.now)) }
+        ensures map { self.new ≡ spec.map_with self.old
+            (spec.current_found self.old.program_number (finding_view finding.now)) }
         ensures change { result ≡ spec.map_change self.old (finding_view finding.now).packet
             (spec.current_found self.old.program_number (finding_view finding.now)) }
     {
@@ -220,9 +222,11 @@ fn map_place(finding: &Finding<'_>, maps: &[FedMap]) -> Option<usize>
 fn watch_at(maps: &mut Vec<FedMap>, k: usize, finding: &Finding<'_>) -> Option<NewMap>
     requires { k < length maps.old.items }
     ensures maps { (m : spec.MapView) → slice_get maps.old.items k ≡ Some m → maps.new.items
-        ≡ slice_set maps.old.items k (spec.map_with m (spec.current_found m.program_number (finding_view finding.now))) }
+        ≡ slice_set maps.old.items k
+        (spec.map_with m (spec.current_found m.program_number (finding_view finding.now))) }
     ensures change { (m : spec.MapView) → slice_get maps.old.items k ≡ Some m →
-        result ≡ spec.map_change m (finding_view finding.now).packet (spec.current_found m.program_number (finding_view finding.now)) }
+        result ≡ spec.map_change m (finding_view finding.now).packet
+        (spec.current_found m.program_number (finding_view finding.now)) }
 {
     let map = &mut maps[k];
     map.take(finding)

@@ -43,7 +43,7 @@ pub struct FedFound {
     /// The packet where that unit begins, and its DTS as its header has it.
     pub start: Option<(u64, u64)>,
     /// The report on it.
-    pub told: Option<(u8, Result<Unit, FeedFault>)>,
+    pub reported: Option<(u8, Result<Unit, FeedFault>)>,
 }
 
 // A contract sees the stream's state; its PID is the PID of its units.
@@ -184,9 +184,9 @@ fn start_of(whole: &Option<WireUnit>) -> Option<(u64, u64)>
 }
 
 // Returns the report on the stream with a number.
-#[tactic(auto, unfolding(crate::specs::Feeding::told_of))]
-fn told_of(number: u8, fault: Option<FeedFault>) -> Option<(u8, Result<Unit, FeedFault>)>
-    ensures { result ≡ spec.told_of number fault }
+#[tactic(auto, unfolding(crate::specs::Feeding::fault_fed))]
+fn fault_fed(number: u8, fault: Option<FeedFault>) -> Option<(u8, Result<Unit, FeedFault>)>
+    ensures { result ≡ spec.fault_fed number fault }
 {
     match fault {
         None => None,
@@ -238,8 +238,9 @@ impl FedStream {
     }
 
     // Returns the report on a finding that was taken, and keeps whether units follow one another after it.
-    fn tell(&mut self, finding: &Finding<'_>) -> Option<FeedFault>
-        ensures told { result ≡ spec.fault_by (spec.lost_by (finding_view finding.now).packet (finding_view finding.now).what)
+    fn found_fault(&mut self, finding: &Finding<'_>) -> Option<FeedFault>
+        ensures reported { result
+            ≡ spec.fault_by (spec.lost_by (finding_view finding.now).packet (finding_view finding.now).what)
             (spec.cut_by (self.old.follow && not (is_some self.old.units.unit)) (finding_view finding.now))
             (spec.stray_of self.old (finding_view finding.now)) }
         ensures follow { self.new ≡ record self.old {
@@ -284,22 +285,23 @@ impl FedStream {
         ensures fed { IfOk result (λ fed. fed.unit
             ≡ spec.fed_by due origin.old self.old (spec.whole_by self.old (finding_view finding.now))) }
         ensures start { IfOk result (λ fed. fed.start ≡ start_of (spec.whole_by self.old (finding_view finding.now))) }
-        ensures told { IfOk result (λ fed. fed.told ≡ spec.told_fed self.old (finding_view finding.now)) }
+        ensures reported { IfOk result (λ fed. fed.reported ≡ spec.reported_fed self.old (finding_view finding.now)) }
         ensures stream { OnOk result (self.new ≡ spec.stream_with due origin.old
-            (spec.after_found self.old (finding_view finding.now)) (spec.whole_by self.old (finding_view finding.now))) }
+            (spec.after_found self.old (finding_view finding.now))
+            (spec.whole_by self.old (finding_view finding.now))) }
         ensures origin { OnOk result (origin.new
             ≡ spec.origin_after due origin.old (spec.whole_by self.old (finding_view finding.now))) }
         ensures bound { IsOrigin origin.new }
     {
         let made = self.taker.take(alloc, finding)?;
         let whole = self.set_apart(made);
-        let fault = self.tell(finding);
+        let fault = self.found_fault(finding);
         let start = start_of(&whole);
         let unit = feed(self.number, &mut self.before, due, origin, whole);
         Ok(FedFound {
             unit,
             start,
-            told: told_of(self.number, fault),
+            reported: fault_fed(self.number, fault),
         })
     }
 

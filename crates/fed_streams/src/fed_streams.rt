@@ -79,8 +79,8 @@ pub fn take_at(
         ≡ spec.fed_by due origin.old s (spec.whole_by s (finding_view finding.now))) }
     ensures start { (s : spec.FedStreamView) → slice_get streams.old.items k ≡ Some s →
         IfOk result (λ fed. fed.start ≡ start_of (spec.whole_by s (finding_view finding.now))) }
-    ensures told { (s : spec.FedStreamView) → slice_get streams.old.items k ≡ Some s →
-        IfOk result (λ fed. fed.told ≡ spec.told_fed s (finding_view finding.now)) }
+    ensures reported { (s : spec.FedStreamView) → slice_get streams.old.items k ≡ Some s →
+        IfOk result (λ fed. fed.reported ≡ spec.reported_fed s (finding_view finding.now)) }
     ensures streams { (s : spec.FedStreamView) → slice_get streams.old.items k ≡ Some s →
         OnOk result (streams.new.items ≡ slice_set streams.old.items k (spec.stream_with due origin.old
         (spec.after_found s (finding_view finding.now)) (spec.whole_by s (finding_view finding.now)))) }

@@ -1,4 +1,4 @@
--- Findings that are marked one after another, and the findings of one PID among them.
+-- Findings that are marked one after another, and the findings of one PID among them
 use Rattle.std.proofs.Common.{◌≡◌, ◌∙◌, ◌<◌, ◌≤◌, ℕ, ◌+◌, ◌++◌, Bool, true, false, if◌then◌else◌, Option, Some, None, List, [], ◌∷◌, length, map, take, drop}
 use Rattle.std.proofs.Common.{set, get_or, refl, sym, ap, ap₂, arith}
 use Rattle.std.proofs.lemmas.Bool.{eqb-true}
@@ -9,7 +9,7 @@ use Rattle.pid_findings.specs.Views.{IsBadPacket, IsErrored, IsStray}
 use Rattle.given_marks.specs.Laws.{MarkedByThePid, NothingIsMarked}
 use Rattle.given_marks.specs.Marking.{MarkingView, all_marked, can_begin, is_aligned, is_begin, marked, no_marking, type_of, with_access, with_alignment}
 
--- 1. One after another
+-- 1. One finding after another
 
 pub marked_more : {X : Type 0} (view : X → FindingView) (m : MarkingView) (xs : List X) (i : ℕ) (x y : X) (whole : List FindingView) → i < length xs →
     x ≡ get_or xs i x → view y ≡ marked m (view x) →
@@ -36,7 +36,7 @@ marked_whole {X = X} view m xs i whole all is =
     ∙ ap (λ (l : List X). map view (take i xs) ++ all_marked m (map view l)) (sym (drop_all i xs all))
     ∙ is
 
--- 2. Where nothing is asked for
+-- 2. Nothing is asked for
 
 no_begin : (pid : Option ℕ) (what : WhatView) → is_begin [] pid what ≡ false
 unfolding is_begin type_of can_begin
@@ -83,7 +83,7 @@ begins_alike one other pid (IsBadPacket error) same = refl
 begins_alike one other pid IsErrored same = refl
 begins_alike one other pid (IsStray size) same = refl
 
--- of what is asked for a PID and for no other
+-- Two markings that ask for the same of a PID
 record AreAlike (one other : MarkingView) (pid : ℕ) : Type 0 where
   typed : type_of pid one.access ≡ type_of pid other.access
   aligned : is_aligned one.aligned (Some pid) ≡ is_aligned other.aligned (Some pid)

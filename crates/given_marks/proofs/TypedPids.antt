@@ -1,4 +1,4 @@
--- The stream_type of a PID, entry by entry.
+-- The stream_type of a PID, entry by entry
 use Rattle.std.proofs.Common.{◌≡◌, ◌≤◌, ◌<◌, ℕ, ◌+◌, ◌==◌, true, false, List, length, drop, get_or, Some, None, refl, add-one}
 use Rattle.std.proofs.Math.Seq.{drop-cons}
 use Rattle.std.proofs.lemmas.List.{drop_all}

@@ -17,7 +17,8 @@ impl<'a> Model for ServiceName<'a> {
 
     ghost Value = { ServiceNameView };
 
-    ghost view = { λ n. record { program = n.program; name = n.name.now; provider = option_map (λ p. p.now) n.provider } };
+    ghost view = { λ n.
+        record { program = n.program; name = n.name.now; provider = option_map (λ p. p.now) n.provider } };
 }
 
 /// The network of the network information table, and original_network_id if that is given too.

@@ -1,4 +1,4 @@
--- Options that ask for no mark.
+-- Options that ask for no marks mark no finding.
 use Rattle.std.proofs.Common.{◌≡◌, ◌∙◌, false, List, [], refl, ap}
 use Rattle.pid_findings.specs.Views.{FindingView}
 use Rattle.given_marks.specs.Marking.{MarkingView, all_marked, no_marking}

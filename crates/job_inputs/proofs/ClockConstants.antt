@@ -33,7 +33,7 @@ no_value : {A B : Type 0} (f : A → B) (o : Option A) → option_map f o ≡ No
 no_value f None is = refl
 no_value f (Some x) is = absurd (let no : ⊥ = cc in no)
 
--- one that is moved is the one with moments
+-- A stream that is moved is the stream with its moments.
 with_its_moments : (findings : List FindingView) (due : ℕ) (programs : List JobProgramView) (all : List FirstDts) (s : WireStreamView) (t : TimedStreamView) →
     moved_by findings due programs all s ≡ Ok t → with_moments (base_of due all (clock_in programs s.program)) s ≡ t
 unfolding moved_by moved_stream
@@ -69,7 +69,7 @@ one_moved made findings due programs all s t carried is =
 
 -- 2. The first stream
 
--- what the clock of the first stream shows is what that of the first one at moments does
+-- The clock of the first stream has the same base on the wire and at moments.
 first_shows : (findings : List FindingView) (due : ℕ) (programs : List JobProgramView) (streams : List WireStreamView) (timed : List TimedStreamView)
     (t : TimedStreamView) →
     moved_streams findings due programs streams ≡ Ok timed → slice_get timed 0 ≡ Some t →
@@ -112,14 +112,14 @@ element P xs i x all at =
     let within = slice_get_within xs i x at in
     subst P (same_Some (get_or xs i x) x (sym (slice_get-get_or xs i x within) ∙ at)) (all i x within)
 
--- what two lists are mapped to is one list: so are their elements
+-- If two lists are mapped to the same list, their elements are mapped to the same elements.
 mapped_alike : {A B : Type 0} (f g : A → B) (xs ys : List A) (k : ℕ) (x y : A) → map f xs ≡ map g ys → slice_get xs k ≡ Some x → slice_get ys k ≡ Some y →
     f x ≡ g y
 mapped_alike f g xs ys k x y alike one other =
     same_Some (f x) (g y)
     (sym (slice_get-map f xs k ∙ ap (option_map f) one) ∙ ap (λ l. slice_get l k) alike ∙ slice_get-map g ys k ∙ ap (option_map g) other)
 
--- by one constant
+-- Two stamps on the same clock are apart by the same distance as their moments.
 apart : (base one other wire_one wire_other : ℕ) → (one + base) % 2 ^ 33 ≡ wire_one % 2 ^ 33 → (other + base) % 2 ^ 33 ≡ wire_other % 2 ^ 33 →
     (one + wire_other) % 2 ^ 33 ≡ (other + wire_one) % 2 ^ 33
 apart base one other wire_one wire_other first second = omega (arith, first, second)
@@ -148,7 +148,7 @@ distances_of options findings input has i j k l t s one other wire_one wire_othe
       pts = apart base one.pts other.pts wire_one.pts wire_other.pts stamps.1 others.1;
     }
 
--- 5. What a call answers
+-- 5. The result of a call
 
 pub constants_answered : (options : JobOptionsView) (count : ℕ) (findings : List FindingView) (r : Result JobInputView JobError) →
     Answers (job_input options count findings) r → IfOk r (HasConstants options findings)

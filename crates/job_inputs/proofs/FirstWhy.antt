@@ -1,4 +1,4 @@
--- Why nothing is carried, warning by warning.
+-- Why no stream is carried, warning by warning
 use Rattle.std.proofs.Common.{◌≡◌, ◌≤◌, ◌<◌, ℕ, ◌+◌, Bool, List, length, drop, slice_index_or, Some, None, refl, add-one}
 use Rattle.std.proofs.Math.Seq.{drop-cons}
 use Rattle.std.proofs.lemmas.List.{drop_all}

@@ -1,4 +1,4 @@
--- The numbers and PIDs of joined inputs are apart.
+-- The numbers and the PIDs of joined inputs differ from each other.
 use Rattle.std.proofs.Common.{◌≡◌, ◌∙◌, ℕ, ◌+◌, nat_eq, List, [], ◌∷◌, ◌++◌, map, zip, append_assoc, length, Option, Some, None, Ok, All, refl, sym, ap, subst}
 use Rattle.std.specs.Prelude.{ok_or, option_map}
 use Rattle.std.specs.Cmp.{nat_eq_equiv}
@@ -26,7 +26,7 @@ use Rattle.job_inputs.proofs.NewNumbersApart.{places_apart}
 use Rattle.job_inputs.proofs.NewNumbersBecome.{as_many, become_places}
 use Rattle.job_programs.proofs.Steps.{comes, granted, same_value}
 
--- 1. The numbers of an input beside those before
+-- 1. The numbers of an input and the numbers before it
 
 given_apart : (least : ℕ) (before own : List ℕ) (places : Option (List ℕ)) (numbers : List NewNumber) → places_of least before own ≡ places →
     option_map (λ given. map new_number (zip own given)) places ≡ Some numbers → IsDistinct nat_eq before → IsDistinct nat_eq own →
@@ -54,13 +54,13 @@ between {X} a b c d =
     (subst (λ (l : List X). IsPermutation (a ++ ((b ++ c) ++ d)) l) (sym other)
     (IsPermutation-append_right a ((b ++ c) ++ d) ((c ++ b) ++ d) (IsPermutation-append_left d (b ++ c) (c ++ b) (IsPermutation-append_comm b c))))
 
--- maps, streams and clock references of one after those of another
+-- The maps, streams and clock references of two inputs are a permutation of the joined maps, streams and clock references.
 three : {X : Type 0} (a b c x y z : List X) → IsPermutation (((a ++ b) ++ c) ++ ((x ++ y) ++ z)) (((a ++ x) ++ (b ++ y)) ++ (c ++ z))
 three a b c x y z =
     IsPermutation-trans (((a ++ b) ++ c) ++ ((x ++ y) ++ z)) (((a ++ b) ++ (x ++ y)) ++ (c ++ z)) (((a ++ x) ++ (b ++ y)) ++ (c ++ z))
     (between (a ++ b) c (x ++ y) z) (IsPermutation-append_left (c ++ z) ((a ++ b) ++ (x ++ y)) ((a ++ x) ++ (b ++ y)) (between a b x y))
 
--- and private sections
+-- With private sections this is true too.
 four : {X : Type 0} (a b d c x y w z : List X) →
     IsPermutation (((a ++ (b ++ d)) ++ c) ++ ((x ++ (y ++ w)) ++ z)) (((a ++ x) ++ ((b ++ y) ++ (d ++ w))) ++ (c ++ z))
 four a b d c x y w z =
@@ -76,7 +76,7 @@ distinct_four a b d c x y w z =
     IsDistinct-IsPermutation nat_eq nat_eq_equiv.symm (((a ++ (b ++ d)) ++ c) ++ ((x ++ (y ++ w)) ++ z)) (((a ++ x) ++ ((b ++ y) ++ (d ++ w))) ++ (c ++ z))
     (four a b d c x y w z)
 
--- 3. The numbers that an input has with new ones
+-- 3. The numbers of an input after renumbering
 
 numbers_with : (r : RenumberingView) (programs : List JobProgramView) →
     map (λ p. p.number) (map (program_with r) programs) ≡ map (becomes r.programs) (map (λ p. p.number) programs)
@@ -196,7 +196,7 @@ one_more number j m more is before own =
     let numbers = its_numbers number j.input m made.value (some_of (renumbering_of number j.input m) made.value refusals.Pids made.first_is) in
     subst (λ (x : JoinedInputsView). AreApart x.input) same (next_apart j m made.value before own numbers.programs numbers.pids)
 
--- 5. All
+-- 5. All inputs
 
 all_apart : (number : ℕ) (j : JoinedInputsView) (ms : List JobInputView) (all : JoinedInputsView) → with_inputs number j ms ≡ Ok all → AreApart j.input →
     All AreApart ms → AreApart all.input

@@ -1,4 +1,4 @@
--- Inputs that are joined one after another.
+-- Inputs that are joined one after another
 use Rattle.std.proofs.Common.{◌≡◌, ◌∙◌, ℕ, ◌+◌, List, [], ◌∷◌, length, Result, Ok, refl, sym, ap}
 use Rattle.job_programs.specs.Answers.{Refuses, and_then}
 use Rattle.job_inputs.specs.JobInput.{JobInputView}

@@ -1,4 +1,4 @@
--- What holds of the streams of each input holds of those of joined inputs.
+-- A property of the streams of each input is a property of the streams of the joined inputs.
 use Rattle.std.proofs.Common.{◌≡◌, ◌≤◌, ℕ, ◌+◌, ◌==◌, nat_lt, Bool, List, [], ◌∷◌, ◌++◌, length, map, Option, Some, None, Result, Ok, Err, IfOk, All, sym, ap}
 use Rattle.std.proofs.Common.{subst, inl, inr, arith}
 use Rattle.std.specs.List.{AllZip}
@@ -43,7 +43,7 @@ zip_both P (o ∷ os) ps (t ∷ ts) us one other = (one.0, zip_both P os ps ts u
 zip_both P [] ps (t ∷ ts) us one other = absurd one
 zip_both P (o ∷ os) ps [] us one other = absurd one
 
--- 2. New numbers are those of an input
+-- 2. New numbers are the numbers of an input
 
 with_pids : (number : ℕ) (programs : List NewNumber) (pids : Option (List NewNumber)) (r : RenumberingView) → renumbering_with number programs pids ≡ Some r →
     r.input ≡ number
@@ -63,7 +63,7 @@ pub some_of : {A : Type 0} (o : Option A) (x : A) (refusal : JobRefusal) → ok_
 some_of None x refusal is = absurd cc
 some_of (Some y) x refusal is = let same : y ≡ x = cc in ap Some same
 
--- 3. What streams hold
+-- 3. Properties of streams
 
 fits_with : (r : RenumberingView) (streams : List TimedStreamView) → All FitsQueue streams → All FitsQueue (map (stream_with r) streams)
 unfolding stream_with
@@ -107,7 +107,7 @@ next_of number j m more is =
           (few (length all.input.programs) (length all.input.streams) (not_against against (Ok all) more made.last_is));
     }
 
--- what is so of the streams of an input of a number is so of what they become
+-- A property of the streams of an input becomes a property of the renumbered streams.
 abbrev Becomes : (ℕ → JobInputView → TimedStreamView → Type 0) → (Origin → TimedStreamView → Type 0) → Type 0
 Becomes Q P = (r : RenumberingView) (m : JobInputView) (s : TimedStreamView) → Q r.input m s → P (origin_in r.input m.programs s) (stream_with r s)
 
@@ -132,9 +132,9 @@ next_zip Q P becomes number j m more is so_far streams =
     subst (λ (x : JoinedInputsView). AllZip P x.origins x.input.streams) next.is
     (renumbered_zip Q P becomes j m next.numbers so_far (subst (λ (n : ℕ). All (Q n m) m.streams) (sym next.input_is) streams))
 
--- 5. All
+-- 5. All inputs
 
--- of the streams of inputs numbered from `number` on
+-- Whether the streams of the inputs, numbered from `number` on, have the property Q
 abbrev EachInput : (ℕ → JobInputView → TimedStreamView → Type 0) → ℕ → List JobInputView → Type 0
 EachInput Q number [] = Unit {0}
 EachInput Q number (m ∷ ms) = All (Q number m) m.streams × EachInput Q (number + 1) ms
@@ -154,7 +154,7 @@ first_zip : (Q : ℕ → JobInputView → TimedStreamView → Type 0) (P : Origi
 unfolding first_input
 first_zip Q P stays m streams = zip_own P (Q 0 m) (origin_in 0 m.programs) m.streams (stays m) streams
 
--- 6. Where units are found
+-- 6. The input of the found units
 
 found_becomes : (made : Bool) (inputs : List (List FindingView)) → Becomes (λ number m. IsMoved made (findings_in inputs number)) (IsFoundIn made inputs)
 unfolding origin_in stream_with
@@ -242,7 +242,7 @@ constants_kept made inputs constant first more j all is =
     all_zip (IsMovedByOne made inputs constant) (IsMovedIn made inputs constant) (moved_becomes made inputs constant) 1 (first_input first) more j is
     (first_zip (IsMovedByOne made inputs constant) (IsMovedIn made inputs constant) (moved_stays made inputs constant) first each.0) each.1
 
--- 9. What a call answers
+-- 9. The result of a call
 
 pub found_answered : (made : Bool) (inputs : List (List FindingView)) (first : JobInputView) (more : List JobInputView) (r : Result JoinedInputsView JobError) →
     IfOk r (λ j. joined_inputs first more ≡ Ok j) → AreMadeOf made inputs 0 (first ∷ more) → IfOk r (AreStreamsIn made inputs)

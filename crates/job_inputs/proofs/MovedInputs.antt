@@ -1,4 +1,4 @@
--- The streams on the wire of which those of a job are made.
+-- The streams of a job are made from streams on the wire.
 use Rattle.std.proofs.Common.{◌≡◌, ◌∙◌, ◌==◌, ◌++◌, ℕ, List, length, Some, None, Ok, All, sym, ap, ap₂, subst, if◌then◌else◌}
 use Rattle.std.specs.Prelude.{ok_or}
 use Rattle.pid_findings.specs.Views.{FindingView}
@@ -17,7 +17,7 @@ use Rattle.job_inputs.specs.JobInput.{with_unit_counts, job_warnings, named_of, 
 use Rattle.job_programs.specs.Information.{JobInformationView, information_of}
 use Rattle.job_programs.specs.JobOptions.{JobOptionsView}
 use Rattle.job_programs.specs.JobPrograms.{JobProgramView, job_programs, numbers_named}
-use Rattle.job_programs.specs.JobTables.{JobTableView, told}
+use Rattle.job_programs.specs.JobTables.{JobTableView, reported}
 use Rattle.job_programs.specs.JobStreams.{TimedStreamView, WireStreamView}
 use Rattle.job_units.specs.Moments.{earliest, first_base, moved_streams}
 use Rattle.job_programs.specs.Packets.{no_packets}
@@ -26,7 +26,7 @@ use Rattle.job_units.proofs.CarriedStreams.{all_carried}
 use Rattle.job_programs.proofs.Steps.{granted, comes, same_value}
 use Rattle.job_programs.specs.FoundUnits.{IsCarried}
 
--- what is counted of streams changes neither them, nor the programs, nor the clock, nor what is said of the whole
+-- Counting the units of streams changes no stream, program or table of an input, nor its base or its information.
 record Made (information : JobInformationView) (base : ℕ) (programs : List JobProgramView) (tables : List JobTableView) (streams : List TimedStreamView)
     (input : JobInputView) : Type 0 where
   information_is : input.information ≡ information
@@ -64,8 +64,8 @@ made options information base programs tables warnings streams input is =
       streams_are = sym (ap (λ (i : JobInputView). i.streams) same);
     }
 
--- streams on the wire, with the units that are found of their PIDs; they are moved, and the clock is that of the first; what is said of the whole
--- is what is found of a transport_stream_id
+-- The streams on the wire have the units that are found on their PIDs. They are moved to moments, and the base of the job is the base of the first stream. The
+-- information about the whole job has a transport_stream_id.
 pub record Moved (options : JobOptionsView) (findings : List FindingView) (input : JobInputView) : Type 0 where
   pub id : ℕ
   pub information_is : input.information ≡ information_of options id findings input.programs
@@ -88,7 +88,7 @@ moved_of options count findings input is =
     let streams = wire_streams options findings found.streams in
     let programs = job_programs streams found.programs assigned.value in
     let tables = tables_of options count findings found assigned.value streams in
-    let warnings = told tables (job_warnings options count findings a (named_of options a) found assigned.value streams) in
+    let warnings = reported tables (job_warnings options count findings a (named_of options a) found assigned.value streams) in
     let information = information_of options a.transport_stream_id findings programs in
     let due = earliest programs tables streams in
     let base = base0_of options.base (first_base due programs streams) in

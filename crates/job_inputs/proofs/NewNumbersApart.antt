@@ -1,4 +1,4 @@
--- New numbers are none of those before, and no two of them are equal.
+-- New numbers differ from the numbers before them and from each other.
 use Rattle.std.proofs.Common.{◌≡◌, ℕ, ◌==◌, ◌||◌, nat_eq, Bool, true, false, List, [], ◌∷◌, ◌++◌, append_assoc, append-nil, Option, Some, None, refl, sym, ap}
 use Rattle.std.proofs.Common.{subst, ◌∙◌, inl, inr, eq-eqb}
 use Rattle.std.specs.Option.{option_or}
@@ -12,7 +12,7 @@ use Rattle.stream_programs.specs.FreePids.{is_taken, least_free}
 use Rattle.stream_programs.proofs.LeastFreePid.{free_is}
 use Rattle.job_inputs.specs.NewNumbers.{PlacesAreApart, new_place, place_of, places_after}
 
--- 1. Of lists
+-- 1. Lists
 
 other_way : (x : ℕ) (xs : List ℕ) → is_taken x xs ≡ false → list_any (nat_eq x) xs ≡ false
 unfolding is_taken
@@ -42,7 +42,7 @@ later : (x n : ℕ) (ns : List ℕ) → is_taken x ns ≡ true → is_taken x (n
 unfolding is_taken
 later x n ns h = ap (λ (b : Bool). (n == x) || b) h ∙ or_true (n == x)
 
--- what stands in a list is not what does not
+-- A number in a list differs from a number that is not in it.
 is_not : (x place : ℕ) (ns : List ℕ) → is_taken x ns ≡ true → is_taken place ns ≡ false → is_taken x (place ∷ []) ≡ false
 unfolding is_taken
 is_not x place ns in_it not_in_it = elim (cases_Bool (place == x)) [
@@ -64,7 +64,7 @@ new_is_free least number place taken is =
     free_of taken (least_free number taken) (least_free least taken) place (λ p at. (free_is number taken p at).free) (λ p at. (free_is least taken p at).free)
     is
 
--- what is left of the numbers of an input after those that were given places
+-- The numbers of an input that have no place yet
 record AreLeft (own given rest : List ℕ) : Type 0 where
   apart : (x : ℕ) → is_taken x rest ≡ true → is_taken x given ≡ false
   among : (x : ℕ) → is_taken x rest ≡ true → is_taken x own ≡ true
@@ -75,7 +75,7 @@ record IsPlace (before given ns : List ℕ) (place : ℕ) : Type 0 where
   free_given : is_taken place given ≡ false
   free_rest : is_taken place ns ≡ false
 
--- what stands in no list that has all of another stands not in that one
+-- A number that is not in a list is not in a part of the list.
 not_among : (own ns : List ℕ) (place : ℕ) → ((x : ℕ) → is_taken x ns ≡ true → is_taken x own ≡ true) → is_taken place own ≡ false → is_taken place ns ≡ false
 not_among own ns place among free = elim (cases_Bool (is_taken place ns)) [
   | inl held ↦ absurd (false≢true (sym free ∙ among place held))

@@ -1,4 +1,4 @@
--- What the numbers of an input become are the places that they are given, in their order.
+-- The numbers of an input become the places that they are given, in their order.
 use Rattle.std.proofs.Common.{◌≡◌, ℕ, ◌+◌, ◌==◌, nat_eq, false, List, [], ◌∷◌, ◌++◌, length, map, zip, Some, refl, sym, ap, ◌∙◌, arith, eq-eqb}
 use Rattle.std.specs.List.{AllByRecursion, IsDistinct}
 use Rattle.std.proofs.lemmas.Bool.{eqb-false, ne_eqb}
@@ -33,7 +33,7 @@ become_places (n ∷ ns) (p ∷ ps) apart same =
     ap (λ (y : ℕ). y ∷ map (becomes (new_number (n, p) ∷ rest)) ns) (becomes_head n p rest)
     ∙ ap (λ (ys : List ℕ). p ∷ ys) (all_tail n p rest ns apart.0 ∙ become_places ns ps apart.1 less)
 
--- there are as many places as numbers
+-- There are as many places as numbers.
 many : (least : ℕ) (before own given rest places : List ℕ) → places_after least before own given rest ≡ Some places → length places ≡ length given + length rest
 unfolding places_after
 many least before own given [] places is = let same : given ≡ places = cc in rw (sym same) (let none : length given ≡ length given + 0 = omega arith in none)

@@ -31,7 +31,7 @@ use Rattle.job_programs.specs.Warnings.{packet_warnings, association_warnings, a
 use Rattle.job_programs.specs.Warnings.{pid_warnings}
 use Rattle.job_units.specs.WireStreams.{wire_streams, all_left_out_warnings}
 use Rattle.job_programs.specs.JobOptions.{JobOptionsView, is_selected_program}
-use Rattle.job_programs.specs.JobTables.{JobTableView, job_tables, told}
+use Rattle.job_programs.specs.JobTables.{JobTableView, job_tables, reported}
 use Rattle.job_programs.specs.JobStreams.{TimedStreamView, WireStreamView}
 use Rattle.job_programs.specs.FoundUnits.{IsMoved, FitsQueue}
 
@@ -68,15 +68,15 @@ has_clock m pid = list_any (λ p. is_clock_on pid p.clock) m.programs
 -- 1. Warnings
 
 -- about packets, and tables that change
-unfoldable pub change_warnings : AssociationView → List Program → List FindingView → List Warning
-change_warnings a named findings =
-    ((packet_warnings findings ++ association_warnings a findings) ++ all_map_warnings NamedStreams findings named)
+unfoldable pub change_warnings : JobOptionsView → AssociationView → List Program → List FindingView → List Warning
+change_warnings options a named findings =
+    ((packet_warnings findings ++ association_warnings options a findings) ++ all_map_warnings NamedStreams findings named)
     ++ all_map_warnings Descriptors findings named
 
 -- these warnings, and warnings about tables left out in part, PES packets of no program, missing things that options name, and the network
 unfoldable pub table_warnings : JobOptionsView → AssociationView → List Program → List FindingView → FoundProgramsView → List Warning
 table_warnings options a named findings found =
-    (((change_warnings a named findings ++ map warnings.Table found.left_out) ++ stray_warnings options.without a findings)
+    (((change_warnings options a named findings ++ map warnings.Table found.left_out) ++ stray_warnings options.without a findings)
     ++ option_warnings options.programs options.without options.buffers options.names options.aligned a found.streams)
     ++ network_warnings options.network a.transport_stream_id findings
 
@@ -160,7 +160,7 @@ unfoldable pub with_found : JobOptionsView → ℕ → List FindingView → Asso
 with_found options count findings a named found assigned streams =
     with_streams options findings a.transport_stream_id (job_programs streams found.programs assigned)
     (tables_of options count findings found assigned streams)
-    (told (tables_of options count findings found assigned streams) (job_warnings options count findings a named found assigned streams)) streams
+    (reported (tables_of options count findings found assigned streams) (job_warnings options count findings a named found assigned streams)) streams
 
 -- with the streams that can be carried
 unfoldable pub with_pids : JobOptionsView → ℕ → List FindingView → AssociationView → List Program → FoundProgramsView → List ProgramPids →

@@ -11,7 +11,7 @@ ghost use Rattle.job_programs.specs.FoundUnits.{IsCarried, IsMoved};
 ghost use Rattle.job_programs.specs.Answers.{Leads};
 
 use crate::earliest::earliest_of;
-use crate::job_tables::{JobTable, job_tables, told};
+use crate::job_tables::{JobTable, job_tables, reported};
 use crate::nothing_carried::nothing_carried;
 use es_units::PidLinks;
 use given_values::ServiceName;
@@ -19,14 +19,14 @@ use job_programs::clock_base::base0_of;
 use job_programs::information::information_of;
 use job_programs::job_events::push_information_warnings;
 use job_programs::job_network::push_network_warnings;
-use job_programs::job_options::is_among;
+use job_programs::job_options::is_selected_program;
 use job_programs::job_programs::job_programs;
 use job_programs::named_numbers::numbers_named;
 use job_programs::named_service::push_text_warnings;
 use job_programs::option_warnings::push_option_warnings;
 use job_programs::packets::no_packets;
 use job_programs::warnings::{
-    push_association_warning, push_map_warnings, push_packet_warnings, push_stray_warnings,
+    push_association_warnings, push_map_warnings, push_packet_warnings, push_stray_warnings,
     push_stream_warnings, push_table_warnings,
 };
 use job_programs::{
@@ -70,14 +70,6 @@ impl Model for InputDraft {
     } };
 }
 
-// Returns whether a program is taken.
-#[tactic(auto, unfolding(job_programs::specs::JobOptions::is_selected_program))]
-fn is_selected_program(selected: &[u16], program: &Program) -> bool
-    ensures { result ≡ is_selected_program selected.now program.now }
-{
-    selected.is_empty() || is_among(program.program_number, selected)
-}
-
 /// Returns the programs that are taken.
 pub(crate) fn selected_programs(
     alloc: Global,
@@ -97,16 +89,17 @@ pub(crate) fn selected_programs(
 #[tactic(auto, unfolding(crate::specs::JobInput::change_warnings))]
 fn change_warnings(
     alloc: Global,
+    options: &JobOptions<'_>,
     association: &Association,
     named: &[Program],
     findings: &[Finding<'_>],
 ) -> Result<Vec<Warning>, AllocError>
     ensures { IfOk result (λ warnings. warnings.items
-        ≡ spec.change_warnings association.now named.now (map finding_view findings.now)) }
+        ≡ spec.change_warnings options.now association.now named.now (map finding_view findings.now)) }
 {
     let mut warnings = Vec::new(alloc);
     push_packet_warnings(findings, &mut warnings)?;
-    push_association_warning(association, findings, &mut warnings)?;
+    push_association_warnings(options, association, findings, &mut warnings)?;
     push_map_warnings(alloc, MapPart::NamedStreams, named, findings, &mut warnings)?;
     push_map_warnings(alloc, MapPart::Descriptors, named, findings, &mut warnings)?;
     Ok(warnings)
@@ -125,7 +118,7 @@ fn table_warnings(
     ensures { IfOk result (λ warnings. warnings.items ≡ spec.table_warnings options.now association.now named.now
         (map finding_view findings.now) found.now) }
 {
-    let mut warnings = change_warnings(alloc, association, named, findings)?;
+    let mut warnings = change_warnings(alloc, options, association, named, findings)?;
     push_table_warnings(&found.left_out, &mut warnings)?;
     push_stray_warnings(alloc, options.without, association, findings, &mut warnings)?;
     push_option_warnings(
@@ -248,10 +241,10 @@ fn with_pids(
         &streams,
         &found.tables,
     )?;
-    let told = told(&tables, warnings);
+    let reported = reported(&tables, warnings);
     let id = association.transport_stream_id;
     with_streams(
-        alloc, options, findings, &links, id, programs, tables, told, streams,
+        alloc, options, findings, &links, id, programs, tables, reported, streams,
     )
 }
 

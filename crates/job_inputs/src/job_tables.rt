@@ -212,9 +212,9 @@ fn has_table(tables: &[JobTable], program: u16, pid: u16) -> bool
 }
 
 // Returns whether a warning is not of sections that are carried.
-#[tactic(auto, unfolding(job_programs::specs::JobTables::is_told, job_programs::specs::JobTables::is_left_out))]
-fn is_told(tables: &[JobTable], warning: &Warning) -> bool
-    ensures { result ≡ spec.is_told tables.now warning.now }
+#[tactic(auto, unfolding(job_programs::specs::JobTables::is_reported, job_programs::specs::JobTables::is_left_out))]
+fn is_reported(tables: &[JobTable], warning: &Warning) -> bool
+    ensures { result ≡ spec.is_reported tables.now warning.now }
 {
     match *warning {
         Warning::Table(TableOmission::NoPes { program, pid, .. }) => {
@@ -225,10 +225,10 @@ fn is_told(tables: &[JobTable], warning: &Warning) -> bool
 }
 
 /// Returns the warnings that are not of sections that are carried.
-pub(crate) fn told(tables: &[JobTable], warnings: Vec<Warning>) -> Vec<Warning>
-    ensures { result.items ≡ spec.told tables.now warnings.items }
+pub(crate) fn reported(tables: &[JobTable], warnings: Vec<Warning>) -> Vec<Warning>
+    ensures { result.items ≡ spec.reported tables.now warnings.items }
 {
-    let mut told = warnings;
-    told.retain(|warning| is_told(tables, warning));
-    told
+    let mut reported = warnings;
+    reported.retain(|warning| is_reported(tables, warning));
+    reported
 }

@@ -1,4 +1,4 @@
--- The lines of warnings, one after another.
+-- The lines of warnings, one after another
 use Rattle.std.proofs.Common.{◌≡◌, ◌∙◌, ◌<◌, ◌≤◌, ◌+◌, ℕ, Bool, List, [], ◌++◌, length, drop, slice_index_or, Option, ap, sym, refl, add-one, append_assoc}
 use Rattle.std.proofs.Common.{append-nil}
 use Rattle.std.proofs.Math.Seq.{drop-cons}

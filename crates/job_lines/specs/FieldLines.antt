@@ -37,8 +37,8 @@ abbrev pub is_carried : JobInputView → FieldLeftOut → Bool
 is_carried m f = has_stream m f.pid || (is_of_packet f.field && (carries_table m f.pid || has_clock m f.pid))
 
 -- whether a field is reported: a field that costs a viewer nothing only if all lines are asked for
-abbrev pub is_told : Bool → JobInputView → FieldLeftOut → Bool
-is_told all m f = is_carried m f && (all || is_loss f.field)
+abbrev pub is_reported : Bool → JobInputView → FieldLeftOut → Bool
+is_reported all m f = is_carried m f && (all || is_loss f.field)
 
-abbrev pub told_fields : Bool → JobInputView → List FieldLeftOut → List FieldLeftOut
-told_fields all m fields = filter (is_told all m) fields
+abbrev pub reported_fields : Bool → JobInputView → List FieldLeftOut → List FieldLeftOut
+reported_fields all m fields = filter (is_reported all m) fields

@@ -27,8 +27,8 @@ abbrev pub other_table_lines : List OtherTable → List ℕ
 other_table_lines tables = flat_map other_table_line tables
 
 -- whether a table that is not carried is reported: one that costs a viewer nothing only if all lines are asked for
-abbrev pub is_told : Bool → JobInputView → OtherTable → Bool
-is_told all m t = not (carries_table m t.pid) && (all || is_loss t.kind)
+abbrev pub is_reported : Bool → JobInputView → OtherTable → Bool
+is_reported all m t = not (carries_table m t.pid) && (all || is_loss t.kind)
 
-abbrev pub told_tables : Bool → JobInputView → List OtherTable → List OtherTable
-told_tables all m tables = filter (is_told all m) tables
+abbrev pub reported_tables : Bool → JobInputView → List OtherTable → List OtherTable
+reported_tables all m tables = filter (is_reported all m) tables

@@ -10,7 +10,7 @@ use Rattle.program_tables.specs.declared.program_map.MapPart.{MapPart}
 use Rattle.program_tables.specs.declared.program_map.MapPart.TheVariants.{NamedStreams, Descriptors}
 use Rattle.job_programs.specs.Warnings.{is_damage}
 use Rattle.job_programs.specs.declared.warning.PacketWarning.{PacketWarning}
-use Rattle.job_programs.specs.declared.warning.PacketWarning.TheVariants.{Bad, Errored, AssociationChanges, NetworkSurplus}
+use Rattle.job_programs.specs.declared.warning.PacketWarning.TheVariants.{Bad, Errored, AssociationChanges, ProgramLoss, NetworkSurplus}
 use Rattle.job_programs.specs.declared.warning.ProgramWarning.{ProgramWarning}
 use Rattle.job_programs.specs.declared.warning.ProgramWarning.TheVariants.{Missing, NoStream, UnreadText}
 use Rattle.job_programs.specs.declared.warning.Warning.{Warning}
@@ -29,7 +29,7 @@ table_line (table.NoMap program) = codes "program " ++ decimal program ++ codes 
 table_line (table.ConditionalAccess program) = codes "CA descriptors of program " ++ decimal program ++ codes " left out\n"
 table_line (table.Multiplex program) = codes "multiplex descriptors of program " ++ decimal program ++ codes " left out\n"
 table_line (table.NoPes program pid stream_type) = codes "pid " ++ decimal pid ++ codes " of program " ++ decimal program ++ codes " stream_type "
-    ++ decimal stream_type ++ codes " has no PES: left out\n"
+    ++ decimal stream_type ++ codes " has no PES and no sections to repeat: left out\n"
 table_line (table.Reserved program pid) = codes "pid " ++ decimal pid ++ codes " of program " ++ decimal program ++ codes " is reserved: left out\n"
 table_line (table.Taken program pid holder) = codes "pid " ++ decimal pid ++ codes " of program " ++ decimal program ++ codes " is in program "
     ++ decimal holder ++ codes " already: left out\n"
@@ -67,6 +67,7 @@ unfoldable pub packet_text : PacketWarning → List ℕ
 packet_text Bad = codes " bad-packet\n"
 packet_text Errored = codes " errored\n"
 packet_text AssociationChanges = codes " PAT changes: the first is used\n"
+packet_text ProgramLoss = codes " PAT names a program or PMT PID that the first does not: left out\n"
 packet_text NetworkSurplus = codes " NIT says other or more than one network and this stream: left out\n"
 
 unfoldable pub packet_line : ℕ → PacketWarning → List ℕ
@@ -142,12 +143,21 @@ abbrev pub is_open_ended : Warning → Bool
 is_open_ended (warning.Units pid left_out) = is_unknown_end left_out.cause
 is_open_ended _ = false
 
--- whether a warning is reported: an open end only if the input is not declared whole; a warning about no loss only if all lines are asked for
-unfoldable pub is_told : Reporting → Warning → Bool
-is_told r w = not (r.whole && is_open_ended w) && (r.all || is_damage w)
+-- nothing is lost, but a receiver's buffers may hold more than the job declares: the units do not fit the buffer that the headers declare, MB leaks too
+-- slowly to be declared, or the main buffer has no room for frames
+abbrev pub is_note : Warning → Bool
+is_note (warning.HeaderBuffer pid said unit counted) = true
+is_note (warning.Leak pid rate leak) = true
+is_note (warning.Frames pid frames) = true
+is_note _ = false
 
-abbrev pub told_warnings : Reporting → List Warning → List Warning
-told_warnings r warnings = filter (is_told r) warnings
+-- whether a warning is reported: an open end only if the input is not declared whole; a warning that is neither a loss nor a note only if all
+-- lines are asked for
+unfoldable pub is_reported : Reporting → Warning → Bool
+is_reported r w = not (r.whole && is_open_ended w) && ((r.all || is_note w) || is_damage w)
+
+abbrev pub reported_warnings : Reporting → List Warning → List Warning
+reported_warnings r warnings = filter (is_reported r) warnings
 
 -- a run of packets with this cause has one line: whether they are stray and not scrambled
 abbrev pub run_cause : UnitWarningCause → Option Bool

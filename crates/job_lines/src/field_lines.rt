@@ -64,25 +64,25 @@ fn is_carried(input: &JobInput, left_out: &FieldLeftOut) -> bool
 }
 
 // Returns whether a field of a carried PID is reported: every field if `all`, otherwise only a loss to a viewer.
-fn is_told(all: bool, input: &JobInput, left_out: &FieldLeftOut) -> bool
-    ensures { result ≡ spec.is_told all input.now left_out.now }
+fn is_reported(all: bool, input: &JobInput, left_out: &FieldLeftOut) -> bool
+    ensures { result ≡ spec.is_reported all input.now left_out.now }
 {
     is_carried(input, left_out) && (all || left_out.field.is_loss())
 }
 
 /// Returns the fields to report: on PIDs of carried streams, and for fields of packets also of carried tables and
 /// clocks; every such field if `all`, otherwise only a loss to a viewer.
-pub fn told_fields(
+pub fn reported_fields(
     alloc: Global,
     all: bool,
     input: &JobInput,
     fields: &[FieldLeftOut],
 ) -> Result<Vec<FieldLeftOut>, AllocError>
-    ensures { IfOk result (λ told. told.items ≡ spec.told_fields all input.now fields.now) }
+    ensures { IfOk result (λ reported. reported.items ≡ spec.reported_fields all input.now fields.now) }
 {
     fields
         .iter()
-        .filter(|field| is_told(all, input, field))
+        .filter(|field| is_reported(all, input, field))
         .copied()
         .collect(alloc)
 }

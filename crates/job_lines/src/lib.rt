@@ -20,10 +20,10 @@ mod slip_lines;
 mod table_lines;
 mod warning_lines;
 
-pub use field_lines::{are_needed, told_fields, write_fields};
+pub use field_lines::{are_needed, reported_fields, write_fields};
 pub use input_lines::{are_lost, write_input, write_notes};
 pub use refusal_line::write_refusal;
 pub use reporting::Reporting;
 pub use slip_lines::{write_packets, write_slips};
-pub use table_lines::{are_missed, told_tables, write_other_tables};
-pub use warning_lines::{is_damaged, told_warnings, write_warnings};
+pub use table_lines::{are_missed, reported_tables, write_other_tables};
+pub use warning_lines::{is_damaged, reported_warnings, write_warnings};

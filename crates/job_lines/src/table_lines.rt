@@ -51,24 +51,24 @@ pub fn write_other_tables(tables: &[OtherTable], text: &mut String) -> Result<()
 }
 
 // Returns whether a table is reported: it is not carried, and `all` is set or a viewer loses something without it.
-fn is_told(all: bool, input: &JobInput, table: &OtherTable) -> bool
-    ensures { result ≡ spec.is_told all input.now table.now }
+fn is_reported(all: bool, input: &JobInput, table: &OtherTable) -> bool
+    ensures { result ≡ spec.is_reported all input.now table.now }
 {
     !input.carries_table(table.pid) && (all || table.kind.is_loss())
 }
 
 /// Returns the tables that are reported.
-pub fn told_tables(
+pub fn reported_tables(
     alloc: Global,
     all: bool,
     input: &JobInput,
     tables: &[OtherTable],
 ) -> Result<Vec<OtherTable>, AllocError>
-    ensures { IfOk result (λ told. told.items ≡ spec.told_tables all input.now tables.now) }
+    ensures { IfOk result (λ reported. reported.items ≡ spec.reported_tables all input.now tables.now) }
 {
     tables
         .iter()
-        .filter(|table| is_told(all, input, table))
+        .filter(|table| is_reported(all, input, table))
         .copied()
         .collect(alloc)
 }

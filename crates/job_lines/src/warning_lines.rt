@@ -38,7 +38,7 @@ fn write_table(left_out: TableOmission, text: &mut String) -> Result<(), AllocEr
             stream_type,
         } => write!(
             text,
-            "pid {pid} of program {program} stream_type {stream_type} has no PES: left out\n"
+            "pid {pid} of program {program} stream_type {stream_type} has no PES and no sections to repeat: left out\n"
         ),
         TableOmission::Reserved { program, pid } => write!(
             text,
@@ -133,6 +133,9 @@ fn packet_text(what: PacketWarning) -> &'static str
         PacketWarning::Bad => " bad-packet\n",
         PacketWarning::Errored => " errored\n",
         PacketWarning::AssociationChanges => " PAT changes: the first is used\n",
+        PacketWarning::ProgramLoss => {
+            " PAT names a program or PMT PID that the first does not: left out\n"
+        }
         PacketWarning::NetworkSurplus => {
             " NIT says other or more than one network and this stream: left out\n"
         }
@@ -321,29 +324,40 @@ fn is_open_ended(warning: &Warning) -> bool
     }
 }
 
-// Returns whether a warning is reported.
-#[tactic(auto, unfolding(crate::specs::WarningLines::is_told))]
-fn is_told(reporting: Reporting, warning: &Warning) -> bool
-    ensures { result ≡ spec.is_told reporting warning.now }
+// Returns whether a warning says that a receiver's buffers may hold more than the job declares.
+fn is_note(warning: &Warning) -> bool
+    ensures { result ≡ spec.is_note warning.now }
 {
-    !(reporting.whole && is_open_ended(warning)) && (reporting.all || warning.is_damage())
+    match warning {
+        Warning::HeaderBuffer { .. } | Warning::Leak { .. } | Warning::Frames { .. } => true,
+        _ => false,
+    }
+}
+
+// Returns whether a warning is reported.
+#[tactic(auto, unfolding(crate::specs::WarningLines::is_reported))]
+fn is_reported(reporting: Reporting, warning: &Warning) -> bool
+    ensures { result ≡ spec.is_reported reporting warning.now }
+{
+    !(reporting.whole && is_open_ended(warning))
+        && (reporting.all || is_note(warning) || warning.is_damage())
 }
 
 /// Returns the warnings that are reported.
-pub fn told_warnings(
+pub fn reported_warnings(
     alloc: Global,
     reporting: Reporting,
     warnings: &[Warning],
 ) -> Result<Vec<Warning>, AllocError>
-    ensures { IfOk result (λ told. told.items ≡ spec.told_warnings reporting warnings.now) }
+    ensures { IfOk result (λ reported. reported.items ≡ spec.reported_warnings reporting warnings.now) }
 {
-    let mut told = Vec::new(alloc);
+    let mut reported = Vec::new(alloc);
     for warning in warnings {
-        if is_told(reporting, warning) {
-            told.push(*warning)?;
+        if is_reported(reporting, warning) {
+            reported.push(*warning)?;
         }
     }
-    Ok(told)
+    Ok(reported)
 }
 
 // Returns whether a run of packets with this cause has one line: whether they are stray and not scrambled.

@@ -1,11 +1,11 @@
--- A step after another one.
+-- One step after another.
 use Rattle.std.proofs.Common.{ap, Result}
 use Rattle.job_programs.specs.declared.refusal.JobRefusal.{JobRefusal}
 use Rattle.job_programs.specs.declared.refusal.JobError.{JobError}
 use Rattle.job_programs.specs.declared.refusal.JobError.TheVariants.{Memory, Refused}
 use Rattle.job_programs.specs.Answers.{and_then, Refuses}
 
--- without a value there is no next step
+-- If the first step is refused, the next step does not run.
 pub then_refuses : {A B : Type 0} (next : A → Result B JobRefusal) (first : Result A JobRefusal) (error : JobError) →
     Refuses first error → Refuses (and_then next first) error
 unfolding and_then Refuses

@@ -6,11 +6,11 @@ use Rattle.job_programs.specs.declared.refusal.JobError.{JobError}
 use Rattle.job_programs.specs.declared.refusal.JobError.TheVariants.{Memory, Refused}
 use Rattle.job_programs.specs.Answers.{and_then, each, Refuses}
 
--- what comes of the first and what comes of the others
+-- The result of the first element, then the results of the later elements.
 joined : {B : Type 0} → Result B JobRefusal → Result (List B) JobRefusal → Result (List B) JobRefusal
 joined first others = and_then (λ y. and_then (λ ys. Ok (y ∷ ys)) others) first
 
--- after what has come of some elements, that of more
+-- The results of some elements, then the results of further elements.
 pub after : {B : Type 0} → List B → Result (List B) JobRefusal → Result (List B) JobRefusal
 after ys more = and_then (λ zs. Ok (ys ++ zs)) more
 
@@ -28,7 +28,7 @@ each_cons : {A B : Type 0} (f : A → Result B JobRefusal) (x : A) (xs : List A)
 unfolding each joined
 each_cons f x xs = refl
 
--- of a list that is taken from its front: before the first, at each, at one of which nothing comes, and at its end
+-- Lists that are taken from the front: the start, one more element, an element that is refused, and the end.
 pub each_begins : {A B : Type 0} (f : A → Result B JobRefusal) (xs : List A) → each f xs ≡ after [] (each f xs)
 each_begins f xs = after_none (each f xs)
 
@@ -45,7 +45,7 @@ pub each_ends : {A B : Type 0} (f : A → Result B JobRefusal) (ys : List B) →
 unfolding and_then after each
 each_ends f ys = ap Ok (append-nil ys)
 
--- the same along a loop over what is left of all
+-- One more element, in a loop over the remaining elements.
 pub each_step : {A B : Type 0} (f : A → Result B JobRefusal) (all left later : List A) (x : A) (ys zs : List B) (y : B) →
     each f all ≡ after ys (each f left) → left ≡ x ∷ later → f x ≡ Ok y → zs ≡ ys ++ y ∷ [] → each f all ≡ after zs (each f later)
 each_step f all left later x ys zs y so_far first is more =
@@ -70,7 +70,7 @@ pub each_start : {A B : Type 0} (f : A → Result B JobRefusal) (all left : List
 each_start f all left ys whole none =
     ap (each f) (sym whole) ∙ each_begins f left ∙ ap (λ (l : List _). after l (each f left)) (sym none)
 
--- two lists side by side
+-- Pairs of two lists.
 pub zip_first : {A B : Type 0} (xs later : List A) (ys more : List B) (x : A) (y : B) → xs ≡ x ∷ later → ys ≡ y ∷ more → zip xs ys ≡ (x, y) ∷ zip later more
 zip_first xs later ys more x y first other = rw (first, other) refl
 

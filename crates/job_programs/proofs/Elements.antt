@@ -1,4 +1,4 @@
--- What holds of each element.
+-- Properties of each element of a list.
 use Rattle.std.proofs.Common.{◌++◌, zero, suc, List, [], ◌∷◌, All, arith}
 use Rattle.std.proofs.lemmas.List.Elements.{All-nil, All-cons, All-append}
 

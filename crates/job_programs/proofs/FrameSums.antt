@@ -8,7 +8,7 @@ use Rattle.sound_frames.specs.Frames.{all_frames, joined_frames, unit_frames}
 abbrev pub all_bytes : List AccessUnit → List (List ℕ)
 all_bytes = map (λ u. u.bytes)
 
--- the frames of later units, after those of one unit
+-- The frames of one unit, then of later units.
 abbrev with_later : FrameKind → UnitFrames → List (List ℕ) → Option UnitFrames → Option UnitFrames
 with_later kind c later first = elim first [ None ↦ None | Some d ↦ all_frames kind (joined_frames c d) later ]
 

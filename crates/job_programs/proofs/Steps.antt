@@ -1,4 +1,4 @@
--- Steps one after another, of which each may be refused.
+-- Steps one after another; each step may be refused.
 use Rattle.std.proofs.Common.{◌≡◌, List, [], ◌∷◌, Option, Some, None, Result, Ok, Err, All, refl, subst}
 use Rattle.std.proofs.lemmas.List.Elements.{All-nil, All-cons, All-head, All-tail}
 use Rattle.job_programs.specs.declared.refusal.JobRefusal.{JobRefusal}
@@ -27,7 +27,7 @@ comes next (Err refusal) last is = absurd (let no : ⊥ = cc in no)
 pub same_value : {A : Type 0} (x y : A) → (let r : Result A JobRefusal = Ok x in r) ≡ Ok y → x ≡ y
 same_value x y is = cc
 
--- what holds of what comes of each element of a list holds of all that comes of it
+-- If each result has a property, the list of all results has it.
 pub each_all : {A B : Type 0} (f : A → Result B JobRefusal) (Q : A → Type 0) (P : B → Type 0) → ((x : A) (y : B) → Q x → f x ≡ Ok y → P y) →
     (xs : List A) (ys : List B) → All Q xs → each f xs ≡ Ok ys → All P ys
 unfolding each

@@ -100,12 +100,12 @@ unfoldable pub is_left_out : List JobTableView → TableOmission → Bool
 is_left_out tables (NoPes program pid stream_type) = not (has_table tables program pid)
 is_left_out tables _ = true
 
-unfoldable pub is_told : List JobTableView → Warning → Bool
-is_told tables (warnings.Table omission) = is_left_out tables omission
-is_told tables _ = true
+unfoldable pub is_reported : List JobTableView → Warning → Bool
+is_reported tables (warnings.Table omission) = is_left_out tables omission
+is_reported tables _ = true
 
-abbrev pub told : List JobTableView → List Warning → List Warning
-told tables all = filter (is_told tables) all
+abbrev pub reported : List JobTableView → List Warning → List Warning
+reported tables all = filter (is_reported tables) all
 
 -- 4. Their lines in a description
 

@@ -3,6 +3,7 @@ pub mod GivenNames
 pub mod JobOptions
 pub mod Answers
 pub mod Packets
+pub mod LaterPrograms
 pub mod Warnings
 pub mod JobStreams
 pub mod ProgramClocks

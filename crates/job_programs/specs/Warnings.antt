@@ -17,11 +17,13 @@ use Rattle.es_units.specs.UnitWarnings.{unit_warnings}
 use Rattle.es_units.specs.Damage as units
 use Rattle.given_values.specs.GivenNames.{NetworkNameView, ServiceNameView}
 use Rattle.es_buffers.specs.declared.buffers.PidBuffers.{PidBuffers}
+use Rattle.job_programs.specs.JobOptions.{JobOptionsView}
+use Rattle.job_programs.specs.LaterPrograms.{program_loss}
 use Rattle.job_programs.specs.JobPrograms.{numbers_named}
 use Rattle.job_programs.specs.declared.warning.Warning.{Warning}
 use Rattle.job_programs.specs.declared.warning.Warning.TheVariants as warning
 use Rattle.job_programs.specs.declared.warning.PacketWarning.{PacketWarning}
-use Rattle.job_programs.specs.declared.warning.PacketWarning.TheVariants.{Bad, Errored, AssociationChanges, NetworkSurplus}
+use Rattle.job_programs.specs.declared.warning.PacketWarning.TheVariants.{Bad, Errored, AssociationChanges, ProgramLoss, NetworkSurplus}
 use Rattle.job_programs.specs.declared.warning.ProgramWarning.{ProgramWarning}
 use Rattle.job_programs.specs.declared.warning.ProgramWarning.TheVariants.{Missing, NoStream, UnreadText}
 
@@ -42,8 +44,15 @@ packet_warnings findings = flat_map packet_warning findings
 -- 2. Tables that change
 
 -- the first association section that says something else than the association
-abbrev pub association_warnings : AssociationView → List FindingView → List Warning
-association_warnings a findings = map (λ packet. warning.Packet packet AssociationChanges) (option_to_list (association_change a findings))
+abbrev pub association_change_warnings : AssociationView → List FindingView → List Warning
+association_change_warnings a findings = map (λ packet. warning.Packet packet AssociationChanges) (option_to_list (association_change a findings))
+
+-- the first association section with an entry whose maps are not read
+abbrev pub loss_warnings : JobOptionsView → AssociationView → List FindingView → List Warning
+loss_warnings options a findings = map (λ packet. warning.Packet packet ProgramLoss) (option_to_list (program_loss options a.programs findings))
+
+abbrev pub association_warnings : JobOptionsView → AssociationView → List FindingView → List Warning
+association_warnings options a findings = association_change_warnings a findings ++ loss_warnings options a findings
 
 -- the first map of a program that is other in a part than its last one
 unfoldable pub map_warnings : MapPart → List FindingView → Program → List Warning
@@ -107,6 +116,7 @@ abbrev pub is_packet_damage : PacketWarning → Bool
 is_packet_damage Bad = true
 is_packet_damage Errored = true
 is_packet_damage AssociationChanges = false
+is_packet_damage ProgramLoss = true
 is_packet_damage NetworkSurplus = true
 
 abbrev pub is_program_damage : ProgramWarning → Bool

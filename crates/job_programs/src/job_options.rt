@@ -1,10 +1,11 @@
 //! The options of a job.
 
 ghost use Rattle.std.specs.Prelude.{◌≡◌};
-ghost use Rattle.job_programs.specs.JobOptions.{is_among};
+ghost use Rattle.job_programs.specs.JobOptions.{is_among, is_selected_program};
 
 use es_buffers::PidBuffers;
 use given_values::{ClockBase, DeclareBy, NetworkName, ServiceName};
+use psi_tables::Program;
 use std::marker::Model;
 
 /// The options of a job; the rest is taken from the stream.
@@ -79,4 +80,12 @@ pub fn is_among(number: u16, numbers: &[u16]) -> bool
     ensures { result ≡ is_among number numbers.now }
 {
     numbers.iter().any(|other| *other == number)
+}
+
+/// Returns whether a program is taken.
+#[tactic(auto, unfolding(crate::specs::JobOptions::is_selected_program))]
+pub fn is_selected_program(selected: &[u16], program: &Program) -> bool
+    ensures { result ≡ is_selected_program selected.now program.now }
+{
+    selected.is_empty() || is_among(program.program_number, selected)
 }

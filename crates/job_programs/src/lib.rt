@@ -4,8 +4,8 @@
 //! (`specs/JobPrograms`, `specs/ProgramClocks`, `specs/ClockBases`), `JobStream` is an elementary stream of a program
 //! (`specs/JobStreams`), and `JobInformation` describes the transport stream as a whole (`specs/Information`,
 //! `specs/Events`). `JobRefusal` says why there is no job, `Warning` what is not taken unchanged (`specs/Packets`,
-//! `specs/Warnings`). `specs/FoundUnits` says which units of a PID are found, and `specs/JobTables` which sections are
-//! carried.
+//! `specs/LaterPrograms`, `specs/Warnings`). `specs/FoundUnits` says which units of a PID are found, and
+//! `specs/JobTables` which sections are carried.
 #![tactic(auto)]
 
 // What options ask for.
@@ -13,6 +13,7 @@ mod given_names;
 pub mod job_options;
 
 // Refusals and warnings.
+mod later_programs;
 pub mod named_numbers;
 pub mod option_warnings;
 pub mod packets;

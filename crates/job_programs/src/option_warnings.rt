@@ -160,7 +160,8 @@ pub fn push_option_warnings(
     warnings: &mut Vec<Warning>,
 ) -> Result<(), AllocError>
     ensures { OnOk result (warnings.new.items ≡ warnings.old.items
-        ++ spec.option_warnings programs.now without.now buffers.now names.now aligned.now association.now streams.now) }
+        ++ spec.option_warnings programs.now without.now buffers.now names.now aligned.now
+        association.now streams.now) }
 {
     push_selections(association, programs, warnings)?;
     push_pids(streams, without, warnings)?;

@@ -18,6 +18,9 @@ pub enum PacketWarning {
     Errored,
     /// A PAT section that differs from the first PAT; the first PAT is used.
     AssociationChanges,
+    /// A PAT section that names a program, or a PID of its PMTs, that the first PAT does not name: these PMTs are not
+    /// read.
+    ProgramLoss,
     /// A NIT section (actual network) that is not carried unchanged: not in force, not readable, of another network, or
     /// with other or more descriptors or transport streams than `[network]` has.
     NetworkSurplus,
@@ -128,7 +131,10 @@ impl PacketWarning {
         ensures { result ≡ spec.is_packet_damage self }
     {
         match self {
-            PacketWarning::Bad | PacketWarning::Errored | PacketWarning::NetworkSurplus => true,
+            PacketWarning::Bad
+            | PacketWarning::Errored
+            | PacketWarning::ProgramLoss
+            | PacketWarning::NetworkSurplus => true,
             PacketWarning::AssociationChanges => false,
         }
     }

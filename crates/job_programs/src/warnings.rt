@@ -9,7 +9,9 @@ ghost use Rattle.stream_programs.specs.PesCounts.{AreCounts};
 ghost use Rattle.job_programs.specs.Warnings as spec;
 ghost use Rattle.job_programs.specs.declared.warning.Warning.TheVariants.{Table, Units};
 
+use crate::job_options::JobOptions;
 use crate::job_stream::WireStream;
+use crate::later_programs::program_loss;
 use crate::warning::{PacketWarning, Warning};
 use es_units::{PidLinks, UnitWarning, unit_warnings};
 use pid_findings::{Finding, What};
@@ -67,14 +69,33 @@ pub fn push_packet_warnings(
     Ok(())
 }
 
-/// Appends the warning that the programs change.
-pub fn push_association_warning(
+// Appends the warning that programs are lost.
+fn push_loss_warning(
+    options: &JobOptions<'_>,
     association: &Association,
     findings: &[Finding<'_>],
     warnings: &mut Vec<Warning>,
 ) -> Result<(), AllocError>
     ensures { OnOk result (warnings.new.items ≡ warnings.old.items
-        ++ spec.association_warnings association.now (map finding_view findings.now)) }
+        ++ spec.loss_warnings options.now association.now (map finding_view findings.now)) }
+{
+    if let Some(packet) = program_loss(options, &association.programs, findings) {
+        warnings.push(Warning::Packet {
+            packet,
+            what: PacketWarning::ProgramLoss,
+        })?;
+    }
+    Ok(())
+}
+
+// Appends the warning that the PAT changes.
+fn push_change_warning(
+    association: &Association,
+    findings: &[Finding<'_>],
+    warnings: &mut Vec<Warning>,
+) -> Result<(), AllocError>
+    ensures { OnOk result (warnings.new.items ≡ warnings.old.items
+        ++ spec.association_change_warnings association.now (map finding_view findings.now)) }
 {
     if let Some(packet) = association_change(association, findings) {
         warnings.push(Warning::Packet {
@@ -83,6 +104,20 @@ pub fn push_association_warning(
         })?;
     }
     Ok(())
+}
+
+/// Appends the warnings that the PAT changes, and that programs are lost.
+pub fn push_association_warnings(
+    options: &JobOptions<'_>,
+    association: &Association,
+    findings: &[Finding<'_>],
+    warnings: &mut Vec<Warning>,
+) -> Result<(), AllocError>
+    ensures { OnOk result (warnings.new.items ≡ warnings.old.items
+        ++ spec.association_warnings options.now association.now (map finding_view findings.now)) }
+{
+    push_change_warning(association, findings, warnings)?;
+    push_loss_warning(options, association, findings, warnings)
 }
 
 // Appends the warning that the map of a program changes.

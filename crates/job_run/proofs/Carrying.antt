@@ -1,4 +1,4 @@
--- A stream that comes: what is carried for certain goes through a demultiplexer.
+-- The carried bytes of an arriving stream go through a demultiplexer.
 use Rattle.std.proofs.Common.{◌≡◌, ◌≤◌, ℕ, ◌+◌, ◌-◌, Bool, true, false, List, [], ◌++◌, length, length-append, take, drop, refl, sym, ap, ap₂, subst, ◌∙◌}
 use Rattle.std.proofs.Common.{arith, append_assoc, append-nil, drop-drop}
 use Rattle.std.proofs.Math.Seq.{drop-append-add}
@@ -8,6 +8,7 @@ use Rattle.packet_pcr.specs.declared.pcr_reading.FoundPcr.{FoundPcr}
 use Rattle.data_times.proofs.LoggedBytes.{logged_append}
 use Rattle.demux.specs.Stream.{StreamState, finished, pushed, start}
 use Rattle.demux.proofs.PushedBytes.{pushed_append}
+use Rattle.joined_parts.specs.declared.cuts.Cut.{Cut}
 use Rattle.joined_parts.specs.declared.recodings.Recoding.{Recoding}
 use Rattle.packet_sync.specs.Notes.{IsNoted, NotesView, SayAlike, no_notes}
 use Rattle.packet_sync.specs.Slips.{carried}
@@ -17,7 +18,7 @@ use Rattle.packet_sync.proofs.Noted.{all_noted}
 use Rattle.packet_sync.proofs.Stretches.{carried_few}
 use Rattle.job_run.specs.Streams.{CarriedView, IsCarriedTo, IsOfStream, PacketsView, with_bytes}
 
--- 1. What is said
+-- 1. The notes
 
 alike_at : (old new : NotesView) (a b x y : List ℕ) → a ≡ b → x ≡ y → SayAlike old b new y → SayAlike old a new x
 alike_at old new a b x y e f so = subst (λ (r : List ℕ). SayAlike old r new x) (sym e) (subst (λ (r : List ℕ). SayAlike old b new r) (sym f) so)
@@ -25,7 +26,7 @@ alike_at old new a b x y e f so = subst (λ (r : List ℕ). SayAlike old r new x
 alike_then : (a b c : NotesView) (xs ys zs : List ℕ) → SayAlike a xs b ys → SayAlike b ys c zs → SayAlike a xs c zs
 alike_then a b c xs ys zs one two = record { slips = one.slips ∙ two.slips; fields = one.fields ∙ two.fields }
 
--- 2. More bytes, or none
+-- 2. More bytes, or no more
 
 pub more_came : (stream piece held : List ℕ) (s : CarriedView) → held ≡ s.held ++ piece → IsCarriedTo stream false s →
     IsCarriedTo (stream ++ piece) false (record { held = held; packets = s.packets })
@@ -54,7 +55,7 @@ no_more stream s so = record {
   size_is = so.size_is;
 }
 
--- the same bytes, and the same that is kept
+-- Equal bytes and an equal state
 pub carried_as : (stream other : List ℕ) (ended : Bool) (s t : CarriedView) → stream ≡ other → s.held ≡ t.held → s.packets ≡ t.packets →
     IsCarriedTo stream ended s → IsCarriedTo other ended t
 carried_as stream other ended s t e f p so =
@@ -88,7 +89,7 @@ stretch_carried stream bytes ended at rest taking s notes old new is takes stret
       size_is = ap (λ (q : PacketsView). q.size) e ∙ ap (λ (n : ℕ). n + length taking) so.size_is ∙ sym (length-append so.gone taking);
     }
 
--- 4. A piece: its first bytes are joined with those that are held
+-- 4. A piece: its first bytes are joined with the held bytes
 
 pub front_taken : (stream piece held front later joined : List ℕ) (at n : ℕ) (s : CarriedView) (p q : PacketsView) → record { held = held; packets = p } ≡ s →
     front ≡ take n piece → later ≡ drop n piece →
@@ -105,7 +106,7 @@ front_taken stream piece held front later joined at n s p q view f l j step so =
     (record { held = drop at joined ++ later; packets = q }) whole refl refl
     (more_came (stream ++ front) later (drop at joined ++ later) (record { held = drop at joined; packets = q }) refl taken)
 
--- all that is held was taken: the rest of the piece is left
+-- If all held bytes were taken, the rest of the piece remains.
 pub rest_is : (piece held front later joined : List ℕ) (at n : ℕ) → front ≡ take n piece → later ≡ drop n piece → joined ≡ held ++ front → length held ≤ at →
     at ≤ length joined →
     drop at joined ++ later ≡ drop (at - length held) piece
@@ -121,11 +122,12 @@ rest_is piece held front later joined at n f l j past within =
 
 -- 5. The end
 
-pub stream_ended : (bytes held : List ℕ) (at : ℕ) (p : PacketsView) (recodings : List Recoding) (references : List FoundPcr) (demux : StreamState) →
-    length held ≤ at → IsCarriedTo bytes true (record { held = drop at held; packets = p }) → recodings ≡ [] → references ≡ p.log.found →
+pub stream_ended : (bytes held : List ℕ) (at : ℕ) (p : PacketsView) (recodings : List Recoding) (jumps : List Cut) (references : List FoundPcr)
+    (demux : StreamState) →
+    length held ≤ at → IsCarriedTo bytes true (record { held = drop at held; packets = p }) → recodings ≡ [] → jumps ≡ [] → references ≡ p.log.found →
     demux ≡ finished p.demux →
-    IsOfStream bytes (record { slips = p.notes.slips; fields = p.notes.fields; recodings = recodings }) references demux.found p.size
-stream_ended bytes held at p recodings references demux past so e r f =
+    IsOfStream bytes (record { slips = p.notes.slips; fields = p.notes.fields; recodings = recodings; jumps = jumps }) references demux.found p.size
+stream_ended bytes held at p recodings jumps references demux past so e j r f =
     let none : drop at held ≡ [] = drop_all at held past in
     let whole : bytes ++ [] ≡ bytes = append-nil bytes in
     let left : drop at held ++ [] ≡ [] = append-nil (drop at held) ∙ none in
@@ -135,8 +137,8 @@ stream_ended bytes held at p recodings references demux past so e r f =
     let said = all_noted bytes p.notes
     (alike_at no_notes p.notes bytes (bytes ++ []) [] (drop at held ++ []) (sym whole) (sym left) (so.said [] (λ e. refl))) in
     record {
-      notes_are = ap (λ (z : List Recoding). record { slips = p.notes.slips; fields = p.notes.fields; recodings = z }) e
-          ∙ ap₂ (λ x y. record { slips = x; fields = y; recodings = [] }) said.0 said.1;
+      notes_are = ap₂ (λ (z : List Recoding) (x : List Cut). record { slips = p.notes.slips; fields = p.notes.fields; recodings = z; jumps = x }) e j
+          ∙ ap₂ (λ x y. record { slips = x; fields = y; recodings = []; jumps = [] }) said.0 said.1;
       references_are = r ∙ ap (λ (l : LogView). l.found) so.log_is ∙ ap references_in (sym all);
       found_is = ap (λ (d : StreamState). d.found) f ∙ ap (λ (d : StreamState). (finished d).found) so.demux_is
           ∙ ap (λ (r : List ℕ). (finished (pushed start r)).found) (sym all);

@@ -1,4 +1,4 @@
--- The first 409 bytes of a stream that comes.
+-- The first 409 bytes of an arriving stream.
 use Rattle.std.proofs.Common.{◌≡◌, ◌≤◌, ◌<◌, ℕ, ◌+◌, ◌-◌, min, nat_lt, Bool, true, false, List, ◌++◌, length, length-take, take, drop, refl, sym, ap, ap₂}
 use Rattle.std.proofs.Common.{subst, ◌∙◌, arith, append-nil, Option, None, is_some}
 use Rattle.std.proofs.Math.Seq.{take-append-add}
@@ -8,7 +8,7 @@ use Rattle.packet_sync.specs.declared.packet_sizes.OtherPackets.{OtherPackets}
 use Rattle.packet_sync.proofs.FrontBytes.{other_front}
 use Rattle.job_run.specs.Streams.{IsRead, ReadingView}
 
--- 1. They are kept
+-- 1. The first bytes are kept
 
 least_taken : (n m : ℕ) (xs : List ℕ) → n ≡ min m (length xs) → (b : Bool) → nat_lt m (length xs) ≡ b → take n xs ≡ take m xs
 least_taken n m xs is true t = let less : m < length xs = search (arith, t) in ap (λ (k : ℕ). take k xs) (omega (arith, is, less))
@@ -37,7 +37,7 @@ pub front_came : (front stream piece : List ℕ) (n : ℕ) → front ≡ take 40
     front ++ take n piece ≡ take 409 (stream ++ piece)
 front_came front stream piece n e is = front_by 409 front stream piece n e is (nat_lt (length stream) 409) refl
 
--- 2. What they tell
+-- 2. The packet size that the first bytes show
 
 known_by : (size : ℕ) (bytes front : List ℕ) (result : Option OtherPackets) → front ≡ take size bytes → result ≡ other_packets front →
     ((more : List ℕ) → size ≤ length front → result ≡ other_packets (front ++ more)) → (b : Bool) → nat_lt (length bytes) size ≡ b →
@@ -55,7 +55,7 @@ pub packets_known : (bytes front : List ℕ) (result : Option OtherPackets) → 
     ((more : List ℕ) → 409 ≤ length front → result ≡ other_packets (front ++ more)) → result ≡ other_packets bytes
 packets_known bytes front result f e known = known_by 409 bytes front result f e known (nat_lt (length bytes) 409) refl
 
--- the first bytes stay as they are
+-- The first bytes stay the same.
 pub front_stays : (bytes piece front : List ℕ) (r : ReadingView) → r.other ≡ true → front ≡ take 409 (bytes ++ piece) → IsRead bytes r →
     IsRead (bytes ++ piece) (record { front = front; other = r.other; stream = r.stream })
 front_stays bytes piece front r other f so =

@@ -1,4 +1,4 @@
--- What is written of an answer, and what the input that was read leads to.
+-- The output of an answer, and the outcome of the input that was read.
 use Rattle.std.proofs.Common.{◌≡◌, ◌∙◌, ◌+◌, ◌++◌, ◌∷◌, ◌/◌, ◌==◌, ◌&&◌, ℕ, suc, Bool, true, false, List, [], length, refl, sym, ap, ap₂, subst, append-nil}
 use Rattle.std.proofs.Common.{Option, Some, None, Result, Ok, Err, IfOk, IsUtf8, All, inl, inr, arith}
 use Rattle.std.specs.List.{AllZip}
@@ -36,7 +36,7 @@ use Rattle.packet_sync.specs.OtherPackets.{other_packets}
 use Rattle.packet_sync.specs.Slips.{carried}
 use Rattle.packet_sync.specs.declared.packet_sizes.OtherPackets.{OtherPackets}
 use Rattle.job_lines.specs.SlipLines.{packets_line}
-use Rattle.job_run.specs.Outcomes.{BytesLead, FindingsLead, Gives, GivesJob, GivesReasons, GivesUnits, IsFound, IsTold, IsWritten, Leads, InputLeads}
+use Rattle.job_run.specs.Outcomes.{BytesLead, FindingsLead, Gives, GivesJob, GivesReasons, GivesUnits, IsFound, IsReasonOutput, IsWritten, Leads, InputLeads}
 use Rattle.job_run.specs.Outcomes.{ReportsWhy, Withholds, found_line}
 use Rattle.std.specs.Int.{bytes_high_first}
 use Rattle.unit_records.specs.Records.{private_bytes, private_size, record_head, word_of}
@@ -45,14 +45,14 @@ use Rattle.job_run.specs.SeveralInputs.{GivesJobIn}
 use Rattle.job_run.specs.Streams.{IsOfStream, IsRead, PacketNotesView, ReadingView, asked_findings, findings_by, findings_for, notes_by, notes_for}
 use Rattle.job_programs.specs.FoundUnits.{FitsQueue}
 
--- 1. What a subcommand gives
+-- 1. The output of a subcommand
 
--- a text without a plan and without units
+-- A text without a plan and without units
 pub text_alone : (text plan : List ℕ) (units : List (ℕ × AccessUnit)) → plan ≡ [] → units ≡ [] → written text plan units ≡ text
 text_alone text plan units p u =
     ap (λ (x : List ℕ). written text x units) p ∙ (ap (λ (x : List (ℕ × AccessUnit)). written text [] x) u ∙ (append-nil (text ++ []) ∙ append-nil text))
 
--- a list with an element is not empty
+-- A list with an element is not empty.
 suc_is_not : (n : ℕ) → (suc n == 0) ≡ false
 suc_is_not n = grind (arith, nat_tests)
 
@@ -67,7 +67,7 @@ record_is_not stream size marks dts pts unit more =
     (((bytes_high_first 4 (word_of marks (private_size marks + size))
     ++ (bytes_high_first 8 dts ++ (bytes_high_first 8 pts ++ private_bytes marks.private_data))) ++ unit) ++ more)
 
--- nothing is written where there is no text, no plan and no unit
+-- Nothing is written exactly if there is no text, no plan and no unit.
 pub nothing_written : (text plan : List ℕ) (units : List (ℕ × AccessUnit)) →
     ((length text == 0) && ((length plan == 0) && (length units == 0))) ≡ (length (written text plan units) == 0)
 nothing_written [] [] [] = refl
@@ -94,7 +94,7 @@ given_job w findings m text plan d p q units j u a s utf8 within e f = record {
   is = ap (λ (x : List ℕ). written text x units) (e ∙ ap plan_text f);
 }
 
--- the same of joined inputs
+-- A job of joined inputs is given.
 pub given_job_in : (w : JobOptionsView) (inputs : List (List FindingView)) (j : JoinedInputsView) (m : JobInputView) (text plan : List ℕ) (d : Described)
     (p q : Planned) (units : List (ℕ × AccessUnit)) →
     j.input ≡ m → IsJob w m d text units → AreUnitsIn w.make_dts inputs j.origins d units → AllAgree d m → IsServing d p → IsUtf8 text →
@@ -114,7 +114,7 @@ given_job_in w inputs j m text plan d p q units same job u a s utf8 within e f =
   is = ap (λ (x : List ℕ). written text x units) (e ∙ ap plan_text f);
 }
 
--- their streams are those of the input
+-- The streams of the joined inputs are the streams of the input.
 pub found_in_input : (made : Bool) (inputs : List (List FindingView)) (j : JoinedInputsView) (m : JobInputView) → j.input ≡ m → AreStreamsIn made inputs j →
     AllZip (IsFoundIn made inputs) j.origins m.streams × All FitsQueue m.streams
 found_in_input made inputs j m same streams = (
@@ -122,7 +122,7 @@ found_in_input made inputs j m same streams = (
   subst (λ (x : JobInputView). All FitsQueue x.streams) same streams.fits,
 )
 
--- what is so of an input is so of the joined inputs that it is
+-- A property of an input is a property of the joined inputs if they are this input.
 pub described_in : (w : JobOptionsView) (j : JoinedInputsView) (m : JobInputView) (output : List ℕ) → j.input ≡ m → IsDescription w m output →
     IsDescription w j.input output
 described_in w j m output same is = subst (λ (x : JobInputView). IsDescription w x output) (sym same) is
@@ -134,7 +134,7 @@ pub reasons_given_in : (w : JobOptionsView) (j : JoinedInputsView) (m : JobInput
     GivesReasons w j.input output
 reasons_given_in w j m output same is = subst (λ (x : JobInputView). GivesReasons w x output) (sym same) is
 
--- a whole job is given, where it is asked for
+-- A whole job is given if it is requested.
 pub whole_given : (subcommand : Subcommand) (w v : JobOptionsView) (findings : List FindingView) (m : JobInputView) (r : Result (List ℕ) JobError) →
     subcommand ≡ Whole → w ≡ v →
     ((all : List FindingView) → AreStreams w.make_dts all m → IfOk r (λ p. GivesJob w all m p)) → AreStreams v.make_dts findings m →
@@ -144,23 +144,23 @@ whole_given subcommand w v findings m r is same given streams =
     (subst (λ (x : JobOptionsView). IfOk r (λ p. GivesJob x findings m p)) same
     (given findings (subst (λ (x : JobOptionsView). AreStreams x.make_dts findings m) (sym same) streams)))
 
--- four texts, one after another
+-- Four texts, one after another
 pub four_texts : (a b c d first second third fourth : List ℕ) → a ≡ first → b ≡ a ++ second → c ≡ b ++ third → d ≡ c ++ fourth →
     d ≡ first ++ second ++ third ++ fourth
 four_texts a b c d first second third fourth e f h k =
     k ∙ ap (λ (x : List ℕ). x ++ fourth) (h ∙ ap (λ (x : List ℕ). x ++ third) (f ∙ ap (λ (x : List ℕ). x ++ second) e))
 
--- reasons, and what is found by trying rates
-pub told_nothing : (w : JobOptionsView) (m : JobInputView) (lines output : List ℕ) → (length lines == 0) ≡ true → output ≡ lines →
-    IsTold (length lines == 0) w m lines output
-told_nothing w m lines output e h = subst (λ (b : Bool). IsTold b w m lines output) (sym e) h
+-- The reasons, and the rate found by trial
+pub reported_nothing : (w : JobOptionsView) (m : JobInputView) (lines output : List ℕ) → (length lines == 0) ≡ true → output ≡ lines →
+    IsReasonOutput (length lines == 0) w m lines output
+reported_nothing w m lines output e h = subst (λ (b : Bool). IsReasonOutput b w m lines output) (sym e) h
 
-pub told_found : (w : JobOptionsView) (m : JobInputView) (lines output : List ℕ) (found : Option ℕ) → (length lines == 0) ≡ false →
-    IsFound w m found → output ≡ lines ++ found_line found → IsTold (length lines == 0) w m lines output
-told_found w m lines output found e f h =
-    subst (λ (b : Bool). IsTold b w m lines output) (sym e) (record { found = found; tried = f; is = h })
+pub reported_found : (w : JobOptionsView) (m : JobInputView) (lines output : List ℕ) (found : Option ℕ) → (length lines == 0) ≡ false →
+    IsFound w m found → output ≡ lines ++ found_line found → IsReasonOutput (length lines == 0) w m lines output
+reported_found w m lines output found e f h =
+    subst (λ (b : Bool). IsReasonOutput b w m lines output) (sym e) (record { found = found; tried = f; is = h })
 
--- 2. What a job input leads to
+-- 2. The outcome of a job input
 
 undescribed : (rate : Option ℕ) (w : JobOptionsView) (m : JobInputView) → IsWhyNoDescription rate w m Memory
 undescribed (Some arguments) w m = refl
@@ -170,7 +170,7 @@ unreasoned : (rate : Option ℕ) (w : JobOptionsView) (m : JobInputView) → IsW
 unreasoned (Some arguments) w m = tt
 unreasoned None w m = tt
 
--- there is no memory for what a subcommand gives
+-- There is no memory for the output of a subcommand.
 pub no_memory : (subcommand : Subcommand) (w : JobOptionsView) (m : JobInputView) (error : JobError) → error ≡ Memory → Withholds subcommand w m error
 no_memory Whole w m error e = subst (λ (x : JobError). Withholds Whole w m x) (sym e) tt
 no_memory Describe w m error e = subst (λ (x : JobError). Withholds Describe w m x) (sym e) (undescribed w.rate w m)
@@ -182,7 +182,7 @@ pub withheld : (arguments : JobArgumentsView) (notes : PacketNotesView) (finding
 withheld arguments notes findings m Memory o h t = absurd t
 withheld arguments notes findings m (Refused refusal) o h t = inr (record { refusal = refusal; holds = h; is = t })
 
--- there is a job input
+-- There is a job input.
 answered : (r : Result JobInputView JobRefusal) (m : JobInputView) → Answers r (Ok m) → r ≡ Ok m
 unfolding Answers
 answered r m a = a
@@ -192,7 +192,7 @@ pub with_input : (arguments : JobArgumentsView) (notes : PacketNotesView) (count
 with_input arguments notes count findings m o a l =
     subst (λ (r : Result JobInputView JobRefusal). InputLeads arguments notes findings r o) (sym (answered (job_input arguments.options count findings) m a)) l
 
--- there is none
+-- There is no job input.
 refused : (arguments : JobArgumentsView) (notes : PacketNotesView) (findings : List FindingView) (r : Result JobInputView JobRefusal) (error : JobError)
     (o : Outcome) →
     Answers r (Err error) → ReportsWhy error o → InputLeads arguments notes findings r o
@@ -204,22 +204,22 @@ pub without_input : (arguments : JobArgumentsView) (notes : PacketNotesView) (co
     Answers (job_input arguments.options count findings) (Err error) → ReportsWhy error o → FindingsLead arguments notes count findings o
 without_input arguments notes count findings error o a t = refused arguments notes findings (job_input arguments.options count findings) error o a t
 
--- 3. What was read leads to it
+-- 3. The outcome of the bytes that were read
 
--- a stream that was read
+-- A stream that was read
 pub carried_lead : (arguments : JobArgumentsView) (bytes : List ℕ) (notes said : PacketNotesView) (references : List FoundPcr) (size : ℕ)
     (at_times marked findings found : List FindingView) (w : JobOptionsView) (o : Outcome) →
     IsOfStream bytes notes references found size → findings ≡ found → w ≡ arguments.options → marked ≡ as_asked w findings →
     said ≡ notes_by w.joined references marked notes → at_times ≡ findings_by w.joined references marked → FindingsLead arguments said (size / 188) at_times o →
     BytesLead arguments bytes None o
-carried_lead arguments bytes notes said references size at_times marked findings found w o t f asked marks told times l =
+carried_lead arguments bytes notes said references size at_times marked findings found w o t f asked marks reports times l =
     let asked_are : marked ≡ asked_findings arguments.options bytes =
     marks ∙ ap (λ (x : JobOptionsView). as_asked x findings) asked ∙ ap (λ (x : List FindingView). as_asked arguments.options x) (f ∙ t.found_is) in
     let all : at_times ≡ findings_for arguments.options bytes =
     times ∙ ap (λ (x : JobOptionsView). findings_by x.joined references marked) asked
     ∙ ap₂ (λ (r : List FoundPcr) (x : List FindingView). findings_by arguments.options.joined r x) t.references_are asked_are in
     let notes_are : said ≡ notes_for arguments.options bytes =
-    told ∙ ap (λ (x : JobOptionsView). notes_by x.joined references marked notes) asked
+    reports ∙ ap (λ (x : JobOptionsView). notes_by x.joined references marked notes) asked
     ∙ ap₂ (λ (r : List FoundPcr) (x : List FindingView). notes_by arguments.options.joined r x notes) t.references_are asked_are
     ∙ ap (λ (n : PacketNotesView). notes_by arguments.options.joined (references_in (carried bytes)) (asked_findings arguments.options bytes) n) t.notes_are in
     subst (λ (x : PacketNotesView). FindingsLead arguments x (length (carried bytes) / 188) (findings_for arguments.options bytes) o) notes_are

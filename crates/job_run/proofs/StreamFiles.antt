@@ -1,4 +1,4 @@
--- Streams in files: what a job takes of each, and what it leads to.
+-- Streams in files: the input that a job takes from each stream, and the outcome.
 use Rattle.std.proofs.Common.{◌≡◌, ◌∙◌, ◌<◌, ◌+◌, ◌/◌, ◌++◌, ◌∷◌, ◌||◌, ℕ, suc, zero, Bool, true, false, List, [], length, map, take, get_or, refl, sym, ap}
 use Rattle.std.proofs.Common.{ap₂, subst, append_assoc, append-nil, Option, Some, None, Result, Ok, Err, All, inl, inr, arith, ◌≤◌, length-append}
 use Rattle.std.proofs.Common.{length-take-le}
@@ -38,11 +38,11 @@ use Rattle.job_programs.specs.declared.refusal.JobError.TheVariants.{Memory, Ref
 use Rattle.job_programs.specs.declared.refusal.JobRefusal.{JobRefusal}
 use Rattle.job_inputs.proofs.JoinedStreams.{joined_found}
 use Rattle.job_run.specs.JobArguments.{JobArgumentsView}
-use Rattle.job_run.specs.Outcomes.{ReportsWhy, Withholds, is_told_less, status_of, told_lines, unless_quiet}
+use Rattle.job_run.specs.Outcomes.{ReportsWhy, Withholds, reports_loss, status_of, reported_lines, unless_quiet}
 use Rattle.job_run.specs.SeveralInputs.{GivesIn, InputsLead, JoinedLead, NamedStream, all_findings, all_joined, are_streams_less, input_or_line, names_of}
 use Rattle.job_run.specs.SeveralInputs.{packets_input, stream_input, stream_inputs, streams_lines, under, with_first}
 use Rattle.job_run.specs.StreamFiles.{AreNamedInputs, AreTaken, EndsAt, FilesLead, HasRead, IsInput, IsInputIn, IsInputOf, IsLedTo, IsNamedInput, IsRefusalOf}
-use Rattle.job_run.specs.StreamFiles.{IsTakenFrom, IsTakenOf, JoinedLeads, TakenLead, TakenView, read_line, stopped_by, taken_lines, told_under}
+use Rattle.job_run.specs.StreamFiles.{IsTakenFrom, IsTakenOf, JoinedLeads, TakenLead, TakenView, read_line, stopped_by, taken_lines, headed_outcome}
 use Rattle.job_run.specs.Streams.{IsOfStream, IsRead, PacketNotesView, ReadingView, asked_findings, findings_by, findings_for, notes_by, notes_for}
 
 -- 1. One stream
@@ -53,23 +53,23 @@ answered r m is = is
 
 pub is_taken_of : (a : JobArgumentsView) (notes : PacketNotesView) (count : ℕ) (findings : List FindingView) (m : JobInputView) (t : TakenView) →
     Answers (job_input a.options count findings) (Ok m) → AreStreams a.options.make_dts findings m → t.input ≡ m →
-    t.lines ≡ told_lines a.reporting notes findings m →
-    t.less ≡ is_told_less a.reporting notes findings m → IsTakenOf a notes count findings t
+    t.lines ≡ reported_lines a.reporting notes findings m →
+    t.less ≡ reports_loss a.reporting notes findings m → IsTakenOf a notes count findings t
 is_taken_of a notes count findings m t is streams same lines less = record {
   input_is = answered (job_input a.options count findings) m is ∙ ap (λ (x : JobInputView). Ok x) (sym same);
   streams = subst (λ (x : JobInputView). AreStreams a.options.make_dts findings x) (sym same) streams;
-  lines_are = lines ∙ ap (λ (x : JobInputView). told_lines a.reporting notes findings x) (sym same);
-  less_is = less ∙ ap (λ (x : JobInputView). is_told_less a.reporting notes findings x) (sym same);
+  lines_are = lines ∙ ap (λ (x : JobInputView). reported_lines a.reporting notes findings x) (sym same);
+  less_is = less ∙ ap (λ (x : JobInputView). reports_loss a.reporting notes findings x) (sym same);
 }
 
 pub is_refusal_of : (a : JobArgumentsView) (count : ℕ) (findings : List FindingView) (error : JobError) (o : Outcome) →
     Answers (job_input a.options count findings) (Err error) → ReportsWhy error o →
     IsRefusalOf a count findings o
 unfolding Answers Refuses
-is_refusal_of a count findings Memory o is told = absurd told
-is_refusal_of a count findings (Refused refusal) o is told = record { refusal = refusal; refused = is; is = told }
+is_refusal_of a count findings Memory o is outcome_is = absurd outcome_is
+is_refusal_of a count findings (Refused refusal) o is outcome_is = record { refusal = refusal; refused = is; is = outcome_is }
 
--- of packets of 188 bytes
+-- A stream of packets of 188 bytes
 plain_input : (a : JobArgumentsView) (bytes : List ℕ) (x : Result JobInputView JobRefusal) → other_packets bytes ≡ None →
     job_input a.options (length (carried bytes) / 188) (findings_for a.options bytes) ≡ x → stream_input a.options bytes ≡ input_or_line x
 unfolding packets_input
@@ -102,14 +102,14 @@ pub carried_is_input : (a : JobArgumentsView) (bytes : List ℕ) (notes said : P
     IsOfStream bytes notes references found size → findings ≡ found → other_packets bytes ≡ None → w ≡ a.options → marked ≡ as_asked w findings →
     said ≡ notes_by w.joined references marked notes → at_times ≡ findings_by w.joined references marked → IsInputOf a said (size / 188) at_times r →
     IsInput a bytes r
-carried_is_input a bytes notes said references size at_times marked findings found w r of same none asked marks told times is =
+carried_is_input a bytes notes said references size at_times marked findings found w r of same none asked marks outcome_is times is =
     let asked_are : marked ≡ asked_findings a.options bytes =
     marks ∙ ap (λ (x : JobOptionsView). as_asked x findings) asked ∙ ap (λ (x : List FindingView). as_asked a.options x) (same ∙ of.found_is) in
     let all : at_times ≡ findings_for a.options bytes =
     times ∙ ap (λ (x : JobOptionsView). findings_by x.joined references marked) asked
     ∙ ap₂ (λ (r : List FoundPcr) (x : List FindingView). findings_by a.options.joined r x) of.references_are asked_are in
     let notes_are : said ≡ notes_for a.options bytes =
-    told ∙ ap (λ (x : JobOptionsView). notes_by x.joined references marked notes) asked
+    outcome_is ∙ ap (λ (x : JobOptionsView). notes_by x.joined references marked notes) asked
     ∙ ap₂ (λ (r : List FoundPcr) (x : List FindingView). notes_by a.options.joined r x notes) of.references_are asked_are
     ∙ ap (λ (n : PacketNotesView). notes_by a.options.joined (references_in (carried bytes)) (asked_findings a.options bytes) n) of.notes_are in
     of_bytes a bytes r none
@@ -117,17 +117,17 @@ carried_is_input a bytes notes said references size at_times marked findings fou
     (subst (λ (x : List FindingView). IsInputOf a said (length (carried bytes) / 188) x r) all
     (subst (λ (n : ℕ). IsInputOf a said (n / 188) at_times r) of.size_is is)))
 
--- of packets of another size
+-- A stream of packets of another size
 pub other_is_input : (a : JobArgumentsView) (bytes : List ℕ) (packets : OtherPackets) (o : Outcome) → Some packets ≡ other_packets bytes →
     o ≡ reported (packets_line packets) → IsInput a bytes (Err o)
 unfolding packets_input
-other_is_input a bytes packets o is told = record {
+other_is_input a bytes packets o is outcome_is = record {
   line = packets_line packets;
   refused = ap (λ (p : Option OtherPackets). packets_input a.options bytes p) (sym is);
-  is = told;
+  is = outcome_is;
 }
 
--- 2. The file of a name
+-- 2. The file with a name
 
 pub named_read : (a : JobArgumentsView) (files : Files) (name : List ℕ) (input : Device) (r : ReadingView) (x : Result TakenView Outcome) →
     IsOpened files name → input.before.bytes ≡ files.contents name →
@@ -143,14 +143,15 @@ named_read a files name input r (Err o) opened same read of =
           of read.bytes read.is;
     })
 
--- it can't be read to its end
+-- The file can't be read to its end.
 pub named_unread : (a : JobArgumentsView) (files : Files) (name : List ℕ) (input : Device) (halt : Halt) (o : Outcome) → IsOpened files name →
     input.before.bytes ≡ files.contents name →
     (files.never_fails ≡ true → HasFailed input → ⊥) → (halt ≡ Halted.Memory → ⊥) → ReadsInput input (Err halt) → o ≡ stopped_by read_line →
     IsNamedInput a files name (Err o)
-named_unread a files name input Halted.Read o opened same never other read told = inl (inr (told, is_unread files name input opened same never read))
-named_unread a files name input Halted.Write o opened same never other read told = absurd read
-named_unread a files name input Halted.Memory o opened same never other read told = absurd (other refl)
+named_unread a files name input Halted.Read o opened same never other read outcome_is =
+    inl (inr (outcome_is, is_unread files name input opened same never read))
+named_unread a files name input Halted.Write o opened same never other read outcome_is = absurd read
+named_unread a files name input Halted.Memory o opened same never other read outcome_is = absurd (other refl)
 
 -- 3. Files one after another
 
@@ -189,8 +190,8 @@ all_files a files names k taken over are = subst (λ (l : List (List ℕ)). AreT
 
 pub ends_at : (a : JobArgumentsView) (files : Files) (names : List (List ℕ)) (k : ℕ) (name : List ℕ) (taken : List TakenView) (alone o : Outcome) →
     k < length names → name ≡ get_or names k name →
-    AreTaken a files (take k names) taken → IsNamedInput a files name (Err alone) → o ≡ told_under k name alone → EndsAt a files names o
-ends_at a files names k name taken alone o within at before is told = record {
+    AreTaken a files (take k names) taken → IsNamedInput a files name (Err alone) → o ≡ headed_outcome k name alone → EndsAt a files names o
+ends_at a files names k name taken alone o within at before is outcome_is = record {
   number = k;
   name = name;
   at = slice_get-get_or names k name within ∙ ap (λ (n : List ℕ). Some n) (sym at);
@@ -198,10 +199,10 @@ ends_at a files names k name taken alone o within at before is told = record {
   before = before;
   alone = alone;
   is = is;
-  told = told;
+  outcome_is = outcome_is;
 }
 
--- 4. What a job takes of all
+-- 4. The input that a job takes from all files
 
 inputs_are : (a : JobArgumentsView) (number : ℕ) (streams : List NamedStream) (taken : List TakenView) → AllZip (IsTakenFrom a) streams taken →
     stream_inputs a.options number streams ≡ Ok (map (λ t. t.input) taken)
@@ -234,7 +235,7 @@ lines_are a before number (s ∷ ss) (t ∷ ts) at all =
     ∙ ap (λ (n : List ℕ). under number n t.lines ++ streams_lines a (number + 1) ss ms) here
     ∙ ap (λ (l : List ℕ). under number s.name l ++ streams_lines a (number + 1) ss ms) all.0.lines_are
 
--- the lines one after another
+-- The lines of the files, one after another
 taken_step : (names : List (List ℕ)) (taken : List TakenView) (k : ℕ) (t : TakenView) → k < length taken → t ≡ get_or taken k t →
     taken_lines names k (drop k taken) ≡ under k (name_of names k) t.lines ++ taken_lines names (k + 1) (drop (k + 1) taken)
 unfolding taken_lines
@@ -273,7 +274,7 @@ names_are files [] (s ∷ ss) all = absurd all
 names_are files (n ∷ ns) [] all = absurd all
 names_are files (n ∷ ns) (s ∷ ss) all = ap (λ (l : List (List ℕ)). n ∷ l) (names_are files ns ss all.1) ∙ ap (λ (x : List ℕ). x ∷ names_of ss) (sym all.0.0)
 
--- those of an input are found by its number
+-- The findings of an input are found by its number.
 found_at : (before : List (List FindingView)) (f : List FindingView) (after : List (List FindingView)) → findings_in (before ++ f ∷ after) (length before) ≡ f
 unfolding findings_in
 found_at [] f after = refl
@@ -309,7 +310,7 @@ pub few_taken : (a : JobArgumentsView) (files : Files) (names : List (List ℕ))
     All (λ t. length t.input.streams ≤ 32) taken
 few_taken a files names taken are = few_of a are.streams taken are.are
 
--- 5. What they lead to
+-- 5. The outcome of all files
 
 pub given_of : (a : JobArgumentsView) (names : List (List ℕ)) (taken : List TakenView) (j : JoinedInputsView) (lines : List ℕ) (less : Bool) (o : Outcome) →
     lines ≡ taken_lines names 0 taken →
@@ -325,8 +326,8 @@ given_of a names taken j lines less o said lost gives report status = inl (recor
 
 pub withheld_of : (a : JobArgumentsView) (names : List (List ℕ)) (taken : List TakenView) (j : JoinedInputsView) (error : JobError) (o : Outcome) →
     Withholds a.subcommand a.options j.input error → ReportsWhy error o → JoinedLeads a names taken (Ok j) o
-withheld_of a names taken j Memory o holds told = absurd told
-withheld_of a names taken j (Refused refusal) o holds told = inr (record { refusal = refusal; holds = holds; is = told })
+withheld_of a names taken j Memory o holds outcome_is = absurd outcome_is
+withheld_of a names taken j (Refused refusal) o holds outcome_is = inr (record { refusal = refusal; holds = holds; is = outcome_is })
 
 are_in : (made : Bool) (inputs : List (List FindingView)) (ms : List JobInputView) (j : JoinedInputsView) → AreMadeOf made inputs 0 ms → all_joined ms ≡ Ok j →
     AreStreamsIn made inputs j
@@ -365,7 +366,7 @@ taken_lead a files names taken o are lead =
           (joined_lead a files names taken o are (all_joined ms) refl lead);
     })
 
--- the first one of which a job takes nothing, after others
+-- The first stream that a job refuses, after streams that it takes
 refused_after : (a : JobArgumentsView) (start : ℕ) (streams : List NamedStream) (taken : List TakenView) (s : NamedStream) (line : List ℕ) (number : ℕ) →
     AllZip (IsTakenFrom a) streams taken →
     stream_input a.options s.bytes ≡ Err line → start + length streams ≡ number →
@@ -409,7 +410,7 @@ refused_lead a files names o e one =
           (zip_push (HasRead files) (take e.number names) e.before.streams e.name s e.before.read (refl, one.whole, one.opened));
       all = not_all a all (input_line e.number e.name ++ one.is.line) (length all) (length names) refused;
       leads = subst (λ (x : Result (List JobInputView) (List ℕ)). InputsLead a all x o) (sym refused)
-          (e.told ∙ ap (λ (x : Outcome). told_under e.number e.name x) one.is.is);
+          (e.outcome_is ∙ ap (λ (x : Outcome). headed_outcome e.number e.name x) one.is.is);
     }
 
 ended : (a : JobArgumentsView) (files : Files) (names : List (List ℕ)) (o : Outcome) (e : EndsAt a files names o) → IsNamedInput a files e.name (Err e.alone) →
@@ -423,14 +424,14 @@ ended a files names o e (inl stop) = inl (record {
   taken = ap (λ (x : Result (List JobInputView) (List ℕ)). is_ok x) (inputs_are a 0 e.before.streams e.taken e.before.are);
   alone = e.alone;
   is = stop;
-  told = e.told;
+  outcome_is = e.outcome_is;
 })
 ended a files names o e (inr one) = inr (refused_lead a files names o e one)
 
 pub ends_lead : (a : JobArgumentsView) (files : Files) (names : List (List ℕ)) (o : Outcome) → EndsAt a files names o → FilesLead a files names o
 ends_lead a files names o e = ended a files names o e e.is
 
--- 6. What calls answer
+-- 6. The answers of calls
 
 pub named_answer : {E : Type 0} (a : JobArgumentsView) (files : Files) (name : List ℕ) (input : Device) (r : ReadingView)
     (x : Result (Result TakenView Outcome) E) → IsOpened files name →
@@ -460,12 +461,12 @@ one_named a files names k d x taken next t within before is same pushed =
 pub ends_named : (a : JobArgumentsView) (files : Files) (names : List (Bor (List ℕ))) (k : ℕ) (d : Bor (List ℕ)) (x : Result TakenView Outcome)
     (taken : List TakenView) (alone o : Outcome) → k < length names →
     AreTaken a files (take k (map (λ s. s.now) names)) taken → IsNamedInput a files (get_or names k d).now x → x ≡ Err alone →
-    o ≡ told_under k (get_or names k d).now alone →
+    o ≡ headed_outcome k (get_or names k d).now alone →
     EndsAt a files (map (λ s. s.now) names) o
-ends_named a files names k d x taken alone o within before is same told =
+ends_named a files names k d x taken alone o within before is same outcome_is =
     let name = (get_or names k d).now in
     ends_at a files (map (λ s. s.now) names) k name taken alone o (mapped_within names k within) (mapped_at names k d name within) before
-    (subst (λ (y : Result TakenView Outcome). IsNamedInput a files name y) same is) told
+    (subst (λ (y : Result TakenView Outcome). IsNamedInput a files name y) same is) outcome_is
 
 few_mapped : (taken : List TakenView) → All (λ t. length t.input.streams ≤ 32) taken → All (λ m. length m.streams ≤ 32) (map (λ t. t.input) taken)
 few_mapped [] all = All-nil (λ m. length m.streams ≤ 32)
@@ -492,10 +493,10 @@ pub refused_is_taken : {E : Type 0} (a : JobArgumentsView) (names : List (List �
     (r : Result Outcome E) → ms ≡ map (λ t. t.input) taken →
     Answers (all_joined ms) (Err error) → IfOk r (ReportsWhy error) → IfOk r (TakenLead a names taken)
 unfolding Answers Refuses
-refused_is_taken a names taken ms error (Err e) same is told = tt
-refused_is_taken a names taken ms Memory (Ok o) same is told = absurd told
-refused_is_taken a names taken ms (Refused refusal) (Ok o) same is told =
-    subst (λ (x : Result JoinedInputsView JobRefusal). JoinedLeads a names taken x o) (sym (ap all_joined (sym same) ∙ is)) told
+refused_is_taken a names taken ms error (Err e) same is outcome_is = tt
+refused_is_taken a names taken ms Memory (Ok o) same is outcome_is = absurd outcome_is
+refused_is_taken a names taken ms (Refused refusal) (Ok o) same is outcome_is =
+    subst (λ (x : Result JoinedInputsView JobRefusal). JoinedLeads a names taken x o) (sym (ap all_joined (sym same) ∙ is)) outcome_is
 
 pub taken_of : (a : JobArgumentsView) (files : Files) (names : List (List ℕ)) (x : Result (List TakenView) Outcome) (taken : List TakenView) → x ≡ Ok taken →
     AreNamedInputs a files names x → AreTaken a files names taken

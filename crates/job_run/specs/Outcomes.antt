@@ -38,14 +38,15 @@ use Rattle.job_lines.specs.declared.reporting.Reporting.{Reporting}
 use Rattle.job_run.specs.declared.job_arguments.Subcommand.{Subcommand}
 use Rattle.job_run.specs.declared.job_arguments.Subcommand.TheVariants.{Whole, Describe, Units, Why}
 use Rattle.job_run.specs.JobArguments.{JobArgumentsView}
-use Rattle.job_lines.specs.FieldLines.{field_lines, told_fields}
+use Rattle.job_lines.specs.FieldLines.{field_lines, reported_fields}
 use Rattle.es_records.specs.Records.{records_of, written}
 use Rattle.job_lines.specs.RefusalLine.{refusal_line}
 use Rattle.job_lines.specs.SlipLines.{packets_line, slip_lines}
-use Rattle.job_run.specs.RecodingLines.{told_recodings}
+use Rattle.job_run.specs.JumpLines.{any_jump, jump_lines}
+use Rattle.job_run.specs.RecodingLines.{recodings_text}
 use Rattle.job_run.specs.Streams.{PacketNotesView, findings_for, notes_for}
-use Rattle.job_lines.specs.TableLines.{other_table_lines, told_tables}
-use Rattle.job_lines.specs.WarningLines.{told_warnings, warning_lines}
+use Rattle.job_lines.specs.TableLines.{other_table_lines, reported_tables}
+use Rattle.job_lines.specs.WarningLines.{reported_warnings, warning_lines}
 
 -- 1. The output
 
@@ -92,15 +93,15 @@ pub record IsFoundAfter (w : JobOptionsView) (m : JobInputView) (lines output : 
   pub is : output ≡ lines ++ found_line found
 
 -- nothing is tried where there are none
-abbrev pub IsTold : Bool → JobOptionsView → JobInputView → List ℕ → List ℕ → Type 0
-IsTold true w m lines output = output ≡ lines
-IsTold false w m lines output = IsFoundAfter w m lines output
+abbrev pub IsReasonOutput : Bool → JobOptionsView → JobInputView → List ℕ → List ℕ → Type 0
+IsReasonOutput true w m lines output = output ≡ lines
+IsReasonOutput false w m lines output = IsFoundAfter w m lines output
 
 -- a line for each reason why no plan serves the description
 pub record GivesReasons (w : JobOptionsView) (m : JobInputView) (output : List ℕ) : Type 0 where
   pub description : Described
   pub unplanned : IsUnplanned w m description
-  pub told : IsTold (length (reason_lines description) == 0) w m (reason_lines description) output
+  pub reports : IsReasonOutput (length (reason_lines description) == 0) w m (reason_lines description) output
 
 -- the output of a subcommand
 abbrev pub Gives : Subcommand → JobOptionsView → List FindingView → JobInputView → List ℕ → Type 0
@@ -119,8 +120,8 @@ Withholds Why w m error = IsWhyNoReasons w.rate w m error
 -- 2. The outcome for a stream
 
 -- whether something is lost: there are slips, fields or tables that a viewer misses, or a warning reports a loss
-abbrev pub is_less : List Slip → List FieldLeftOut → List OtherTable → List Warning → Bool
-is_less slips fields tables warnings =
+abbrev pub is_lossy : List Slip → List FieldLeftOut → List OtherTable → List Warning → Bool
+is_lossy slips fields tables warnings =
     not (length slips == 0) || list_any (λ f. is_field_loss f.field) fields || list_any (λ t. is_loss t.kind) tables || are_damaged warnings
 
 -- a line for each slip, for each field of a PID that is not written again, for each PID with tables that are not carried, and
@@ -133,15 +134,17 @@ abbrev pub unless_quiet : Bool → List ℕ → List ℕ
 unless_quiet quiet lines = if quiet then [] else lines
 
 -- the lines about a stream from which a job takes this input
-abbrev pub told_lines : Reporting → PacketNotesView → List FindingView → JobInputView → List ℕ
-told_lines r notes findings m =
+abbrev pub reported_lines : Reporting → PacketNotesView → List FindingView → JobInputView → List ℕ
+reported_lines r notes findings m =
     unless_quiet r.quiet
-    (loss_lines notes.slips (told_fields r.all m notes.fields) (told_tables r.all m (other_tables findings)) (told_warnings r m.warnings)
-    ++ told_recodings r.all notes.recodings)
+    ((loss_lines notes.slips (reported_fields r.all m notes.fields) (reported_tables r.all m (other_tables findings)) (reported_warnings r m.warnings)
+    ++ recodings_text r.all notes.recodings) ++ jump_lines m notes.jumps)
 
-abbrev pub is_told_less : Reporting → PacketNotesView → List FindingView → JobInputView → Bool
-is_told_less r notes findings m =
-    is_less notes.slips (told_fields r.all m notes.fields) (told_tables r.all m (other_tables findings)) (told_warnings r m.warnings)
+-- whether something is lost, or a clock of the job's programs jumps ahead
+abbrev pub reports_loss : Reporting → PacketNotesView → List FindingView → JobInputView → Bool
+reports_loss r notes findings m =
+    any_jump m notes.jumps
+    || is_lossy notes.slips (reported_fields r.all m notes.fields) (reported_tables r.all m (other_tables findings)) (reported_warnings r m.warnings)
 
 -- the status 1: of reasons where there is one, else where something is lost
 abbrev pub status_of : Subcommand → List ℕ → Bool → ℕ
@@ -153,8 +156,8 @@ status_of Why output less = if length output == 0 then 0 else 1
 -- the output, the lines for what is left out, and the status
 pub record IsGiven (arguments : JobArgumentsView) (notes : PacketNotesView) (findings : List FindingView) (m : JobInputView) (o : Outcome) : Type 0 where
   pub gives : Gives arguments.subcommand arguments.options findings m o.output
-  pub report_is : o.report ≡ told_lines arguments.reporting notes findings m
-  pub status_is : o.status ≡ status_of arguments.subcommand o.output (is_told_less arguments.reporting notes findings m)
+  pub report_is : o.report ≡ reported_lines arguments.reporting notes findings m
+  pub status_is : o.status ≡ status_of arguments.subcommand o.output (reports_loss arguments.reporting notes findings m)
 
 -- nothing is written but the line of the refusal, and the status is 1
 pub record IsRefused (arguments : JobArgumentsView) (m : JobInputView) (o : Outcome) : Type 0 where

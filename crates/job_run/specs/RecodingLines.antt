@@ -11,5 +11,5 @@ abbrev pub recoding_lines : List Recoding → List ℕ
 recoding_lines recodings = flat_map recoding_line recodings
 
 -- nothing is lost by a change: it is reported where all lines are
-unfoldable pub told_recodings : Bool → List Recoding → List ℕ
-told_recodings all recodings = if all then recoding_lines recodings else []
+unfoldable pub recodings_text : Bool → List Recoding → List ℕ
+recodings_text all recodings = if all then recoding_lines recodings else []

@@ -26,7 +26,7 @@ use Rattle.es_records.specs.Records.{written}
 use Rattle.job_run.specs.declared.job_arguments.Subcommand.{Subcommand}
 use Rattle.job_run.specs.declared.job_arguments.Subcommand.TheVariants.{Whole, Describe, Units, Why}
 use Rattle.job_run.specs.JobArguments.{JobArgumentsView}
-use Rattle.job_run.specs.Outcomes.{GivesReasons, GivesUnits, Withholds, is_told_less, status_of, told_lines, unless_quiet}
+use Rattle.job_run.specs.Outcomes.{GivesReasons, GivesUnits, Withholds, reports_loss, status_of, reported_lines, unless_quiet}
 use Rattle.job_run.specs.Streams.{findings_for, notes_for}
 
 -- a stream: the name of its file, and its bytes
@@ -69,7 +69,7 @@ stream_inputs options number (s ∷ streams) = with_first number s.name (stream_
 
 -- the lines about one stream, from which a job takes this input
 abbrev pub stream_lines : JobArgumentsView → JobInputView → List ℕ → List ℕ
-stream_lines a m bytes = told_lines a.reporting (notes_for a.options bytes) (findings_for a.options bytes) m
+stream_lines a m bytes = reported_lines a.reporting (notes_for a.options bytes) (findings_for a.options bytes) m
 
 -- under the number and the name of its input, if there is anything
 unfoldable pub under : ℕ → List ℕ → List ℕ → List ℕ
@@ -85,11 +85,11 @@ abbrev pub all_lines : JobArgumentsView → List NamedStream → List JobInputVi
 all_lines a streams ms j = streams_lines a 0 streams ms ++ unless_quiet a.reporting.quiet (note_lines (names_of streams) j.notes)
 
 -- something of a stream is lost
-abbrev pub is_stream_less : JobArgumentsView → JobInputView → List ℕ → Bool
-is_stream_less a m bytes = is_told_less a.reporting (notes_for a.options bytes) (findings_for a.options bytes) m
+abbrev pub is_stream_lossy : JobArgumentsView → JobInputView → List ℕ → Bool
+is_stream_lossy a m bytes = reports_loss a.reporting (notes_for a.options bytes) (findings_for a.options bytes) m
 
 unfoldable pub are_streams_less : JobArgumentsView → List NamedStream → List JobInputView → Bool
-are_streams_less a (s ∷ streams) (m ∷ ms) = is_stream_less a m s.bytes || are_streams_less a streams ms
+are_streams_less a (s ∷ streams) (m ∷ ms) = is_stream_lossy a m s.bytes || are_streams_less a streams ms
 are_streams_less a streams ms = false
 
 abbrev pub is_any_less : JobArgumentsView → List NamedStream → List JobInputView → JoinedInputsView → Bool

@@ -14,8 +14,8 @@ use Rattle.job_programs.specs.declared.refusal.JobRefusal.{JobRefusal}
 use Rattle.job_lines.specs.InputLines.{are_lost, input_line, name_of, note_lines}
 use Rattle.job_lines.specs.RefusalLine.{refusal_line}
 use Rattle.job_run.specs.JobArguments.{JobArgumentsView}
-use Rattle.job_run.specs.Outcomes.{IsWritten, is_told_less, status_of, told_lines, unless_quiet}
-use Rattle.job_run.specs.SeveralInputs.{GivesIn, IsRefusedIn, NamedStream, StreamsLead, all_joined, is_stream_less, stream_input, stream_inputs, stream_lines}
+use Rattle.job_run.specs.Outcomes.{IsWritten, reports_loss, status_of, reported_lines, unless_quiet}
+use Rattle.job_run.specs.SeveralInputs.{GivesIn, IsRefusedIn, NamedStream, StreamsLead, all_joined, is_stream_lossy, stream_input, stream_inputs, stream_lines}
 use Rattle.job_run.specs.SeveralInputs.{under}
 use Rattle.job_run.specs.Streams.{PacketNotesView, findings_for}
 
@@ -31,8 +31,8 @@ pub record TakenView : Type 0 where
 pub record IsTakenOf (a : JobArgumentsView) (notes : PacketNotesView) (count : ℕ) (findings : List FindingView) (t : TakenView) : Type 0 where
   pub input_is : job_input a.options count findings ≡ Ok t.input
   pub streams : AreStreams a.options.make_dts findings t.input
-  pub lines_are : t.lines ≡ told_lines a.reporting notes findings t.input
-  pub less_is : t.less ≡ is_told_less a.reporting notes findings t.input
+  pub lines_are : t.lines ≡ reported_lines a.reporting notes findings t.input
+  pub less_is : t.less ≡ reports_loss a.reporting notes findings t.input
 
 -- or they are refused
 pub record IsRefusalOf (a : JobArgumentsView) (count : ℕ) (findings : List FindingView) (o : Outcome) : Type 0 where
@@ -49,7 +49,7 @@ pub record IsTaken (a : JobArgumentsView) (bytes : List ℕ) (t : TakenView) : T
   pub input_is : stream_input a.options bytes ≡ Ok t.input
   pub streams : AreStreams a.options.make_dts (findings_for a.options bytes) t.input
   pub lines_are : t.lines ≡ stream_lines a t.input bytes
-  pub less_is : t.less ≡ is_stream_less a t.input bytes
+  pub less_is : t.less ≡ is_stream_lossy a t.input bytes
 
 -- or the line that says why a job takes nothing of it
 pub record IsUntaken (a : JobArgumentsView) (bytes : List ℕ) (o : Outcome) : Type 0 where
@@ -103,8 +103,8 @@ pub record AreTaken (a : JobArgumentsView) (files : Files) (names : List (List �
   pub are : AllZip (IsTakenFrom a) streams taken
 
 -- an outcome under the number and the name of its input
-abbrev pub told_under : ℕ → List ℕ → Outcome → Outcome
-told_under number name o = record { output = o.output; report = input_line number name ++ o.report; status = o.status }
+abbrev pub headed_outcome : ℕ → List ℕ → Outcome → Outcome
+headed_outcome number name o = record { output = o.output; report = input_line number name ++ o.report; status = o.status }
 
 -- the first file from which a job takes nothing ends the run
 pub record EndsAt (a : JobArgumentsView) (files : Files) (names : List (List ℕ)) (o : Outcome) : Type 0 where
@@ -115,7 +115,7 @@ pub record EndsAt (a : JobArgumentsView) (files : Files) (names : List (List ℕ
   pub before : AreTaken a files (take number names) taken
   pub alone : Outcome
   pub is : IsNamedInput a files name (Err alone)
-  pub told : o ≡ told_under number name alone
+  pub outcome_is : o ≡ headed_outcome number name alone
 
 abbrev pub AreNamedInputs : JobArgumentsView → Files → List (List ℕ) → Result (List TakenView) Outcome → Type 0
 AreNamedInputs a files names (Ok taken) = AreTaken a files names taken
@@ -151,7 +151,7 @@ pub record IsStopped (a : JobArgumentsView) (files : Files) (names : List (List 
   pub taken : is_ok (stream_inputs a.options 0 streams) ≡ true
   pub alone : Outcome
   pub is : IsStop files name alone
-  pub told : o ≡ told_under number name alone
+  pub outcome_is : o ≡ headed_outcome number name alone
 
 -- the streams lead to the outcome; if a job takes something from each of them, they are the streams of all files
 pub record IsLedTo (a : JobArgumentsView) (files : Files) (names : List (List ℕ)) (o : Outcome) : Type 0 where

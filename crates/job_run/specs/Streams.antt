@@ -7,8 +7,10 @@ use Rattle.pid_findings.specs.Views.{FindingView}
 use Rattle.data_times.specs.DataTimes.{TimesView, is_timed, timed, times_of}
 use Rattle.data_times.specs.References.{LogView, logged, no_packet, references_in}
 use Rattle.packet_pcr.specs.declared.pcr_reading.FoundPcr.{FoundPcr}
+use Rattle.joined_parts.specs.JumpsAhead.{jumps_ahead}
 use Rattle.joined_parts.specs.Recodings.{recodings_in}
 use Rattle.joined_parts.specs.Recordings.{one_recording, one_references}
+use Rattle.joined_parts.specs.declared.cuts.Cut.{Cut}
 use Rattle.joined_parts.specs.declared.recodings.Recoding.{Recoding}
 use Rattle.demux.specs.Stream.{StreamState, start, pushed, finished}
 use Rattle.packet_sync.specs.FieldsLeftOut.{fields_left_out}
@@ -49,18 +51,24 @@ findings_by joined references findings = timed (references_by joined references 
 abbrev pub findings_for : JobOptionsView → List ℕ → List FindingView
 findings_for options bytes = findings_by options.joined (references_in (carried bytes)) (asked_findings options bytes)
 
--- notes on the packets of a stream: its slips, the fields that are not written again, and the changes of codings in a joined recording
+-- notes on the packets of a stream: its slips, the fields that are not written again, the changes of codings in a joined recording, and the jumps
+-- ahead of its clocks in any other stream
 pub record PacketNotesView : Type 0 where
   pub slips : List Slip
   pub fields : List FieldLeftOut
   pub recodings : List Recoding
+  pub jumps : List Cut
 
 abbrev pub notes_of : List ℕ → PacketNotesView
-notes_of bytes = record { slips = slips bytes; fields = fields_left_out bytes; recodings = [] }
+notes_of bytes = record { slips = slips bytes; fields = fields_left_out bytes; recodings = []; jumps = [] }
 
 unfoldable pub recodings_by : Bool → List FindingView → List Recoding
 recodings_by false findings = []
 recodings_by true findings = recodings_in findings
+
+unfoldable pub jumps_by : Bool → List FoundPcr → List FindingView → List Cut
+jumps_by false references findings = jumps_ahead references findings
+jumps_by true references findings = []
 
 -- a field of PES headers that is written again: of teletext without stamps each PES packet is a unit, with its flags and its long header
 unfoldable pub is_of_unit : Field → Bool
@@ -73,12 +81,14 @@ abbrev pub is_unwritten : TimesView → FieldLeftOut → Bool
 is_unwritten t f = not (is_of_unit f.field && is_timed t f.pid)
 
 -- the notes on the packets of a stream from which a job by these options is made
-abbrev pub timed_notes : TimesView → List Recoding → PacketNotesView → PacketNotesView
-timed_notes t recodings notes = record { slips = notes.slips; fields = filter (is_unwritten t) notes.fields; recodings = recodings }
+abbrev pub timed_notes : TimesView → List Recoding → List Cut → PacketNotesView → PacketNotesView
+timed_notes t recodings jumps notes =
+    record { slips = notes.slips; fields = filter (is_unwritten t) notes.fields; recodings = recodings; jumps = jumps }
 
 abbrev pub notes_by : Bool → List FoundPcr → List FindingView → PacketNotesView → PacketNotesView
 notes_by joined references findings notes =
-    timed_notes (times_of (references_by joined references findings) (parts_by joined references findings)) (recodings_by joined findings) notes
+    timed_notes (times_of (references_by joined references findings) (parts_by joined references findings)) (recodings_by joined findings)
+    (jumps_by joined references findings) notes
 
 abbrev pub notes_for : JobOptionsView → List ℕ → PacketNotesView
 notes_for options bytes = notes_by options.joined (references_in (carried bytes)) (asked_findings options bytes) (notes_of bytes)

@@ -5,7 +5,7 @@ ghost use Rattle.job_run.specs.Streams as spec;
 
 use data_times::ReferenceLog;
 use demux::Demux;
-use joined_parts::Recoding;
+use joined_parts::{Cut, Recoding};
 use packet_pcr::FoundPcr;
 use packet_sync::{FieldLeftOut, Slip, StreamNotes};
 use std::alloc::{AllocError, Global};
@@ -22,6 +22,8 @@ pub(crate) struct PacketNotes {
     pub fields: Vec<FieldLeftOut>,
     /// The changes of codings, if it is a joined recording.
     pub recodings: Vec<Recoding>,
+    /// The jumps ahead of its clocks, if it is no joined recording.
+    pub jumps: Vec<Cut>,
 }
 
 // A contract sees its parts as lists.
@@ -34,6 +36,7 @@ impl Model for PacketNotes {
       slips = n.slips.items;
       fields = n.fields.items;
       recodings = n.recodings.items;
+      jumps = n.jumps.items;
     } };
 }
 
@@ -106,7 +109,8 @@ impl CarriedPackets {
     fn take_decided(&mut self, bytes: &[u8], ended: bool) -> Result<usize, AllocError>
         ensures carried { (stream : List ℕ) →
             spec.IsCarriedTo stream ended (record { held = bytes.now; packets = self.old }) →
-            IfOk result (λ at. spec.IsCarriedTo stream ended (record { held = drop at bytes.now; packets = self.new })) }
+            IfOk result (λ at. spec.IsCarriedTo stream ended
+            (record { held = drop at bytes.now; packets = self.new })) }
         ensures within { IfOk result (λ at. at ≤ length bytes.now) }
         ensures last { IfOk result (λ at. ended ≡ true → length bytes.now ≤ at) }
     {
@@ -202,10 +206,13 @@ impl CarriedStream {
         } = packets;
         end_stream(&mut demux)?;
         let StreamNotes { slips, fields, .. } = notes;
+        let recodings = Vec::new(alloc);
+        let jumps = Vec::new(alloc);
         let notes = PacketNotes {
             slips,
             fields,
-            recodings: Vec::new(alloc),
+            recodings,
+            jumps,
         };
         let references = log.into_references();
         Ok(ReadStream {

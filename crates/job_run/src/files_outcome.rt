@@ -100,7 +100,7 @@ fn join_all(alloc: Global, inputs: Vec<JobInput>) -> Result<JoinedInputs, JobErr
 }
 
 // Appends a line for each note, unless nothing is to be reported.
-fn write_told_notes(
+fn write_reported_notes(
     quiet: bool,
     names: &[&str],
     notes: &[InputNote],
@@ -135,7 +135,7 @@ fn joined_outcome(
     ensures withheld { IfErr result (Withholds arguments.now.subcommand arguments.now.options joined.input) }
 {
     let mut report = lines;
-    write_told_notes(arguments.reporting.quiet, names, &joined.notes, &mut report)?;
+    write_reported_notes(arguments.reporting.quiet, names, &joined.notes, &mut report)?;
     let less = less || are_lost(&joined.notes);
     let output = output_for(alloc, arguments, joined.input)?;
     let status = status_of(arguments.subcommand, &output, less);

@@ -5,13 +5,14 @@
 //! `reason_output` says why there is no plan (`specs/Outcomes`). `written` reads a stream, makes its outcome and writes
 //! it to the program's writers. `stream_files` takes streams from named files (`specs/StreamFiles`), and
 //! `files_outcome` makes one job of all of them (`specs/SeveralInputs`). `job_lines` writes the lines, and
-//! `recoding_lines` the lines of a joined recording; the status is the same whichever lines are reported
-//! (`status_stays`).
+//! `recoding_lines` and `jump_lines` the lines about codings and clocks; the status is the same whichever lines are
+//! reported (`status_stays`).
 #![tactic(auto)]
 
 mod carried_stream;
 mod files_outcome;
 mod job_arguments;
+mod jump_lines;
 mod laws;
 mod outcome;
 mod reading;

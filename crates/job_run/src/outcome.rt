@@ -13,7 +13,8 @@ ghost use Rattle.stream_jobs.specs.WhyNoJob.{IsWhyNoDescription, IsWhyNoJob};
 ghost use Rattle.job_programs.specs.declared.refusal.JobError.TheVariants.{Memory};
 ghost use Rattle.job_inputs.specs.JoinedInputs.{AreStreamsIn, JoinedInputsView};
 ghost use Rattle.job_run.specs.Outcomes as spec;
-ghost use Rattle.job_run.specs.RecodingLines.{told_recodings};
+ghost use Rattle.job_run.specs.JumpLines.{jump_lines};
+ghost use Rattle.job_run.specs.RecodingLines.{recodings_text};
 ghost use Rattle.job_run.specs.SeveralInputs.{GivesIn, GivesJobIn};
 ghost use Rattle.job_run.specs.Streams.{IsRead};
 ghost use Rattle.devices.specs.Outcomes.{reported};
@@ -22,14 +23,16 @@ ghost use Rattle.job_inputs.specs.JobInput.{AreStreams};
 
 use crate::carried_stream::{PacketNotes, ReadStream};
 use crate::job_arguments::{JobArguments, Subcommand};
+use crate::jump_lines::{any_jump, push_jumps};
 use crate::reading::StreamReading;
 use crate::reason_output::reason_output;
-use crate::recoding_lines::tell_recodings;
+use crate::recoding_lines::push_recodings;
 use crate::timed_text::job_findings;
 use job_inputs::{JobInput, job_input, mark_as_asked};
 use job_lines::{
-    Reporting, are_missed, are_needed, is_damaged, told_fields, told_tables, told_warnings,
-    write_fields, write_other_tables, write_packets, write_refusal, write_slips, write_warnings,
+    Reporting, are_missed, are_needed, is_damaged, reported_fields, reported_tables,
+    reported_warnings, write_fields, write_other_tables, write_packets, write_refusal, write_slips,
+    write_warnings,
 };
 use job_programs::{JobError, JobOptions, Warning};
 use other_tables::{OtherTable, other_tables};
@@ -169,49 +172,56 @@ fn loss_report(
     slips: &[Slip],
     fields: &[FieldLeftOut],
     tables: &[OtherTable],
-    told: &[Warning],
+    warnings: &[Warning],
 ) -> Result<String, AllocError>
     ensures { IfOk result (λ lines. string_bytes lines
-        ≡ spec.loss_lines slips.now fields.now tables.now told.now) }
+        ≡ spec.loss_lines slips.now fields.now tables.now warnings.now) }
 {
     let mut lines = String::new(alloc);
     write_slips(slips, &mut lines)?;
     write_fields(fields, &mut lines)?;
     write_other_tables(tables, &mut lines)?;
-    write_warnings(told, &mut lines)?;
+    write_warnings(warnings, &mut lines)?;
     Ok(lines)
 }
 
-// Returns the lines about losses, then the lines about changes of codings; no line if `quiet`.
-fn told_report(
+// Returns the lines about losses, about changes of codings, and about clocks that jump ahead; no line if `quiet`.
+fn report_as_asked(
     alloc: Global,
     reporting: Reporting,
+    input: &JobInput,
     notes: &PacketNotes,
     fields: &[FieldLeftOut],
     tables: &[OtherTable],
-    told: &[Warning],
+    warnings: &[Warning],
 ) -> Result<String, AllocError>
     ensures { IfOk result (λ lines. string_bytes lines
-        ≡ spec.unless_quiet reporting.quiet (spec.loss_lines notes.now.slips fields.now tables.now told.now
-        ++ told_recodings reporting.all notes.now.recodings)) }
+        ≡ spec.unless_quiet reporting.quiet ((spec.loss_lines notes.now.slips fields.now tables.now warnings.now
+        ++ recodings_text reporting.all notes.now.recodings) ++ jump_lines input.now notes.now.jumps)) }
 {
     if reporting.quiet {
         return Ok(String::new(alloc));
     }
-    let mut lines = loss_report(alloc, &notes.slips, fields, tables, told)?;
-    tell_recodings(reporting.all, &notes.recodings, &mut lines)?;
+    let mut lines = loss_report(alloc, &notes.slips, fields, tables, warnings)?;
+    push_recodings(reporting.all, &notes.recodings, &mut lines)?;
+    push_jumps(input, &notes.jumps, &mut lines)?;
     Ok(lines)
 }
 
 // Returns whether any of these reports a loss.
-fn is_less(slips: &[Slip], fields: &[FieldLeftOut], tables: &[OtherTable], told: &[Warning]) -> bool
-    ensures { result ≡ spec.is_less slips.now fields.now tables.now told.now }
+fn is_lossy(
+    slips: &[Slip],
+    fields: &[FieldLeftOut],
+    tables: &[OtherTable],
+    warnings: &[Warning],
+) -> bool
+    ensures { result ≡ spec.is_lossy slips.now fields.now tables.now warnings.now }
 {
-    !slips.is_empty() || are_needed(fields) || are_missed(tables) || is_damaged(told)
+    !slips.is_empty() || are_needed(fields) || are_missed(tables) || is_damaged(warnings)
 }
 
 // Returns whether all three hold.
-fn are_all(text: bool, plan: bool, units: bool) -> bool
+fn are_all_empty(text: bool, plan: bool, units: bool) -> bool
     ensures { result ≡ (text && (plan && units)) }
 {
     text && (plan && units)
@@ -225,7 +235,7 @@ fn is_empty(output: &JobText) -> bool
     let text = output.text.as_str();
     let plan = output.plan.as_str();
     let units = output.units.as_slice();
-    are_all(text.is_empty(), plan.is_empty(), units.is_empty())
+    are_all_empty(text.is_empty(), plan.is_empty(), units.is_empty())
 }
 
 // Returns the status for an output; `less`: something is lost.
@@ -240,7 +250,7 @@ pub(crate) fn status_of(subcommand: Subcommand, output: &JobText, less: bool) ->
 }
 
 // Returns the lines about an input with its other tables, and whether any of them reports a loss.
-pub(crate) fn told_of(
+pub(crate) fn reported_of(
     alloc: Global,
     reporting: Reporting,
     notes: &PacketNotes,
@@ -248,16 +258,17 @@ pub(crate) fn told_of(
     input: &JobInput,
 ) -> Result<(String, bool), AllocError>
     ensures lines { (findings : List FindingView) → others.now ≡ found.other_tables findings →
-        IfOk result (λ t. string_bytes t.0 ≡ spec.told_lines reporting notes.now findings input.now) }
+        IfOk result (λ t. string_bytes t.0 ≡ spec.reported_lines reporting notes.now findings input.now) }
     ensures less { (findings : List FindingView) → others.now ≡ found.other_tables findings →
-        IfOk result (λ t. t.1 ≡ spec.is_told_less reporting notes.now findings input.now) }
+        IfOk result (λ t. t.1 ≡ spec.reports_loss reporting notes.now findings input.now) }
 {
-    let told = told_warnings(alloc, reporting, &input.warnings)?;
-    let fields = told_fields(alloc, reporting.all, input, &notes.fields)?;
-    let tables = told_tables(alloc, reporting.all, input, others)?;
-    let lines = told_report(alloc, reporting, notes, &fields, &tables, &told)?;
-    let less = is_less(&notes.slips, &fields, &tables, &told);
-    Ok((lines, less))
+    let warnings = reported_warnings(alloc, reporting, &input.warnings)?;
+    let fields = reported_fields(alloc, reporting.all, input, &notes.fields)?;
+    let tables = reported_tables(alloc, reporting.all, input, others)?;
+    let lines = report_as_asked(alloc, reporting, input, notes, &fields, &tables, &warnings)?;
+    let less = is_lossy(&notes.slips, &fields, &tables, &warnings);
+    let jumped = any_jump(input, &notes.jumps);
+    Ok((lines, jumped || less))
 }
 
 // Returns the outcome for a stream that is not refused.
@@ -271,10 +282,11 @@ fn job_outcome(
 ) -> Result<JobOutcome, JobError>
     requires { length input.streams ≤ 32 }
     ensures given { (findings : List FindingView) → AreStreams arguments.now.options.make_dts findings input →
-        others.now ≡ found.other_tables findings → IfOk result (λ a. spec.IsGiven arguments.now notes.now findings input a) }
+        others.now ≡ found.other_tables findings →
+        IfOk result (λ a. spec.IsGiven arguments.now notes.now findings input a) }
     ensures withheld { IfErr result (spec.Withholds arguments.now.subcommand arguments.now.options input) }
 {
-    let (report, less) = told_of(alloc, arguments.reporting, notes, others, &input)?;
+    let (report, less) = reported_of(alloc, arguments.reporting, notes, others, &input)?;
     let output = output_for(alloc, arguments, input)?;
     let status = status_of(arguments.subcommand, &output, less);
     Ok(JobOutcome {

@@ -63,7 +63,8 @@ impl StreamReading {
 
     // Takes the next bytes.
     fn take(&mut self, piece: &[u8]) -> Result<(), AllocError>
-        ensures { (bytes : List ℕ) → spec.IsRead bytes self.old → OnOk result (spec.IsRead (bytes ++ piece.now) self.new) }
+        ensures { (bytes : List ℕ) → spec.IsRead bytes self.old →
+            OnOk result (spec.IsRead (bytes ++ piece.now) self.new) }
     {
         lengthen_front(&mut self.front, piece)?;
         if self.other {

@@ -39,14 +39,14 @@ fn write_rate(found: Option<u64>, lines: &mut String) -> Result<(), AllocError>
 }
 
 // Tries rates and appends a line with the result, if there are lines with reasons.
-#[tactic(auto, using(crate::proofs::JobOutcomes::told_nothing, crate::proofs::JobOutcomes::told_found))]
+#[tactic(auto, using(crate::proofs::JobOutcomes::reported_nothing, crate::proofs::JobOutcomes::reported_found))]
 fn write_found(
     alloc: Global,
     options: &JobOptions<'_>,
     input: &JobInput,
     lines: &mut String,
 ) -> Result<(), AllocError>
-    ensures { OnOk result (spec.IsTold (length (string_bytes lines.old) == 0) options.now input.now
+    ensures { OnOk result (spec.IsReasonOutput (length (string_bytes lines.old) == 0) options.now input.now
         (string_bytes lines.old) (string_bytes lines.new)) }
 {
     if lines.as_str().is_empty() {

@@ -30,13 +30,13 @@ fn write_recodings(recodings: &[Recoding], text: &mut String) -> Result<(), Allo
 }
 
 /// Appends a line for each change, if all lines are reported.
-#[tactic(auto, unfolding(crate::specs::RecodingLines::told_recodings))]
-pub(crate) fn tell_recodings(
+#[tactic(auto, unfolding(crate::specs::RecodingLines::recodings_text))]
+pub(crate) fn push_recodings(
     all: bool,
     recodings: &[Recoding],
     text: &mut String,
 ) -> Result<(), AllocError>
-    ensures { OnOk result (string_bytes text.new ≡ string_bytes text.old ++ spec.told_recodings all recodings.now) }
+    ensures { OnOk result (string_bytes text.new ≡ string_bytes text.old ++ spec.recodings_text all recodings.now) }
 {
     if !all {
         return Ok(());

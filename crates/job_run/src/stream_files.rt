@@ -6,13 +6,13 @@ ghost use Rattle.pid_findings.specs.Views.{FindingView};
 ghost use Rattle.devices.specs.Files.{files_of};
 ghost use Rattle.other_tables.specs.OtherTables as tables;
 ghost use Rattle.packet_sync.specs.OtherPackets.{other_packets};
-ghost use Rattle.job_run.specs.Outcomes.{is_told_less, told_lines};
+ghost use Rattle.job_run.specs.Outcomes.{reports_loss, reported_lines};
 ghost use Rattle.job_run.specs.StreamFiles as spec;
 ghost use Rattle.job_run.specs.Streams.{IsRead};
 
 use crate::carried_stream::{PacketNotes, ReadStream};
 use crate::job_arguments::JobArguments;
-use crate::outcome::{JobOutcome, only_text, packets_outcome, refused_outcome, told_of};
+use crate::outcome::{JobOutcome, only_text, packets_outcome, refused_outcome, reported_of};
 use crate::reading::{StreamReading, read_stream};
 use crate::timed_text::job_findings;
 use devices::{Halt, NamedFiles};
@@ -51,11 +51,11 @@ fn taken(
 ) -> Result<TakenStream, AllocError>
     ensures input { IfOk result (λ t. t.input ≡ input) }
     ensures lines { (findings : List FindingView) → others.now ≡ tables.other_tables findings →
-        IfOk result (λ t. t.lines ≡ told_lines arguments.now.reporting notes.now findings input) }
+        IfOk result (λ t. t.lines ≡ reported_lines arguments.now.reporting notes.now findings input) }
     ensures less { (findings : List FindingView) → others.now ≡ tables.other_tables findings →
-        IfOk result (λ t. t.less ≡ is_told_less arguments.now.reporting notes.now findings input) }
+        IfOk result (λ t. t.less ≡ reports_loss arguments.now.reporting notes.now findings input) }
 {
-    let (lines, less) = told_of(alloc, arguments.reporting, notes, others, &input)?;
+    let (lines, less) = reported_of(alloc, arguments.reporting, notes, others, &input)?;
     Ok(TakenStream { input, lines, less })
 }
 
@@ -170,13 +170,13 @@ fn named_input<F: NamedFiles>(
 }
 
 // Puts the header line of an input above the report of its outcome.
-fn told_under(
+fn headed_outcome(
     alloc: Global,
     number: usize,
     name: &str,
     outcome: JobOutcome,
 ) -> Result<JobOutcome, AllocError>
-    ensures { IfOk result (λ o. o ≡ spec.told_under number name.now outcome) }
+    ensures { IfOk result (λ o. o ≡ spec.headed_outcome number name.now outcome) }
 {
     let mut report = String::new(alloc);
     write_input(number, name, &mut report)?;
@@ -214,7 +214,7 @@ pub(crate) fn named_inputs<F: NamedFiles>(
     for (number, name) in names.iter().enumerate() {
         match named_input(alloc, arguments, files, name)? {
             Ok(stream) => streams.push(stream)?,
-            Err(outcome) => return Ok(Err(told_under(alloc, number, name, outcome)?)),
+            Err(outcome) => return Ok(Err(headed_outcome(alloc, number, name, outcome)?)),
         }
     }
     Ok(Ok(TakenStreams { streams }))

@@ -9,7 +9,7 @@ ghost use Rattle.job_run.specs.Streams as spec;
 use crate::carried_stream::PacketNotes;
 use data_times::{TextTimes, text_times};
 use job_programs::JobOptions;
-use joined_parts::{Recoding, one_recording, recodings_in};
+use joined_parts::{Cut, Recoding, jumps_ahead, one_recording, recodings_in};
 use packet_pcr::FoundPcr;
 use packet_sync::{Field, FieldLeftOut};
 use pid_findings::Finding;
@@ -44,9 +44,14 @@ fn unwritten(times: &TextTimes, fields: Vec<FieldLeftOut>) -> Vec<FieldLeftOut>
     unwritten
 }
 
-// Drops the notes about fields that the job writes, and adds the changes of codings.
-fn timed_notes(times: &TextTimes, recodings: Vec<Recoding>, notes: PacketNotes) -> PacketNotes
-    ensures { result ≡ spec.timed_notes times.now recodings.items notes }
+// Drops the notes about fields that the job writes, and adds the changes of codings and the jumps ahead.
+fn timed_notes(
+    times: &TextTimes,
+    recodings: Vec<Recoding>,
+    jumps: Vec<Cut>,
+    notes: PacketNotes,
+) -> PacketNotes
+    ensures { result ≡ spec.timed_notes times.now recodings.items jumps.items notes }
 {
     let PacketNotes { slips, fields, .. } = notes;
     let fields = unwritten(times, fields);
@@ -54,6 +59,7 @@ fn timed_notes(times: &TextTimes, recodings: Vec<Recoding>, notes: PacketNotes) 
         slips,
         fields,
         recodings,
+        jumps,
     }
 }
 
@@ -71,6 +77,23 @@ fn stream_recodings(
         return Ok(Vec::new(alloc));
     }
     recodings_in(alloc, findings)
+}
+
+// Returns the jumps ahead of a stream's clocks, unless it is taken as a joined recording.
+#[tactic(auto, unfolding(crate::specs::Streams::jumps_by))]
+fn stream_jumps(
+    alloc: Global,
+    options: &JobOptions<'_>,
+    references: &[FoundPcr],
+    findings: &[Finding<'static>],
+) -> Result<Vec<Cut>, AllocError>
+    ensures { IfOk result (λ cs. cs.items
+        ≡ spec.jumps_by options.now.joined references.now (map finding_view findings.now)) }
+{
+    if options.joined {
+        return Ok(Vec::new(alloc));
+    }
+    jumps_ahead(alloc, references, findings)
 }
 
 // Returns the clock references and the findings of a stream. With `joined`, the parts of the recording follow one
@@ -99,16 +122,17 @@ fn timed_stream(
     alloc: Global,
     references: Vec<FoundPcr>,
     recodings: Vec<Recoding>,
+    jumps: Vec<Cut>,
     notes: PacketNotes,
     findings: Vec<Finding<'static>>,
 ) -> Result<(PacketNotes, Vec<Finding<'static>>), AllocError>
     ensures notes { IfOk result (λ timed. timed.0 ≡ spec.timed_notes
-        (text.times_of references.items (map finding_view findings.entry.items)) recodings.items notes) }
+        (text.times_of references.items (map finding_view findings.entry.items)) recodings.items jumps.items notes) }
     ensures findings { IfOk result (λ timed. map finding_view timed.1.items
         ≡ text.timed references.items (map finding_view findings.entry.items)) }
 {
     let times = text_times(alloc, &references, &findings)?;
-    let notes = timed_notes(&times, recodings, notes);
+    let notes = timed_notes(&times, recodings, jumps, notes);
     let timed = times.time_all(alloc, &references, findings)?;
     Ok((notes, timed))
 }
@@ -128,6 +152,7 @@ pub(crate) fn job_findings(
         ≡ spec.findings_by options.now.joined references.items (map finding_view findings.entry.items)) }
 {
     let recodings = stream_recodings(alloc, options, &findings)?;
+    let jumps = stream_jumps(alloc, options, &references, &findings)?;
     let (references, parts) = joined_stream(alloc, options, references, findings)?;
-    timed_stream(alloc, references, recodings, notes, parts)
+    timed_stream(alloc, references, recodings, jumps, notes, parts)
 }

@@ -1,4 +1,4 @@
--- Lines of TOML that go on with a comment are read as the lines without it.
+-- A line of TOML that ends with a comment is read as the line without the comment.
 use Rattle.std.proofs.Common.{◌≡◌, ℕ, suc, ◌-◌, ◌<◌, ◌≤◌, Bool, true, false, ◌==◌, List, [], ◌∷◌, ◌++◌, length, codes, Option, Some, None, option_and_then}
 use Rattle.std.proofs.Common.{refl, sym, ap, ◌∙◌, subst, arith, append_assoc, length-append, append-nil}
 use Rattle.std.proofs.lemmas.Bool.Decides.{nat_tests}
@@ -20,22 +20,22 @@ use Rattle.toml.proofs.Lines.{after}
 use Rattle.toml.proofs.Fill.{roots, body_from, run_sections}
 use Rattle.toml.proofs.Filled.{fill_filled}
 
--- 1. Lines
+-- 1. Lines of TOML
 
--- what follows a value on its line, with the end of the line: the value ends before it, and it is skipped
+-- What may follow a value on its line, with the end of the line: the value ends before it, and the reader skips it.
 pub record IsTail (tail : List ℕ) : Type 0 where
   pub stops : (rest : List ℕ) → EndsValue (tail ++ rest)
   pub ends : (rest : List ℕ) → ends_line (skip_ws (tail ++ rest)) ≡ true
   pub skipped : (rest : List ℕ) → skip_blank (tail ++ rest) ≡ skip_blank rest
 
--- a line says what an expression is
+-- A line says what an expression is, with a tail after a value.
 abbrev pub IsCommented : Bool → Key → Definition → List ℕ → Type 0
 IsCommented started key (key_value d) text =
     (this : List ℕ) × (tail : List ℕ) × (text ≡ dotted_text key ++ (codes " = " ++ (this ++ tail))) × IsValueText false d this × IsTail tail
 IsCommented started key std_table text = text ≡ gap started ++ (header_open false ++ (dotted_text key ++ header_close false))
 IsCommented started key array_table text = text ≡ gap started ++ (header_open true ++ (dotted_text key ++ header_close true))
 
--- lines say what expressions are, which TOML reads
+-- Each line says what its expression is, and TOML reads the expression.
 abbrev pub AreCommented : Bool → List Expression → List ℕ → Type 0
 AreCommented started [] text = text ≡ []
 AreCommented started (e ∷ es) text =
@@ -57,7 +57,7 @@ commented_both started (e ∷ es) fs t u front back =
     let tail = commented_both true es fs rest u more (rw (after_cons started e es) at back) in
     (this, rest ++ u, rw whole (append_assoc this rest u), line, printed, tail)
 
--- 2. What the reader makes of one
+-- 2. What the reader makes of one line
 
 line_start : (key : Key) (rest : List ℕ) → is_key_start (first (dotted_text key ++ rest)) ≡ true
 line_start key rest = simp append_assoc (key_start-path key.0 key.1 rest)
@@ -101,7 +101,7 @@ line_array : (key : Key) (rest : List ℕ) → length key.0 < 80
 unfolding line expression
 line_array key rest room = rw (header_key_text key (93 ∷ 10 ∷ rest) room, ends_at_newline rest)
 
--- the first line of a text, and what is left after it
+-- The reader finds the first line of a text, and leaves the rest.
 abbrev Turn : Key → Definition → List ℕ → List ℕ → Type 0
 Turn key def text rest =
     (s : List ℕ) × (left : List ℕ) × (skip_blank text ≡ s) × (line s ≡ Some ((key, def), left)) × (0 < length s) × (suc (length left) < length s)
@@ -155,7 +155,7 @@ line_turn started key array_table this rest h ok =
       rw same (gap_not_bom started _),
     )
 
--- 3. What it makes of all
+-- 3. What the reader makes of all lines
 
 read_step : (m : ℕ) (doc : Document) (x : List ℕ) (e : Expression) (left : List ℕ) (es : List Expression) (defined : Option Document) → defined ≡ define doc e
     → 0 < m → (length (skip_blank x) == 0) ≡ false → line (skip_blank x) ≡ Some (e, left)

@@ -1,4 +1,4 @@
--- The texts of a heading, of events, of a network, of programs and of streams are one document.
+-- The texts of a heading, of events, of a network, of programs and of streams form one document.
 use Rattle.std.proofs.Common.{◌≡◌, ℕ, suc, pos, ◌≤◌, Bool, true, false, ◌==◌, Option, Some, None, option_map, List, [], ◌∷◌, ◌++◌, length, map, codes, refl}
 use Rattle.std.proofs.Common.{sym, ap, ap₂, subst, ◌∙◌, arith, append_assoc, append-nil}
 use Rattle.std.proofs.lemmas.Bool.Decides.{nat_tests}
@@ -34,11 +34,11 @@ use Rattle.job_text.proofs.TableArrays.{AreTables, element_is_text, element_line
 use Rattle.job_text.proofs.SingleTables.{IsTable, lines_if_any, expressions_if_any, table_is_text, pairs_past_table, sections_with_table}
 use Rattle.job_text.proofs.SingleTables.{sorted_past_table, before_table}
 
--- numbers are scalars
+-- Numbers that fit are scalars.
 small : (n : ℕ) → Fits n → IsScalar (integer (pos n))
 small n h = omega (arith, h)
 
--- descriptors before other keys
+-- Descriptors before other keys are scalars.
 not_empty : (b : ℕ) (bytes : List ℕ) → (length (b ∷ bytes) == 0) ≡ false
 not_empty b bytes = grind (arith, nat_tests)
 
@@ -79,7 +79,7 @@ hex_lines : (bytes : List ℕ) (more : Members) → scalar_lines (with_hex (code
 hex_lines [] more = ap scalar_lines (hex_none more) ∙ ap (λ (l : List ℕ). l ++ scalar_lines more) (sym line_none)
 hex_lines (b ∷ bytes) more = ap scalar_lines (hex_some b bytes more) ∙ ap (λ (l : List ℕ). l ++ scalar_lines more) (sym (line_some b bytes))
 
--- numbers before other keys
+-- Numbers before other keys are scalars.
 list_scalars : (ns : List ℕ) (more : Members) → All Fits ns → AreScalars more → AreScalars (with_list (codes "shared_with") ns more)
 unfolding key_text
 list_scalars [] more f h = h
@@ -95,7 +95,7 @@ list_after : (key : List ℕ) (ns : List ℕ) (more : Members) → is_lt (slice_
 list_after key [] more first last = last
 list_after key (n ∷ ns) more first last = first
 
--- an event
+-- The table of an event
 event_scalars : (e : EventPartView) → FitsEvent e → AreScalars (event_table e)
 unfolding key_text
 event_scalars e h =
@@ -104,7 +104,7 @@ event_scalars e h =
 event_lines : (e : EventPartView) → element_lines (codes "event") (event_table e) ≡ event_text e
 event_lines e = simp (append_assoc, append-nil)
 
--- a network
+-- The table of a network
 network_rest : NetworkPartView → Members
 network_rest n = member (codes "id") (integer (pos n.id)) (member (codes "name") (string n.name) no_members)
 
@@ -120,7 +120,7 @@ network_lines : (n : NetworkPartView) → lines_if_any (codes "network") (Some (
 unfolding network_rest
 network_lines n = rw (hex_lines n.descriptors (network_rest n)) (simp (append_assoc, append-nil))
 
--- if there is one
+-- The table of a network, if there is a network
 network_table_fits : (n : Option NetworkPartView) → FitsNetwork n → IsTable (option_map network_table n)
 network_table_fits None h = tt
 network_table_fits (Some n) h = (network_scalars n h, network_sorted n)
@@ -129,7 +129,7 @@ network_lines_if_any : (n : Option NetworkPartView) → lines_if_any (codes "net
 network_lines_if_any None = refl
 network_lines_if_any (Some n) = network_lines n
 
--- a program
+-- The table of a program
 program_rest : ProgramPartView → Members
 program_rest p =
     member (codes "name") (string p.name)
@@ -162,7 +162,7 @@ program_lines : (p : ProgramPartView) → element_lines (codes "program") (progr
 unfolding program_rest
 program_lines p = rw (hex_lines p.descriptors (program_rest p)) (simp (append_assoc, append-nil))
 
--- a stream
+-- The table of a stream
 end_scalars : (s : StreamPartView) → FitsStream s → AreScalars (with_list (codes "shared_with") s.shared_with (stream_last s))
 unfolding key_text
 end_scalars s h = list_scalars s.shared_with (stream_last s) h.shared_with (refl, small s.size h.size, (refl, small s.stream_type h.stream_type, tt))
@@ -230,7 +230,7 @@ scalars_with (Groups units packets) m p l s f g e k h =
 scalars_with (Pace burst pace) m p l s f g e k h =
     (refl, small burst f.0, hex_scalars s.descriptors (stream_rest (Pace burst pace) m p l s) (rest_scalars (Pace burst pace) m p l s f g e k h))
 
--- in order from its leak on, whatever is before it
+-- The keys of a stream are sorted from its leak on, whatever keys precede it.
 drain_sorted : (m : Option MultiplexingBuffer) (s : StreamPartView) → members_are_sorted (stream_drain m s) ≡ true
 drain_sorted None s = rw (list_after (codes "rx") s.shared_with (stream_last s) refl refl, list_sorted s.shared_with (stream_last s) refl refl)
 drain_sorted (Some m) s = rw (list_after (codes "rx") s.shared_with (stream_last s) refl refl, list_sorted s.shared_with (stream_last s) refl refl)
@@ -276,7 +276,7 @@ sorted_with (Pace burst pace) m p l s =
       hex_sorted s.descriptors (stream_rest (Pace burst pace) m p l s) (after_descriptors (Pace burst pace) m p l s) (rest_sorted (Pace burst pace) m p l s),
     )
 
--- the lines of some of its keys, with what is said beside its stream_type
+-- The lines of some keys of a stream, with the comment after its stream_type
 abbrev own_lines : StreamPartView → Members → List ℕ
 own_lines s ms = typed_lines (type_note s.stream_type s.said) ms
 
@@ -290,7 +290,7 @@ own_list : (s : StreamPartView) (ns : List ℕ) (more : Members) → own_lines s
 own_list s [] more = ap (λ (l : List ℕ). l ++ own_lines s more) (sym (list_none (codes "shared_with")))
 own_list s (n ∷ ns) more = ap (λ (l : List ℕ). l ++ own_lines s more) (sym (list_some (codes "shared_with") n ns))
 
--- the lines from its leak on, those after its access units, and all
+-- The lines of a stream: from its leak on, after its access units, and all lines
 drain_lines : (m : Option MultiplexingBuffer) (s : StreamPartView) → own_lines s (stream_drain m s)
     ≡ number_lines (leak_numbers m) ++ (number_lines (drain_numbers s) ++ stream_end s)
 drain_lines None s = rw (own_list s s.shared_with (stream_last s)) (simp (append_assoc, append-nil))
@@ -330,7 +330,7 @@ stream_lines s =
       drain_lines s.multiplexing s,
     ) (simp append_assoc)
 
--- a private table
+-- A private table
 table_scalars : (t : TablePartView) → FitsTable t → AreScalars (table_table t)
 unfolding key_text
 table_scalars t h = (
@@ -349,7 +349,7 @@ table_sorted t = rw (digits_sorted t.sections) refl
 private_lines : (t : TablePartView) → element_lines (codes "table") (table_table t) ≡ table_text t
 private_lines t = simp (append_assoc, append-nil)
 
--- lists of them
+-- Lists of events, programs and streams
 each : {X : Type 0} (P : X → Type 0) (x : X) (xs : List X) → All P (x ∷ xs) → P x × All P xs
 each P x xs h = (h 0 x (omega arith), λ k d less. h (suc k) d (omega (arith, less)))
 
@@ -408,7 +408,7 @@ privates_lines : (ts : List TablePartView) → flat_map (element_lines (codes "t
 privates_lines [] = refl
 privates_lines (t ∷ ts) = ap₂ (λ (a b : List ℕ). a ++ b) (private_lines t) (privates_lines ts)
 
--- the heading
+-- The heading
 heading_scalars : (h : HeadingView) → FitsHeading h → AreScalars (document h [] None [] [] [])
 unfolding key_text
 heading_scalars h f = (
@@ -424,7 +424,7 @@ heading_scalars h f = (
 heading_lines : (h : HeadingView) → scalar_lines (document h [] None [] [] []) ≡ heading_text h
 heading_lines h = simp (append_assoc, append-nil)
 
--- the document after its streams, after its programs, after its network and after its events
+-- The document after its streams, its programs, its network and its events
 abbrev after_tables : HeadingView → Members
 after_tables h = member (codes "tdt") (boolean h.tdt) (member (codes "ts_id") (integer (pos h.transport_stream_id)) no_members)
 
@@ -456,7 +456,7 @@ whole_pairs h es n ts us ws =
       pairs_past (codes "table") ws (after_tables h),
     )
 
--- its tables
+-- The arrays of tables in the document
 abbrev arrays : List Members → List Members → List Members → List Expression
 arrays ts us ws = elements ([], codes "program") (elements_of ts)
     ++ (elements ([], codes "stream") (elements_of us) ++ (elements ([], codes "table") (elements_of ws) ++ []))

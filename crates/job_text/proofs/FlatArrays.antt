@@ -1,4 +1,4 @@
--- Arrays of numbers and of strings, on one line.
+-- Arrays of numbers and of strings, on one line
 use Rattle.std.proofs.Common.{◌≡◌, ℕ, suc, ◌≤◌, Bool, true, false, ◌==◌, List, [], ◌∷◌, ◌++◌, length, map, codes, decimal, refl, sym, ap, subst, ◌∙◌, arith}
 use Rattle.std.proofs.Common.{append_assoc}
 use Rattle.std.proofs.lemmas.Bool.Decides.{nat_tests}
@@ -14,7 +14,7 @@ use Rattle.toml.specs.Text.{IsValueText, IsItemsText, breaks_lines, is_section, 
 use Rattle.job_text.specs.KeyLines.{value_text, items_text, key_line, items_of, digits_of, next_number, next_digits, array_line, list_line, digits_line}
 use Rattle.job_text.specs.Laws.{Fits}
 
--- 1. Their text
+-- 1. The text of an array
 
 others_are : (ns : List ℕ) → items_text false (items_of ns) ≡ flat_map next_number ns ++ codes "]"
 others_are [] = refl
@@ -33,7 +33,7 @@ pub list_some : (key : List ℕ) (n : ℕ) (ns : List ℕ) → list_line key (n 
 unfolding list_line
 list_some key n ns = rw (not_empty n ns)
 
--- what is written in three parts
+-- An array is written in three parts.
 pub list_is : (key : List ℕ) (n : ℕ) (ns : List ℕ) → array_line key n ns ≡ list_line key (n ∷ ns)
 unfolding key_line
 list_is key n ns =
@@ -47,7 +47,7 @@ list_is key n ns =
 pub list_written : (key : List ℕ) (n : ℕ) (ns all : List ℕ) → all ≡ n ∷ ns → array_line key n ns ≡ list_line key all
 list_written key n ns all is = rw is (list_is key n ns)
 
--- the same of strings of digits
+-- The same for strings of digits
 other_digits_are : (bs : List (List ℕ)) → items_text false (digits_of bs) ≡ flat_map next_digits bs ++ codes "]"
 other_digits_are [] = refl
 other_digits_are (b ∷ bs) =
@@ -79,9 +79,9 @@ digits_all bytes_of key b bs all is =
     ap (λ (t : List ℕ). (key ++ (codes " = [" ++ string_text (encode_lower (bytes_of b)))) ++ (t ++ codes "]\n")) (next_parts bytes_of bs)
     ∙ digits_written key (bytes_of b) (map bytes_of bs) (map bytes_of all) (ap (map bytes_of) is)
 
--- 2. As TOML reads it
+-- 2. An array as TOML reads it
 
--- numbers and strings alone
+-- The items are only numbers and strings.
 abbrev pub AreFlat : Items → Type 0
 AreFlat no_items = Unit {0}
 AreFlat (item (integer z) ds) = FitsSigned w64 z × AreFlat ds
@@ -154,7 +154,7 @@ pub numbers_sorted : (ns : List ℕ) → items_are_sorted (items_of ns) ≡ true
 numbers_sorted [] = refl
 numbers_sorted (n ∷ ns) = numbers_sorted ns
 
--- numbers of 64 bits are
+-- Numbers of 64 bits form a flat array.
 pub numbers_are : (ns : List ℕ) → All Fits ns → AreFlat (items_of ns)
 numbers_are [] h = tt
 numbers_are (n ∷ ns) h =

@@ -1,4 +1,4 @@
--- What stands beside a number is a comment, and ends its line.
+-- The text after a number is a comment, and ends its line.
 use Rattle.std.proofs.Common.{◌≡◌, ℕ, zero, suc, ◌+◌, ◌/◌, ◌%◌, ◌*◌, ◌==◌, ◌≤◌, nat_le, nat_lt, Bool, true, false, List, [], ◌∷◌, ◌++◌, ◌||◌, if◌then◌else◌}
 use Rattle.std.proofs.Common.{length, map, codes, decimal}
 use Rattle.std.proofs.Common.{refl, sym, ap, ◌∙◌, subst, arith, append_assoc, pos, negsuc, Some, inl, inr, ◌⊎◌}
@@ -22,12 +22,12 @@ use Rattle.job_text.proofs.ShownTexts.{Shown, shown_both, decimal_shown, three_s
 use Rattle.job_text.proofs.ShownProfiles.{said_shown}
 use Rattle.job_text.proofs.Comments.{IsTail}
 
--- a test of the elements of a list is one of what they are mapped to
+-- Testing the elements of a mapped list equals testing the images of the elements.
 pub any_of_mapped : {A B : Type 0} (p : B → Bool) (f : A → B) (xs : List A) → list_any p (map f xs) ≡ list_any (λ x. p (f x)) xs
 any_of_mapped p f [] = refl
 any_of_mapped p f (x ∷ xs) = ap (λ (b : Bool). p (f x) || b) (any_of_mapped p f xs)
 
--- 1. Its bytes
+-- 1. The bytes of a note
 
 group_shown : (n : ℕ) → Shown (group n)
 unfolding group
@@ -101,7 +101,7 @@ service_name_shown n =
     cond_both (n == 25) (codes "digital television, H.264 HD") _ Shown (λ _. refl) (λ _.
     cond_both (n == 31) (codes "digital television, H.265") _ Shown (λ _. refl) (λ _. refl)))))))))
 
--- 2. It is empty, or a comment
+-- 2. A note is empty, or a comment
 
 abbrev pub IsNote : List ℕ → Type 0
 IsNote text = (text ≡ []) ⊎ ((words : List ℕ) × (text ≡ note words) × Shown words)
@@ -139,14 +139,14 @@ note_is key (datetime x) = inl refl
 note_is key (array x) = inl refl
 note_is key (table x) = inl refl
 
--- beside a stream_type
+-- The note after a stream_type
 type_is : (n : ℕ) (said : ProfileLevel) → IsNote (type_note n said)
 unfolding type_note
 type_is n said =
     cond_both (length (stream_type_name n) == 0) [] (note (stream_type_name n ++ said_words said)) IsNote (λ _. inl refl)
     (λ _. is_note (stream_type_name n ++ said_words said) (shown_both (stream_type_name n) (said_words said) (stream_name_shown n) (said_shown said)))
 
--- 3. It ends its line
+-- 3. A note ends its line
 
 shown_goes_on : (c next : ℕ) → is_shown c ≡ true → skip_turn true true c next ≡ Some true
 shown_goes_on c next h =
@@ -192,7 +192,7 @@ note_tail key d = tail_of (note_of key d) (note_is key d)
 pub type_tail : (n : ℕ) (said : ProfileLevel) → IsTail (type_note n said ++ 10 ∷ [])
 type_tail n said = tail_of (type_note n said) (type_is n said)
 
--- and its bytes are printable
+-- The bytes of a note are printable.
 shown_of : (text : List ℕ) → IsNote text → Shown text
 shown_of text (inl none) = rw none refl
 shown_of text (inr (words, is, h)) = rw is (shown_both (codes " # ") words refl h)

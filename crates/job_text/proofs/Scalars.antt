@@ -1,4 +1,4 @@
--- Tables of strings, numbers, truth values and flat arrays, as lines.
+-- Tables of strings, numbers, truth values and flat arrays, as lines
 use Rattle.std.proofs.Common.{◌≡◌, ℕ, pos, negsuc, ◌≤◌, Bool, true, false, if◌then◌else◌, List, [], ◌++◌, codes, decimal, refl, arith}
 use Rattle.std.specs.Prelude.{bytes_eq}
 use Rattle.std.proofs.lemmas.Bool.{cond_both}
@@ -15,7 +15,7 @@ use Rattle.job_text.proofs.Comments.{IsCommented, IsTail, AreCommented}
 use Rattle.job_text.proofs.NoteLines.{note_tail}
 use Rattle.job_text.proofs.FlatArrays.{AreFlat, array_is_text, array_is_no_section, no_array_section, array_low, array_dated}
 
--- a value that stands on one line
+-- The value fits on one line.
 abbrev pub IsScalar : Data → Type 0
 IsScalar (string s) = Unit {0}
 IsScalar (integer z) = FitsSigned w64 z
@@ -23,12 +23,12 @@ IsScalar (boolean b) = Unit {0}
 IsScalar (array ds) = AreFlat ds
 IsScalar _ = ⊥
 
--- each value of a table is one, at a key that needs no quotes
+-- Each value of a table is a scalar, at a key that needs no quotes.
 abbrev pub AreScalars : Members → Type 0
 AreScalars no_members = Unit {0}
 AreScalars (member k d ms) = (key_text k ≡ k) × IsScalar d × AreScalars ms
 
--- their lines
+-- The lines of a table of scalars
 abbrev pub scalar_lines : Members → List ℕ
 scalar_lines no_members = []
 scalar_lines (member k d ms) = key_line k d ++ scalar_lines ms
@@ -51,7 +51,7 @@ is_no_section (datetime x) h = absurd h
 is_no_section (array x) h = array_is_no_section x h
 is_no_section (table x) h = absurd h
 
--- what the reader asks of it
+-- What the reader asks of a scalar
 low : (d : Data) → IsScalar d → depth d ≤ 1
 low (string s) h = omega arith
 low (integer z) h = omega arith
@@ -70,18 +70,18 @@ dated (datetime x) h = absurd h
 dated (array x) h = array_dated x h
 dated (table x) h = absurd h
 
--- the line of a scalar is TOML's, with what stands beside it
+-- The line of a scalar is a line of TOML, with its note.
 line_is_text : (started : Bool) (k : List ℕ) (d : Data) → key_text k ≡ k → IsScalar d → IsCommented started ([], k) (key_value d) (key_line k d)
 unfolding key_line
 line_is_text started k d bare h = (value_text d, note_of k d ++ codes "\n", rw bare refl, value_is_text d h, note_tail k d)
 
--- a line of a number with another tail
+-- The line of a number with a tail after the number
 noted_is_text : (started : Bool) (k : List ℕ) (n : ℕ) (note : List ℕ) → IsTail (note ++ codes "\n") → key_text k ≡ k → IsScalar (integer (pos n))
     → IsCommented started ([], k) (key_value (integer (pos n))) (noted_line k n note)
 unfolding noted_line
 noted_is_text started k n note tail bare h = (decimal n, note ++ codes "\n", rw bare refl, (refl, h), tail)
 
--- the lines of a table whose `type` has this note beside it
+-- The lines of a table whose key `type` has this note
 abbrev pub typed_line : List ℕ → List ℕ → Data → List ℕ
 typed_line note k (integer (pos n)) = if bytes_eq k (codes "type") then noted_line k n note else key_line k (integer (pos n))
 typed_line note k d = key_line k d
@@ -120,7 +120,7 @@ typed_are_text started note (member k d ms) tail h =
     rw (is_no_section d h.1)
     (typed_line note k d, typed_lines note ms, refl, typed_is_text started note k d tail h.0 h.1, line_is_printed k d h.1, typed_are_text true note ms tail h.2)
 
--- and it has no tables
+-- A table of scalars has no tables in it.
 pub no_sections : (path : List (List ℕ)) (ms : Members) → AreScalars ms → sections path ms ≡ []
 no_sections path no_members h = refl
 no_sections path (member k (string s) ms) h = no_sections path ms h.2

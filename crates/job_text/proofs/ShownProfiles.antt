@@ -1,4 +1,4 @@
--- What the headers of a stream say of its profile and level is written in printable ASCII.
+-- The words for the profile and level in the headers of a stream are printable ASCII.
 use Rattle.std.proofs.Common.{◌≡◌, ℕ, ◌+◌, ◌*◌, ◌/◌, ◌%◌, ◌==◌, nat_lt, List, [], ◌++◌, if◌then◌else◌, length, codes, decimal, refl}
 use Rattle.std.proofs.lemmas.Bool.{cond_both}
 use Rattle.stream_coding.specs.declared.profiles.ProfileLevel.{ProfileLevel}

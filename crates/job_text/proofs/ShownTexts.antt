@@ -1,4 +1,4 @@
--- Texts of printable ASCII.
+-- Texts of printable ASCII
 use Rattle.std.proofs.Common.{◌≡◌, ℕ, zero, suc, ◌+◌, ◌/◌, ◌%◌, ◌==◌, ◌≤◌, nat_le, nat_lt, true, false, List, [], ◌∷◌, ◌++◌, if◌then◌else◌, decimal}
 use Rattle.std.proofs.Common.{refl, arith}
 use Rattle.std.proofs.lemmas.Bool.{and_parts, and_from, cond_both, le-leb}

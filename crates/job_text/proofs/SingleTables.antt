@@ -1,4 +1,4 @@
--- A table at a key, as lines.
+-- A table at a key, as lines
 use Rattle.std.proofs.Common.{◌≡◌, ℕ, true, List, [], ◌∷◌, ◌++◌, Option, Some, None, refl, arith, append-nil}
 use Rattle.toml_writer.specs.Text.{key_text}
 use Rattle.std.specs.Ordering.{nat_cmp, is_lt}
@@ -11,7 +11,7 @@ use Rattle.job_text.specs.Documents.{with_table}
 use Rattle.job_text.proofs.Comments.{IsCommented, AreCommented}
 use Rattle.job_text.proofs.Scalars.{AreScalars, scalar_lines, lines_are_text, is_no_section, no_sections}
 
--- it has scalars alone, its keys in order
+-- The table has only scalars, and its keys are in order.
 abbrev pub IsTable : Option Members → Type 0
 IsTable None = Unit {0}
 IsTable (Some t) = AreScalars t × (members_are_sorted t ≡ true)
@@ -32,7 +32,7 @@ header_is_text : (key : List ℕ) → key_text key ≡ key → IsCommented true 
 unfolding table_header
 header_is_text key bare = rw bare refl
 
--- its lines are TOML's
+-- The lines of the table are lines of TOML.
 pub table_is_text : (key : List ℕ) (t : Option Members) → key_text key ≡ key → IsTable t →
     AreCommented true (expressions_if_any key t) (lines_if_any key t)
 table_is_text key None bare h = refl
@@ -40,7 +40,7 @@ table_is_text key (Some t) bare h =
     let own : AreCommented true (pairs t ++ []) (scalar_lines t) = rw append-nil (lines_are_text true t h.0) in
     rw (headed t h.0, no_sections (key ∷ []) t h.0) (table_header key, scalar_lines t, refl, header_is_text key bare, omega arith, own)
 
--- among other keys
+-- A table among other keys
 pub pairs_past_table : (key : List ℕ) (t : Option Members) (more : Members) → pairs (with_table key t more) ≡ pairs more
 pairs_past_table key None more = refl
 pairs_past_table key (Some t) more = refl

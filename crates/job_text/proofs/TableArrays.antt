@@ -1,4 +1,4 @@
--- Arrays of tables, as lines.
+-- Arrays of tables, as lines
 use Rattle.std.proofs.Common.{◌≡◌, ℕ, true, List, [], ◌∷◌, ◌++◌, refl, arith, append_assoc, append-nil}
 use Rattle.std.specs.List.{flat_map}
 use Rattle.toml_writer.specs.Text.{key_text}
@@ -12,12 +12,12 @@ use Rattle.job_text.specs.Documents.{elements_of, with_tables}
 use Rattle.job_text.proofs.Comments.{IsCommented, AreCommented, commented_both}
 use Rattle.job_text.proofs.Scalars.{AreScalars, scalar_lines, lines_are_text, no_sections}
 
--- each table has scalars alone, its keys in order
+-- Each table has only scalars, and its keys are in order.
 abbrev pub AreTables : List Members → Type 0
 AreTables [] = Unit {0}
 AreTables (t ∷ ts) = AreScalars t × (members_are_sorted t ≡ true) × AreTables ts
 
--- the lines of an array's element
+-- The lines of an element of the array
 abbrev pub element_lines : List ℕ → Members → List ℕ
 element_lines key t = header key ++ scalar_lines t
 
@@ -33,7 +33,7 @@ header_is_text : (key : List ℕ) → key_text key ≡ key → IsCommented true 
 unfolding header
 header_is_text key bare = rw bare refl
 
--- an element with other lines of its keys, before other expressions
+-- An element whose keys have other lines, before other expressions
 pub element_is_text : (key : List ℕ) (t : Members) (es : List Expression) (own text : List ℕ) → key_text key ≡ key → AreScalars t
     → AreCommented true (pairs t) own → AreCommented true es text
     → AreCommented true ((([], key), array_table) ∷ ((pairs t ++ sections (key ∷ []) t) ++ es)) (header key ++ (own ++ text))
@@ -42,7 +42,7 @@ element_is_text key t es own text bare h lines more =
     let both = commented_both true (pairs t ++ []) es own text all more in
     rw (no_sections (key ∷ []) t h) (header key, own ++ text, refl, header_is_text key bare, omega arith, both)
 
--- their lines are TOML's
+-- The lines of the elements are lines of TOML.
 pub elements_are_text : (key : List ℕ) (ts : List Members) → key_text key ≡ key → AreTables ts
     → AreCommented true (elements ([], key) (elements_of ts)) (flat_map (element_lines key) ts)
 elements_are_text key [] bare h = refl
@@ -53,7 +53,7 @@ elements_are_text key (t ∷ ts) bare h =
     rw (no_sections (key ∷ []) t h.0)
     (header key, scalar_lines t ++ flat_map (element_lines key) ts, simp append_assoc, header_is_text key bare, omega arith, both)
 
--- an array among other keys
+-- An array among other keys
 pub pairs_past : (key : List ℕ) (ts : List Members) (more : Members) → pairs (with_tables key ts more) ≡ pairs more
 pairs_past key [] more = refl
 pairs_past key (t ∷ ts) more = rw (all_tables ts)

@@ -1,4 +1,4 @@
--- Streams with their units, one after another.
+-- Streams with their units, one after another
 use Rattle.std.proofs.Common.{◌≡◌, ◌++◌, refl, sym, Bool, true, false, if◌then◌else◌, List, [], ◌∷◌, flat_map, length, Option, Some, None, Result, Ok, Err, All}
 use Rattle.std.specs.Prelude.{option_to_list}
 use Rattle.std.proofs.lemmas.List.{append_assoc, append-nil}
@@ -20,18 +20,18 @@ use Rattle.job_programs.proofs.Steps.{granted, comes}
 use Rattle.job_programs.specs.JobStreams.{WireStreamView}
 use Rattle.es_moments.specs.WireUnits.{CarriedUnit}
 
--- 1. What comes of what
+-- 1. Results of one computation
 
 ok_same : {A : Type 0} (x y : A) (one : Result A JobRefusal) → one ≡ Ok x → one ≡ Ok y → x ≡ y
 ok_same x y one is there = cc
 
--- what holds of a stream holds of what is left of it
+-- A property of a stream is a property of each stream that is kept.
 unless_carried : (P : WireStreamView → Type 0) (odd : Option JobRefusal) (w : WireStreamView) → P w → All P (option_to_list (unless_odd odd w))
 unfolding unless_odd
 unless_carried P None w holds = All-cons P w [] holds (All-nil P)
 unless_carried P (Some why) w holds = All-nil P
 
--- 2. The units of a stream are those that are found of its PID
+-- 2. The units of a stream are the units found on its PID
 
 stamped_units : (made : Bool) (pid : _) (findings : List FindingView) (us : List CarriedUnit) →
     with_stamps made pid (carried_units pid findings) ≡ Ok us → us ≡ source_of made pid findings
@@ -52,7 +52,7 @@ one_carried made findings s w is =
     rw (sym (ok_same (with_units s id.value us.value) w (Ok (with_units s id.value us.value)) refl us.last_is))
     (stamped_units made s.pid findings us.value us.first_is)
 
--- one that is kept is what the stream of the tables gives
+-- A stream that is kept is the stream that the tables give.
 kept_carried : (options : JobOptionsView) (findings : List FindingView) (s : FoundStreamView) (r : Result WireStreamView JobRefusal) →
     ((w : WireStreamView) → r ≡ Ok w → IsCarried options.make_dts findings w) →
     All (IsCarried options.make_dts findings) (option_to_list (kept_stream options findings (and_then (λ w. Ok (Some w)) r)))
@@ -76,7 +76,7 @@ all_carried options findings (s ∷ ss) =
     All-append (IsCarried options.make_dts findings) (carried_stream options findings s) (carried_streams options findings ss)
     (stream_carried options findings s (can_carry findings s)) (all_carried options findings ss)
 
--- 3. Of a list that is taken from its front
+-- 3. A list that is processed from its front
 
 pub list_more : {A T : Type 0} (f : A → List T) (x : A) (xs : List A) (before after : List T) → after ≡ before ++ f x →
     before ++ flat_map f (x ∷ xs) ≡ after ++ flat_map f xs

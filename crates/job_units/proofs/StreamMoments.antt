@@ -1,4 +1,4 @@
--- Streams of whose units the moments alone are known, and with the bytes of these.
+-- Streams with only the moments of their units, and with the bytes of the units as well
 use Rattle.std.proofs.Common.{◌≡◌, ◌∙◌, ◌<◌, ◌^◌, ℕ, Bool, true, false, None, List, map, Result, Ok, sym, ap, subst}
 use Rattle.pes_packet.specs.AccessUnits.{AccessUnit}
 use Rattle.pid_findings.specs.Views.{FindingView}
@@ -23,7 +23,7 @@ unfolding source_of
 source_contents false pid findings = apart_contents (carried_units pid findings)
 source_contents true pid findings = made_contents (carried_units pid findings)
 
--- with these at the moments of its units it is as if they were moved
+-- Units at these moments equal the moved units.
 pub at_source : (made : Bool) (pid base : ℕ) (findings : List FindingView) (us : List CarriedUnit) (ms : List UnitMoment) → us ≡ source_of made pid findings →
     ms ≡ map moment_of (moved base None (map (λ (u : CarriedUnit). u.unit) us)) →
     units_at ms (carried_units pid findings) ≡ moved base None (map (λ (u : CarriedUnit). u.unit) us)
@@ -31,7 +31,7 @@ at_source made pid base findings us ms are is =
     ap (λ (l : List UnitMoment). units_at l (carried_units pid findings)) is
     ∙ at_own base None us (carried_units pid findings) (ap contents are ∙ source_contents made pid findings)
 
--- a stream of whose units these are the moments
+-- A stream with these moments of its units
 abbrev pub head_of : WireStreamView → List UnitMoment → StreamMomentsView
 head_of s ms = record {
   program = s.program;
@@ -43,7 +43,7 @@ head_of s ms = record {
   units = ms;
 }
 
--- its units have those of the constant of its program's clock
+-- The units of the stream have the moments by the constant of its program's clock.
 pub moved_leads : (made : Bool) (findings : List FindingView) (due base : ℕ) (programs : List JobProgramView) (all : List FirstDts) (s : WireStreamView)
     (ms : List UnitMoment) (h : StreamMomentsView) →
     base ≡ base_of due all (clock_in programs s.program) → IsCarried made findings s →

@@ -52,7 +52,7 @@ leak_warnings_of s = option_to_list (leak_warning s)
 abbrev pub leak_warnings : List MeasuredView → List UnitCountsView → List StreamChoice → List Warning
 leak_warnings streams all chosen = flat_map leak_warnings_of (zip streams (zip all chosen))
 
--- 3. Access units that a main buffer does not hold one by one
+-- 3. Access units that a main buffer does not hold one by one, or that would be in the buffers for more than a second
 
 -- how many a unit has at most, where it has several and the choice does not keep them: they are not declared (`kept_framing`)
 unfoldable pub unkept_frames : UnitCountsView → Choice → Option ℕ

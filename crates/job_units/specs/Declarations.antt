@@ -1,7 +1,7 @@
 -- What a description declares of the streams of a job.
 use Rattle.std.specs.Prelude.{ℕ, ◌+◌, ◌-◌, ◌*◌, ◌/◌, ◌^◌, ◌==◌, ◌&&◌, ◌||◌, min, max, nat_le, nat_lt, Bool, if◌then◌else◌, List, [], ◌∷◌, length, map, find}
 use Rattle.std.specs.Prelude.{zip, sum_by, unwrap_or, ok_or, Option, Some, None, is_some, option_map, option_and_then, Result, Ok}
-use Rattle.std.specs.List.{range_with_len}
+use Rattle.std.specs.List.{list_any, range_with_len}
 use Rattle.clock27.specs.Units.{slot_units_at_1bps}
 use Rattle.clock27.specs.declared.rate.TheConstants.{LEAST_RATE}
 use Rattle.pes_packet.specs.AccessUnits.{AccessUnit}
@@ -10,7 +10,7 @@ use Rattle.unit_timing.specs.Shares.{parts}
 use Rattle.unit_timing.specs.declared.framing.Framing.{Framing}
 use Rattle.unit_timing.specs.declared.multiplexing_buffer.MultiplexingBuffer.{MultiplexingBuffer}
 use Rattle.stream_choice.specs.Choices.{groups_choice, preferred}
-use Rattle.stream_choice.specs.Frames.{keeps_framing}
+use Rattle.stream_choice.specs.Frames.{framed_lead, keeps_framing}
 use Rattle.stream_choice.specs.Paces.{pace_choice}
 use Rattle.stream_choice.specs.Ranges.{is_needs, are_max_packets}
 use Rattle.stream_choice.specs.Shares.{delay_before, leaking_needs, least_share}
@@ -56,8 +56,8 @@ units_refusal s = refusals.Units s.pid (length s.units)
 unfoldable pub too_long : List TimedStreamView → Option JobRefusal
 too_long streams = option_map units_refusal (find is_too_long streams)
 
--- 2. The measures of a stream: its entry in the program map, the bytes of its first unit, the access units of its units, and the counts of
--- these
+-- 2. The measures of a stream: its entry in the program map, the bytes of its first unit, the access units of its units, the most bytes of a
+-- PES packet header, and the counts of its units
 
 pub record MeasuredView : Type 0 where
   pub pid : ℕ
@@ -66,6 +66,7 @@ pub record MeasuredView : Type 0 where
   pub descriptors : List ℕ
   pub first : List ℕ
   pub framing : Option Framing
+  pub header : ℕ
   pub units : CountedUnitsView
 
 unfoldable pub first_bytes : List AccessUnit → List ℕ
@@ -86,6 +87,19 @@ framing_for s = elim (frame_kind s.stream_type s.descriptors) [
   | Some kind ↦ option_and_then framing_of (all_frames kind no_frames (map (λ u. u.bytes) s.units))
 ]
 
+-- the most bytes of a PES packet header (`header_size`): 45 if a unit asks for so many, 17 more than 19 with PES_private_data
+unfoldable pub most_header : Bool → Bool → ℕ
+most_header long private_data = if long then 45 else (if private_data then 36 else 19)
+
+abbrev pub has_long : AccessUnit → Bool
+has_long u = u.marks.long
+
+abbrev pub has_data : AccessUnit → Bool
+has_data u = is_some u.marks.private_data
+
+unfoldable pub header_of : List AccessUnit → ℕ
+header_of us = most_header (list_any has_long us) (list_any has_data us)
+
 unfoldable pub measured : TimedStreamView → MeasuredView
 measured s = record {
   pid = s.pid;
@@ -94,6 +108,7 @@ measured s = record {
   descriptors = s.descriptors;
   first = first_bytes s.units;
   framing = framing_for s;
+  header = header_of s.units;
   units = counted_units s.units;
 }
 
@@ -118,14 +133,14 @@ unfoldable pub buffers_for : List PidBuffers → MeasuredView → Buffers
 buffers_for given m = unwrap_or (given_buffers given m.pid) (buffers_of (coding_for m))
 
 -- the size of MB as it is declared (2.4.2.3): by the standard the bytes of a PES packet header leave MB at no cost of time, with the first byte of
--- payload after them; here they leave it as payload does. So by the standard MB may hold one header more than is promised of it, of
--- 19 bytes at most in a job, and room for that is left
-unfoldable pub without_header : MultiplexingBuffer → MultiplexingBuffer
-without_header b = record { rbx = b.rbx; size = if nat_lt 19 b.size then b.size - 19 else b.size }
+-- payload after them; here they leave it as payload does. So by the standard MB may hold one header more than is promised of it
+-- (`HeadersLaw`), and room for the stream's greatest header is left
+unfoldable pub without_header : ℕ → MultiplexingBuffer → MultiplexingBuffer
+without_header header b = record { rbx = b.rbx; size = if nat_lt header b.size then b.size - header else b.size }
 
 -- MB of video; there is none beside buffers that are asked for, which are one main buffer
 unfoldable pub multiplexing_for : List PidBuffers → MeasuredView → Option MultiplexingBuffer
-multiplexing_for given m = if is_some (given_buffers given m.pid) then None else option_map without_header (multiplexing_of (coding_for m))
+multiplexing_for given m = if is_some (given_buffers given m.pid) then None else option_map (without_header m.header) (multiplexing_of (coding_for m))
 
 -- 4. The counts of a stream's units: their needs, and the greatest number of packets of 1, 2, .. units in a row
 
@@ -191,6 +206,14 @@ asked_groups by.Pace lead sum buffer c = None
 asked_groups by.Groups lead sum buffer c = groups_of lead sum buffer c
 asked_groups by.Either lead sum buffer c = groups_of lead sum buffer c
 
+-- the longest lead that is tried first: with it the last access unit of a unit is in the buffers for at most a second
+unfoldable pub prompt_lead : ℕ → UnitCountsView → ℕ
+prompt_lead lead c = elim c.framing [ None ↦ lead | Some f ↦ min lead (framed_lead f) ]
+
+-- by groups, with the stream's own multiplexing buffer
+abbrev pub own_groups : DeclareBy → ℕ → ℕ → UnitCountsView → Option Choice
+own_groups declare_by lead sum c = asked_groups declare_by (prompt_lead lead c) sum c.multiplexing c
+
 -- the burst of units at a pace, as a number of 64 bits
 abbrev pub burst_of : UnitRunsView → ℕ → ℕ
 burst_of units pace = min (runs_burst pace units) (2 ^ 64 - 1)
@@ -248,11 +271,12 @@ way_out declare_by lead sum units c =
 unfoldable pub buffers_refusal : DeclareBy → ℕ → ℕ → MeasuredView → UnitCountsView → JobRefusal
 buffers_refusal declare_by lead sum m c = refusals.Buffers m.pid c.needs.size c.needs.rx c.needs.main (way_out declare_by lead sum m.units.runs c)
 
--- with the stream's multiplexing buffer, if a choice keeps it; else with one main buffer. A stream of its level's greatest rate is of the
--- second kind: its packets come faster than the leak by their headers, which the leak is counted with here
+-- with the stream's multiplexing buffer and a lead that its access units allow, if a choice keeps both; else with one main buffer and any
+-- lead. A stream of its level's greatest rate is of the second kind: its packets come faster than the leak by their headers, which the leak
+-- is counted with here
 unfoldable pub chosen : DeclareBy → ℕ → ℕ → MeasuredView × UnitCountsView → Result StreamChoice JobRefusal
 chosen declare_by lead sum s =
-    ok_or (first_kept (kept declare_by lead sum s.1.multiplexing s.0.units.runs s.1) (kept declare_by lead sum None s.0.units.runs s.1))
+    ok_or (first_kept (kept declare_by (prompt_lead lead s.1) sum s.1.multiplexing s.0.units.runs s.1) (kept declare_by lead sum None s.0.units.runs s.1))
     (buffers_refusal declare_by lead sum s.0 s.1)
 
 unfoldable pub choices : DeclareBy → ℕ → List MeasuredView → List UnitCountsView → Result (List StreamChoice) JobRefusal

@@ -1,12 +1,13 @@
 -- Streams with units that are left out: a job can't carry them.
-use Rattle.std.specs.Prelude.{◌≡◌, ⊤, ℕ, ◌-◌, ◌%◌, ◌^◌, if◌then◌else◌, List, [], ◌∷◌, None, Some, Option, option_map, Result, Ok, Err}
+use Rattle.std.specs.Prelude.{◌≡◌, ⊤, ℕ, Bool, ◌-◌, ◌%◌, ◌^◌, if◌then◌else◌, List, [], ◌∷◌, None, Some, Option, option_map, Result, Ok, Err}
+use Rattle.std.specs.List.{list_any}
 use Rattle.pid_findings.specs.Views.{FindingView}
 use Rattle.given_values.specs.declared.declare_by.DeclareBy.{DeclareBy}
 use Rattle.es_moments.specs.Stamps.{first_fault}
 use Rattle.job_programs.specs.declared.refusal.JobError.{JobError}
 use Rattle.job_programs.specs.declared.refusal.JobError.TheVariants.{Memory, Refused}
 use Rattle.job_programs.specs.declared.refusal.JobRefusal.{JobRefusal}
-use Rattle.job_units.specs.Declarations.{MeasuredView, UnitCountsView, buffers_refusal, is_declared, length_refusal, measured, unit_counts}
+use Rattle.job_units.specs.Declarations.{MeasuredView, UnitCountsView, buffers_refusal, has_data, has_long, is_declared, length_refusal, measured, most_header, unit_counts}
 use Rattle.job_programs.specs.JobOptions.{JobOptionsView}
 use Rattle.job_programs.specs.JobStreams.{TimedStreamView, WireStreamView}
 use Rattle.job_units.specs.Moments.{first_dts, pts_limit_of, stamps_refusal, wire_of, with_moments}
@@ -36,6 +37,16 @@ alone w = with_moments (own_base w) w
 unfoldable pub first_carried : List CarriedUnit → List ℕ
 first_carried [] = []
 first_carried (u ∷ us) = u.unit.bytes
+
+-- the most bytes of a PES packet header of its units
+abbrev pub carries_long : CarriedUnit → Bool
+carries_long u = has_long u.unit
+
+abbrev pub carries_data : CarriedUnit → Bool
+carries_data u = has_data u.unit
+
+unfoldable pub carried_header : List CarriedUnit → ℕ
+carried_header us = most_header (list_any carries_long us) (list_any carries_data us)
 
 abbrev pub greatest_sum : ℕ
 greatest_sum = 2 ^ 64 - 1

@@ -16,7 +16,7 @@ use job_programs::JobError;
 use std::alloc::Global;
 use stream_choice::{
     Choice, Needs, PacedUnits, are_max_packets, choose_groups, choose_pace, delay_before,
-    leaking_needs, least_share, preferred,
+    framed_lead, leaking_needs, least_share, preferred,
 };
 use unit_timing::multiplexing_buffer::MultiplexingBuffer;
 use unit_timing::shares::PARTS;
@@ -150,6 +150,18 @@ fn groups_if_asked(
     }
 }
 
+// Returns the longest lead that is tried first: with it the last access unit of a unit is in the buffers for at most a
+// second.
+#[tactic(auto, unfolding(crate::specs::Declarations::prompt_lead))]
+fn prompt_lead(greatest_lead: u32, unit_counts: &UnitCounts) -> u32
+    ensures { result ≡ spec.prompt_lead greatest_lead unit_counts.now }
+{
+    match unit_counts.framing {
+        None => greatest_lead,
+        Some(framing) => greatest_lead.min(framed_lead(framing)),
+    }
+}
+
 // Returns how a stream declares its units by groups. A known stream with the same counts has the same answer.
 fn asked_groups(
     known: Option<KnownGroups<'_>>,
@@ -159,17 +171,17 @@ fn asked_groups(
     unit_counts: &UnitCounts,
 ) -> Option<Choice>
     requires sum { 2 ^ 17 ≤ sum }
-    requires known { IfSome known (λ k.
-        k.choice ≡ spec.asked_groups declare_by greatest_lead sum k.unit_counts.now.multiplexing k.unit_counts.now) }
-    ensures { result ≡ spec.asked_groups declare_by greatest_lead sum unit_counts.now.multiplexing unit_counts.now }
+    requires known { IfSome known (λ k. k.choice ≡ spec.own_groups declare_by greatest_lead sum k.unit_counts.now) }
+    ensures { result ≡ spec.own_groups declare_by greatest_lead sum unit_counts.now }
 {
     if let Some(known) = known {
         if is_alike(known.unit_counts, unit_counts) {
             return known.choice;
         }
     }
+    let lead = prompt_lead(greatest_lead, unit_counts);
     let buffer = unit_counts.multiplexing;
-    groups_if_asked(declare_by, greatest_lead, sum, buffer, unit_counts)
+    groups_if_asked(declare_by, lead, sum, buffer, unit_counts)
 }
 
 // Returns what a stream declares; `by_groups`: what it declares by groups.
@@ -228,8 +240,8 @@ fn kept(
     }
 }
 
-// Returns what a stream declares with its multiplexing buffer, or otherwise with one main buffer alone; `by_groups`:
-// what it declares by groups with its multiplexing buffer.
+// Returns what a stream declares with its multiplexing buffer and a lead that its access units allow, or otherwise with
+// one main buffer alone and any lead; `by_groups`: what it declares by groups, of the first kind.
 #[tactic(auto, unfolding(crate::specs::Declarations::first_kept))]
 fn first_kept(
     declare_by: DeclareBy,
@@ -240,21 +252,15 @@ fn first_kept(
     unit_counts: &UnitCounts,
 ) -> Option<StreamChoice>
     requires sum { 2 ^ 17 ≤ sum }
-    requires groups { by_groups ≡ spec.asked_groups declare_by greatest_lead sum unit_counts.now.multiplexing unit_counts.now }
+    requires groups { by_groups ≡ spec.own_groups declare_by greatest_lead sum unit_counts.now }
     ensures { result ≡ spec.first_kept
-        (spec.kept declare_by greatest_lead sum unit_counts.now.multiplexing units.now unit_counts.now)
+        (spec.kept declare_by (spec.prompt_lead greatest_lead unit_counts.now) sum unit_counts.now.multiplexing units.now
+        unit_counts.now)
         (spec.kept declare_by greatest_lead sum None units.now unit_counts.now) }
 {
+    let lead = prompt_lead(greatest_lead, unit_counts);
     let buffer = unit_counts.multiplexing;
-    let first = kept(
-        declare_by,
-        by_groups,
-        greatest_lead,
-        sum,
-        buffer,
-        units,
-        unit_counts,
-    );
+    let first = kept(declare_by, by_groups, lead, sum, buffer, units, unit_counts);
     if first.is_some() {
         return first;
     }
@@ -282,7 +288,7 @@ fn chosen(
     unit_counts: &UnitCounts,
 ) -> Result<StreamChoice, JobError>
     requires sum { 2 ^ 17 ≤ sum }
-    requires groups { by_groups ≡ spec.asked_groups declare_by greatest_lead sum unit_counts.now.multiplexing unit_counts.now }
+    requires groups { by_groups ≡ spec.own_groups declare_by greatest_lead sum unit_counts.now }
     ensures { Answers (spec.chosen declare_by greatest_lead sum (stream.now, unit_counts.now)) result }
 {
     let units = &stream.units.runs;
@@ -322,7 +328,8 @@ fn each_choice(
     requires { 2 ^ 17 ≤ sum }
     ensures chosen { IfOk result (λ chosen. each (spec.chosen declare_by greatest_lead sum) (zip streams.now all.now)
         ≡ Ok chosen.items) }
-    ensures refused { IfErr result (Refuses (each (spec.chosen declare_by greatest_lead sum) (zip streams.now all.now))) }
+    ensures refused { IfErr result
+        (Refuses (each (spec.chosen declare_by greatest_lead sum) (zip streams.now all.now))) }
 {
     let mut choices = Vec::new(alloc);
     let mut left = streams;
@@ -362,7 +369,8 @@ pub fn choices(
     streams: &[StreamMeasures],
     all: &[UnitCounts],
 ) -> Result<Vec<StreamChoice>, JobError>
-    ensures chosen { IfOk result (λ chosen. spec.choices declare_by greatest_lead streams.now all.now ≡ Ok chosen.items) }
+    ensures chosen { IfOk result (λ chosen.
+        spec.choices declare_by greatest_lead streams.now all.now ≡ Ok chosen.items) }
     ensures refused { IfErr result (Refuses (spec.choices declare_by greatest_lead streams.now all.now)) }
 {
     let sum = shares_of(all);

@@ -28,9 +28,6 @@ const MAX_UNITS: usize = 1_048_576;
 /// The greatest number of units that are counted together.
 const MAX_GROUP: usize = 64;
 
-/// The most bytes of a PES packet header in a job.
-const MAX_HEADER: u32 = 19;
-
 /// The counts of a stream's units: what they need, the multiplexing buffer of a stream of video, the access units of a
 /// stream of sound whose units are whole frames, and the greatest number of packets of 1, 2, .. units in a row.
 #[derive(Drop)]
@@ -145,14 +142,14 @@ fn buffers_for(given: &[PidBuffers], stream: &StreamMeasures) -> Buffers
 
 // Returns a multiplexing buffer as it is declared: with room for a header that leaves it at no cost of time.
 #[tactic(auto, unfolding(crate::specs::Declarations::without_header))]
-fn without_header(buffer: MultiplexingBuffer) -> MultiplexingBuffer
-    ensures { result ≡ spec.without_header buffer }
+fn without_header(header: u32, buffer: MultiplexingBuffer) -> MultiplexingBuffer
+    ensures { result ≡ spec.without_header header buffer }
 {
     let MultiplexingBuffer { rbx, size } = buffer;
-    if MAX_HEADER < size {
+    if header < size {
         MultiplexingBuffer {
             rbx,
-            size: size - MAX_HEADER,
+            size: size - header,
         }
     } else {
         buffer
@@ -169,7 +166,7 @@ fn multiplexing_for(given: &[PidBuffers], stream: &StreamMeasures) -> Option<Mul
     }
     match multiplexing_of(coding_for(stream)) {
         None => None,
-        Some(buffer) => Some(without_header(buffer)),
+        Some(buffer) => Some(without_header(stream.header, buffer)),
     }
 }
 

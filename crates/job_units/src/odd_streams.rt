@@ -44,7 +44,8 @@ fn own_moments(
     links: &PidLinks<Global>,
 ) -> Result<Vec<UnitMoment>, JobError>
     requires links { AreLinks links.now (pids_in (map finding_view findings.now)) }
-    ensures moments { IfOk result (λ ms. ms.items ≡ map moment_of (moved (spec.own_base stream.now) None (wire_of stream.now))) }
+    ensures moments { IfOk result (λ ms. ms.items
+        ≡ map moment_of (moved (spec.own_base stream.now) None (wire_of stream.now))) }
     ensures even { OnOk result (spec.odd_stamps (map finding_view findings.now) stream.now ≡ None) }
     ensures odd { IfErr result (spec.IsOddBy (spec.odd_stamps (map finding_view findings.now) stream.now)) }
 {

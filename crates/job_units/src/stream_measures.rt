@@ -1,15 +1,17 @@
 //! The measures of streams: their entries in the program map and the counts of their units, without the units' bytes.
 
 ghost use Rattle.std.specs.Prelude.{◌≡◌, map, IfOk, None};
+ghost use Rattle.std.specs.List.{list_any};
 ghost use Rattle.es_moments.specs.Stamps.{moved};
 ghost use Rattle.es_moments.specs.UnitMoments.{moment_of};
 ghost use Rattle.sound_frames.specs.Frames.{no_frames, all_frames};
 ghost use Rattle.sound_frames.specs.FrameHeaders.{frame_kind};
 ghost use Rattle.job_units.specs.Declarations as spec;
 ghost use Rattle.job_units.specs.Moments.{wire_of};
+ghost use Rattle.job_units.specs.OddStreams as odd;
 ghost use Rattle.job_units.specs.OddStreams.{alone, first_carried, own_base};
 
-use es_moments::{CountedUnits, UnitMoment};
+use es_moments::{CountedUnits, FoundUnit, UnitMoment};
 use job_programs::{TimedStream, WireStream};
 use pes_packet::Unit;
 use sound_frames::{FrameKind, UnitFrames, frame_kind, unit_frames};
@@ -19,7 +21,7 @@ use stream_coding::{ProfileLevel, profile_level};
 use unit_timing::framing::Framing;
 
 /// The measures of a stream: its entry in the program map, the bytes of its first unit, the framing of its sound if
-/// each unit is whole frames, and the counts of its units.
+/// each unit is whole frames, the most bytes of a PES packet header, and the counts of its units.
 #[derive(Drop)]
 pub struct StreamMeasures {
     pub pid: u16,
@@ -28,6 +30,7 @@ pub struct StreamMeasures {
     pub descriptors: Vec<u8>,
     pub first: Vec<u8>,
     pub framing: Option<Framing>,
+    pub header: u32,
     pub units: CountedUnits,
 }
 
@@ -44,6 +47,7 @@ impl Model for StreamMeasures {
       descriptors = m.descriptors.items;
       first = m.first.items;
       framing = m.framing;
+      header = m.header;
       units = m.units;
     } };
 }
@@ -106,6 +110,54 @@ pub fn said_profile(stream: &TimedStream) -> ProfileLevel
     profile_level(stream.stream_type, first_bytes(stream))
 }
 
+// Returns the most bytes of a PES packet header.
+#[tactic(auto, unfolding(crate::specs::Declarations::most_header))]
+fn most_header(long: bool, private_data: bool) -> u32
+    ensures { result ≡ spec.most_header long private_data }
+{
+    if long {
+        45
+    } else if private_data {
+        36
+    } else {
+        19
+    }
+}
+
+// Returns whether a unit asks for a PES packet header of 45 bytes.
+fn has_long(unit: &Unit) -> bool
+    ensures { result ≡ spec.has_long unit.now }
+{
+    unit.marks.long
+}
+
+// Returns whether a unit has PES_private_data.
+fn has_data(unit: &Unit) -> bool
+    ensures { result ≡ spec.has_data unit.now }
+{
+    unit.marks.private_data.is_some()
+}
+
+fn any_long(units: &[Unit]) -> bool
+    ensures { result ≡ list_any spec.has_long units.now }
+{
+    units.iter().any(|unit| has_long(unit))
+}
+
+fn any_data(units: &[Unit]) -> bool
+    ensures { result ≡ list_any spec.has_data units.now }
+{
+    units.iter().any(|unit| has_data(unit))
+}
+
+// Returns the most bytes of a PES packet header of units.
+#[tactic(auto, unfolding(crate::specs::Declarations::header_of))]
+fn header_of(units: &[Unit]) -> u32
+    ensures { result ≡ spec.header_of units.now }
+{
+    most_header(any_long(units), any_data(units))
+}
+
 /// Returns the measures of a stream.
 #[tactic(auto, unfolding(crate::specs::Declarations::measured))]
 pub(crate) fn measured(alloc: Global, stream: &TimedStream) -> Result<StreamMeasures, AllocError>
@@ -121,6 +173,7 @@ pub(crate) fn measured(alloc: Global, stream: &TimedStream) -> Result<StreamMeas
         descriptors,
         first,
         framing: framing_for(stream),
+        header: header_of(&stream.units),
         units,
     })
 }
@@ -152,6 +205,39 @@ fn first_copy(alloc: Global, stream: &WireStream<'_>) -> Result<Vec<u8>, AllocEr
     Ok(bytes)
 }
 
+// The same of units that are found.
+fn carries_long(unit: &FoundUnit<'_>) -> bool
+    ensures { result ≡ odd.carries_long unit.now }
+{
+    unit.marks.long
+}
+
+fn carries_data(unit: &FoundUnit<'_>) -> bool
+    ensures { result ≡ odd.carries_data unit.now }
+{
+    unit.marks.private_data.is_some()
+}
+
+fn any_carries_long(units: &[FoundUnit<'_>]) -> bool
+    ensures { result ≡ list_any odd.carries_long units.now }
+{
+    units.iter().any(|unit| carries_long(unit))
+}
+
+fn any_carries_data(units: &[FoundUnit<'_>]) -> bool
+    ensures { result ≡ list_any odd.carries_data units.now }
+{
+    units.iter().any(|unit| carries_data(unit))
+}
+
+// Returns the most bytes of a PES packet header of units that are found.
+#[tactic(auto, unfolding(crate::specs::OddStreams::carried_header))]
+fn found_header(units: &[FoundUnit<'_>]) -> u32
+    ensures { result ≡ odd.carried_header units.now }
+{
+    most_header(any_carries_long(units), any_carries_data(units))
+}
+
 /// Returns the measures of a stream without frames of sound at these moments, the first unit due at once. The bytes of
 /// its units stay where they are found.
 pub(crate) fn found_measured(
@@ -166,6 +252,7 @@ pub(crate) fn found_measured(
     let units = CountedUnits::of_found(alloc, moments, &stream.units)?;
     let descriptors = Vec::from_slice(alloc, &stream.descriptors)?;
     let first = first_copy(alloc, stream)?;
+    let header = found_header(&stream.units);
     Ok(StreamMeasures {
         pid: stream.pid,
         stream_id: stream.stream_id,
@@ -173,6 +260,7 @@ pub(crate) fn found_measured(
         descriptors,
         first,
         framing: None,
+        header,
         units,
     })
 }

@@ -4,7 +4,8 @@ ghost use Rattle.std.specs.Prelude.{◌≡◌, IfOk, OnOk, map};
 ghost use Rattle.es_units.specs.PidPlaces.{AreLinks, pids_in};
 ghost use Rattle.pid_findings.specs.Shown.{finding_view};
 ghost use Rattle.job_units.specs.Moments as spec;
-ghost use Rattle.job_units.specs.TakenStreams.{StayCarried};
+ghost use Rattle.job_units.specs.TakenStreams.{OthersCarried, StayCarried};
+ghost use Rattle.es_units.specs.TakenUnits.{OthersStay};
 ghost use Rattle.es_units.specs.CarriedUnits.{carried_units};
 
 use es_moments::{WireUnit, units_at};
@@ -16,7 +17,7 @@ use std::alloc::{AllocError, Global};
 use std::collections::VecDeque;
 
 // Returns the units of a PID: moved out of the findings, or copied if a later stream has the same PID.
-#[tactic(auto, using(crate::proofs::TakenStreams::stay_same, crate::proofs::TakenStreams::stay_taken))]
+#[tactic(auto, using(crate::proofs::TakenStreams::others_same, crate::proofs::TakenStreams::stay_same, crate::proofs::TakenStreams::stay_taken))]
 fn units_of(
     alloc: Global,
     pid: u16,
@@ -28,6 +29,7 @@ fn units_of(
     ensures units { IfOk result (λ units. units.items ≡ carried_units pid (map finding_view findings.old)) }
     ensures others { IfOk result (λ units. StayCarried later.now (map finding_view findings.old)
         (map finding_view findings.new)) }
+    ensures own { OnOk result (OthersStay pid (map finding_view findings.old) (map finding_view findings.new)) }
     ensures pids { OnOk result (pids_in (map finding_view findings.new) ≡ pids_in (map finding_view findings.old)) }
 {
     if is_among(pid, later) {
@@ -65,14 +67,18 @@ fn pids_of(alloc: Global, streams: &[StreamMoments]) -> Result<Vec<u16>, AllocEr
     streams.iter().map(|stream| stream.pid).collect(alloc)
 }
 
-/// Returns the streams with their units at their moments. The bodies of these are moved out of the findings.
+/// Returns the streams with their units at their moments. The bodies of these are moved out of the findings; the
+/// units of all other PIDs remain.
 pub fn timed_streams(
     alloc: Global,
     streams: Vec<StreamMoments>,
     findings: &mut [Finding<'_>],
 ) -> Result<Vec<TimedStream>, AllocError>
-    ensures { IfOk result (λ timed. timed.items
+    ensures streams { IfOk result (λ timed. timed.items
         ≡ map (spec.timed_stream (map finding_view findings.old)) streams.items) }
+    ensures others { OnOk result (OthersCarried (map (λ s. s.pid) streams.items) (map finding_view findings.old)
+        (map finding_view findings.new)) }
+    ensures pids { OnOk result (pids_in (map finding_view findings.new) ≡ pids_in (map finding_view findings.old)) }
 {
     let links = PidLinks::new(alloc, findings)?;
     let pids = pids_of(alloc, &streams)?;

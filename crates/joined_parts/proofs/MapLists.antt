@@ -1,4 +1,4 @@
--- Findings one after another: their maps, PIDs and codings.
+-- Findings one after another: their maps, PIDs and codings
 use Rattle.std.proofs.Common.{◌≡◌, ◌∙◌, ◌<◌, ◌≤◌, ℕ, ◌+◌, List, [], ◌∷◌, length, map, drop, get_or, refl, sym, ap}
 use Rattle.std.proofs.lemmas.List.{drop_all, drop_more}
 use Rattle.pid_findings.specs.Views.{FindingView}

@@ -1,4 +1,4 @@
--- Findings that are moved one after another, and what stays of them.
+-- Findings that are moved one after another, and the parts of them that stay the same
 use Rattle.std.proofs.Common.{◌≡◌, ◌∙◌, ◌<◌, ◌≤◌, ℕ, ◌+◌, ◌++◌, Option, Some, None, List, [], ◌∷◌, length, map, take, drop}
 use Rattle.std.proofs.Common.{set, get_or, refl, sym, ap, ap₂, arith}
 use Rattle.std.proofs.lemmas.List.{append_assoc, append-nil, drop_all, drop_more, drop-set-lt, map-append, take_all, take_more_set}
@@ -17,7 +17,7 @@ use Rattle.joined_parts.specs.declared.cuts.Cut.{Cut}
 use Rattle.joined_parts.specs.declared.joins.Join.{Join}
 use Rattle.joined_parts.specs.declared.stamps.UnitStamp.{UnitStamp}
 
--- 1. One after another
+-- 1. One finding after another
 
 pub changed_more : {X : Type 0} (view : X → FindingView) (change : FindingView → FindingView) (xs : List X) (i : ℕ) (x y : X) (whole : List FindingView) →
     i < length xs → x ≡ get_or xs i x → view y ≡ change (view x) →
@@ -45,7 +45,7 @@ changed_whole {X = X} view change xs i whole all is =
     ∙ ap (λ (l : List X). map view (take i xs) ++ map change (map view l)) (sym (drop_all i xs all))
     ∙ is
 
--- 2. Nothing but stamps
+-- 2. Only stamps change
 
 same_what : (shift : ℕ) (what : WhatView) → unstamped_what (moved_what shift what) ≡ unstamped_what what
 unfolding unstamped_what moved_what
@@ -75,7 +75,7 @@ all_same j (f ∷ fs) =
 pub nothing_else : NothingElseMoves
 nothing_else references findings = all_same (joins_for references findings) findings
 
--- 3. Without a cut
+-- 3. Findings without a cut
 
 no_join : (stamps : List UnitStamp) (cuts : List Cut) → cuts ≡ [] → joins_of stamps cuts ≡ []
 unfolding joins_after

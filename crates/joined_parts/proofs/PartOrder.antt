@@ -1,4 +1,4 @@
--- The parts of a recording one after another.
+-- The parts of a recording, one after another
 use Rattle.std.proofs.Common.{◌≡◌, ◌∙◌, ◌≤◌, ◌<◌, ℕ, zero, suc, ◌+◌, ◌-◌, ◌%◌, ◌^◌, ◌&&◌, Bool, true, false, if◌then◌else◌, Option, Some, None, List, []}
 use Rattle.std.proofs.Common.{◌∷◌, refl, sym, ap, subst, arith}
 use Rattle.std.specs.Prelude.{fold, max, min, nat_le, slice_get, unwrap_or}
@@ -63,7 +63,7 @@ reach_has before cut start (x ∷ ss) zero s at part near =
     (reach_grows before cut (with_reach before cut start x) ss)
 reach_has before cut start (x ∷ ss) (suc i) s at part near = reach_has before cut (with_reach before cut start x) ss i s at part near
 
--- 2. The least DTS after it
+-- 2. The least DTS after the cut
 
 abbrev AtMost : Option ℕ → ℕ → Type 0
 AtMost None by = ⊥
@@ -106,12 +106,12 @@ or_none (Some lead) by is = is
 
 -- 3. Stamps that are moved
 
--- a stamp that is so long after a reference, moved
+-- A moved stamp, as a distance from a reference
 moved_from : (base dts shift : ℕ) → later dts shift ≡ (base + distance base dts + shift) % 2 ^ 33
 unfolding distance
 moved_from base dts shift = omega arith
 
--- so is one after the cut
+-- A moved stamp after the cut lies after the end of the part before it, by the same distance.
 ahead : (base lead by shift end dts : ℕ) → lead ≤ by → (later base lead + shift) % 2 ^ 33 ≡ end % 2 ^ 33 → dts % 2 ^ 33 ≡ (base + by) % 2 ^ 33 →
     later dts shift ≡ (end + (by - lead)) % 2 ^ 33
 ahead base lead by shift end dts least meets is = omega arith

@@ -6,5 +6,6 @@ pub mod Cuts
 pub mod UnitStamps
 pub mod Joins
 pub mod Joined
+pub mod JumpsAhead
 pub mod Recordings
 pub mod Laws

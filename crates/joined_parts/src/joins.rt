@@ -11,8 +11,8 @@ use std::alloc::{AllocError, Global};
 // The number of stamps.
 const STAMP_MODULUS: u64 = 1 << 33;
 
-// A DTS that is further after a reference says nothing of it, in units of 90 kHz: 10 s.
-const NEAREST: u64 = 900_000;
+/// A DTS that is further after a reference says nothing of it, in units of 90 kHz: 10 s.
+pub(crate) const NEAREST: u64 = 900_000;
 
 // How long after the greatest DTS of a part the next one begins, in units of 90 kHz: 0.3 s.
 const PAUSE: u64 = 27_000;
@@ -57,8 +57,8 @@ fn is_until(cut: Option<Cut>, stamp: UnitStamp) -> bool
     }
 }
 
-// Whether a unit of a clock is in the part between two of its cuts.
-fn is_between(pid: u16, from: Option<Cut>, to: Option<Cut>, stamp: UnitStamp) -> bool
+/// Returns whether a unit of a clock is in the part between two of its cuts.
+pub(crate) fn is_between(pid: u16, from: Option<Cut>, to: Option<Cut>, stamp: UnitStamp) -> bool
     ensures { result ≡ spec.is_between pid from to stamp }
 {
     stamp.clock == pid && (is_from(from, stamp) && is_until(to, stamp))
@@ -176,8 +176,8 @@ fn cut_on(pid: u16, cuts: &[Cut]) -> Option<&Cut>
     cuts.iter().find(|cut| cut.pid == pid)
 }
 
-// A copy of it.
-fn next_cut(pid: u16, cuts: &[Cut]) -> Option<Cut>
+/// Returns a copy of it.
+pub(crate) fn next_cut(pid: u16, cuts: &[Cut]) -> Option<Cut>
     ensures { result ≡ spec.next_cut pid cuts.now }
 {
     cut_on(pid, cuts).copied()

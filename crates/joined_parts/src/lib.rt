@@ -8,19 +8,22 @@
 //! - `stamps`: the DTS of units, each by the clock of its program (`specs/UnitStamps`).
 //! - `joins`: the part of each unit, and the constant of each part (`specs/Joins`).
 //! - [`part_joins`], [`PartJoins`]: the findings and references of a recording, moved (`specs/Joined`).
+//! - [`jumps_ahead`]: where the stamps of units jump ahead with their clock (`specs/JumpsAhead`).
 //! - `map_streams`, `known_maps`, `whole_maps`: each map with the streams of all maps of its program, one PID for its
 //!   clock references (`specs/MapStreams`, `specs/WholeMaps`).
 //! - `map_pids`: one PID for the maps of each program (`specs/MapPids`).
 //! - [`recodings_in`], `carried_pids`: what a PID carries before its coding changes, on a PID of its own
 //!   (`specs/Recodings`).
 //! - [`one_recording`]: the findings and references of a recording as if it had not been joined (`specs/Recordings`).
-//! - [`nothing_else_moves`], [`whole_recording_stays`], [`parts_come_in_order`]: laws over the definitions (`specs/Laws`).
+//! - [`nothing_else_moves`], [`whole_recording_stays`], [`parts_come_in_order`]: laws over the definitions
+//!   (`specs/Laws`).
 #![tactic(auto)]
 
 mod carried_pids;
 mod cuts;
 mod joined;
 mod joins;
+mod jumps;
 mod known_maps;
 mod laws;
 mod map_pids;
@@ -33,6 +36,7 @@ mod whole_maps;
 pub use cuts::Cut;
 pub use joined::{PartJoins, part_joins};
 pub use joins::Join;
+pub use jumps::jumps_ahead;
 pub use laws::{nothing_else_moves, parts_come_in_order, whole_recording_stays};
 pub use recodings::{Recoding, recodings_in};
 pub use recording::one_recording;

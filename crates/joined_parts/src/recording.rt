@@ -21,7 +21,8 @@ fn on_own_pids(
     alloc: Global,
     findings: Vec<Finding<'static>>,
 ) -> Result<Vec<Finding<'static>>, AllocError>
-    ensures { IfOk result (λ all. map finding_view all.items ≡ spec.on_own_pids (map finding_view findings.entry.items)) }
+    ensures { IfOk result (λ all. map finding_view all.items
+        ≡ spec.on_own_pids (map finding_view findings.entry.items)) }
 {
     let recodings = recodings_in(alloc, &findings)?;
     let mut findings = findings;

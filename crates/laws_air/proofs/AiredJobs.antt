@@ -43,9 +43,9 @@ use Rattle.devices.specs.declared.halt.Halt.TheVariants as halt
 use Rattle.laws_air.specs.AiredAsMuxed.{AirsWhatMuxWrites, AskTheSame, RefusesNone, TakesJob, units_alone}
 use Rattle.laws_air.proofs.WholeJobs.{all_records, first_records}
 
--- ---- the bytes after the plans
+-- The bytes after the plans
 
--- the front of known bytes was read, and the rest is left
+-- The front of known bytes was read, and the rest is left.
 record LeftOf (bytes front : List ℕ) (left : Option (List ℕ)) : Type 0 where
   rest : List ℕ
   left_is : left ≡ Some rest
@@ -58,7 +58,7 @@ left_of (Some xs) (Some rest) bytes front e c =
     let same : xs ≡ bytes = cc in
     record { rest = rest; left_is = refl; joined = sym same ∙ c }
 
--- the job that `mux` takes is that of these plans, with the units of the records after them
+-- The job that `mux` takes has these plans, and its units are the records after them.
 record IsOf (job : JobView) (rest : List ℕ) (j : MuxJobView) : Type 0 where
   units : units_in rest ≡ Ok j.units
   is : j ≡ served job j.units
@@ -87,7 +87,7 @@ is_of m o bytes j before left job b same taken l =
     let whole : job_of (is_some m.periods) bytes ≡ Ok (record job { rest = l.rest }) = ap (λ p. job_of (is_some p) bytes) (sym same) ∙ switch in
     of_units job l.rest j (units_in l.rest) refl (sym (ap with_records whole) ∙ taken)
 
--- ---- the same run
+-- The same run
 
 none_early : (early next : Option MuxError) → or_cause early next ≡ None → next ≡ None
 unfolding or_cause
@@ -100,7 +100,7 @@ scheduled_same m o job j same is =
     ap (λ p. schedule_by (record { description = job.description; plan = job.plan }) job.second (unwrap_or p 0)) same.periods
     ∙ ap (λ (x : MuxJobView). schedule_of m x) (sym is)
 
--- no unit is refused where `mux` takes the job
+-- If `mux` takes the job, no unit is refused.
 pub none_of_job : (m : MuxOptions) (o : AirOptions) (job : JobView) (j : MuxJobView) → AskTheSame m o → j ≡ served job j.units → cause_of m j ≡ None →
     first_refused (run_of o job).scheduled (capacity_for j.units) [] j.units ≡ None
 none_of_job m o job j same is taken =
@@ -125,7 +125,7 @@ plans_description d (Some second) periods = refl
 described_same : (o : AirOptions) (job : JobView) → (run_of o job).scheduled.description ≡ job.description
 described_same o job = plans_description (record { description = job.description; plan = job.plan }) job.second (unwrap_or o.periods 0)
 
--- the output of the whole job
+-- The output of the whole job
 same_output_of : (m : MuxOptions) (o : AirOptions) (job : JobView) (j : MuxJobView) → AskTheSame m o → j ≡ served job j.units →
     output_of (run_of o job).hex (run_of o job).scheduled (job_history j.units (last_at (run_of o job) (greatest_of j.units))) ≡ packets_of m j
 same_output_of m o job j same is =
@@ -139,9 +139,9 @@ same_output_of m o job j same is =
     ap (λ (hex : Bool). output_of hex (run_of o job).scheduled (job_history j.units (last_at (run_of o job) (greatest_of j.units)))) same.hex
     ∙ ap₂ (λ (x : Scheduled) (n : ℕ). output_of m.hex x (job_history j.units n)) d slots
 
--- ---- the end of the run
+-- The end of the run
 
--- all records were heard, and none was refused
+-- The run ended at the end of the input, and no record was refused.
 record Finished (why : Option Ending) (refused : Bool) : Type 0 where
   is : why ≡ Some Input
   none : refused ≡ false
@@ -166,12 +166,12 @@ finished records refused (Some (Unread fault)) stopped e = absurd (unread_status
 finished records refused (Some Slots) stopped e = absurd cc
 finished records refused (Some Records) stopped e = absurd cc
 
--- none was refused
+-- If the number of refused records is 0, no record was refused.
 none_in : (refused : List (ℕ × AirRefusal)) → nat_lt 0 (length refused) ≡ false → refused ≡ []
 none_in [] e = refl
 none_in (r ∷ rs) e = absurd (false≢true (sym e ∙ lt-ltb 0 (length (r ∷ rs)) (omega arith)))
 
--- n records were heard, none was refused, and no further one comes
+-- The run read n records and refused none, and no record follows.
 record HeardWhole (run : Run) (rest : List ℕ) (n : ℕ) : Type 0 where
   none_refused : (heard run n rest).refused ≡ []
   none_left : record_at (after_records n rest) ≡ Ok None
@@ -184,14 +184,14 @@ heard_of : (o : AirOptions) (run : Run) (input output faults : Device) (rest : L
     HeardWhole run rest e.airs.heard_is.count
 unfolding end_outcome
 heard_of o run input output faults rest e slots bytes =
-    let told = e.airs.heard_is.heard_is rest bytes in
+    let reported = e.airs.heard_is.heard_is.known rest bytes in
     let by_none = rw slots at e.status_is in
     let stopped : e.end.why ≡ None → e.end.has_refused ≡ true = λ w. e.refused ∙ ((rw w at e.ends).1).0 in
     let f = finished e.airs.came.records e.end.has_refused e.end.why stopped (sym by_none) in
     let last = rw f.is at e.ends in
     record {
-      none_refused = ap (λ a. a.refused) (sym told.0) ∙ none_in e.airs.came.refused (sym e.refused ∙ f.none);
-      none_left = (last (after_records e.airs.heard_is.count rest) told.1).0;
+      none_refused = ap (λ a. a.refused) (sym reported.0) ∙ none_in e.airs.came.refused (sym e.refused ∙ f.none);
+      none_left = (last (after_records e.airs.heard_is.count rest) reported.1).0;
     }
 
 ended_output : (m : MuxOptions) (o : AirOptions) (bytes : List ℕ) (j : MuxJobView) (input output faults : Device) → AskTheSame m o → TakesJob m bytes j →
@@ -207,9 +207,9 @@ ended_output m o bytes j input output faults same takes known air e =
     let none = none_of_job m o air.job j same of.is takes.taken in
     let none_here : first_refused (run_of o air.job).scheduled (capacity_for j.units) [] (records_of e.airs.heard_is.count l.rest) ≡ None =
     ap (λ us. first_refused (run_of o air.job).scheduled (capacity_for j.units) [] us) units ∙ none in
-    let told = e.airs.heard_is.heard_is l.rest l.left_is in
+    let reported = e.airs.heard_is.heard_is.known l.rest l.left_is in
     let here : air_output (run_of o air.job) (ended (run_of o air.job) e.airs.came) ≡ packets_of m j =
-    ap (λ a. air_output (run_of o air.job) (ended (run_of o air.job) a)) told.0
+    ap (λ a. air_output (run_of o air.job) (ended (run_of o air.job) a)) reported.0
     ∙ aired_as_multiplexed (run_of o air.job) (capacity_for j.units) e.airs.heard_is.count l.rest none_here whole.none_refused
     ∙ ap (λ us. output_of (run_of o air.job).hex (run_of o air.job).scheduled (job_history us (last_at (run_of o air.job) (greatest_of us)))) units
     ∙ same_output_of m o air.job j same of.is in
@@ -232,7 +232,7 @@ airs_what_mux_writes m o bytes j input output faults same takes known (inr (inl 
 airs_what_mux_writes m o bytes j input output faults same takes known (inr (inr (inl periods))) = absurd (let no : 0 ≡ 1 = periods.status_is in cc)
 airs_what_mux_writes m o bytes j input output faults same takes known (inr (inr (inr memory))) = absurd (let no : 0 ≡ 3 = memory.status_is in cc)
 
--- ---- records in order
+-- Records in order
 
 has_room : (o : AirOptions) (job : JobView) (j : MuxJobView) → j ≡ served job j.units →
     needed_room (lead_of (run_of o job)) j.description.streams ≤ (run_of o job).capacity →
@@ -266,5 +266,5 @@ refuses_none m o bytes j input output faults status same takes known air order e
       accepted = none_here;
       in_order = comes;
     }) in
-    let told = e.airs.heard_is.heard_is l.rest l.left_is in
-    e.refused ∙ ap (λ (a : Air). nat_lt 0 (length a.refused)) told.0 ∙ ap (λ (r : List (ℕ × AirRefusal)). nat_lt 0 (length r)) taken.refused
+    let reported = e.airs.heard_is.heard_is.known l.rest l.left_is in
+    e.refused ∙ ap (λ (a : Air). nat_lt 0 (length a.refused)) reported.0 ∙ ap (λ (r : List (ℕ × AirRefusal)). nat_lt 0 (length r)) taken.refused

@@ -1,4 +1,4 @@
--- The records of a job, counted from its front, are the units that `mux` reads of it.
+-- The first records of a job are the first units that `mux` reads from it.
 use Rattle.std.proofs.Common.{◌≡◌, ◌+◌, ℕ, zero, suc, Bool, true, false, List, [], ◌∷◌, ◌++◌, length, Option, Some, None, Result, Ok, Err, refl, sym, ◌∙◌}
 use Rattle.std.proofs.Common.{subst, arith}
 use Rattle.std.specs.Prelude.{◌==◌, if◌then◌else◌, nat_lt, slice_index}
@@ -16,7 +16,7 @@ use Rattle.tsmux_cli.proofs.UnitLists.{read_all, read_more, read_none, read_stop
 same_units : (a b : List (ℕ × AccessUnit)) → ◌≡◌ {A = Result (List (ℕ × AccessUnit)) (ℕ × UnitFileError)} (Ok a) (Ok b) → a ≡ b
 same_units a b e = cc
 
--- where some byte is left, a record comes, or a fault
+-- If any byte is left, the reader returns a record or a fault.
 not_none : (empty cut large within : Bool) (entry : ℕ × AccessUnit) → empty ≡ false →
     ◌≡◌ {A = Result (Option (ℕ × AccessUnit)) UnitFileError}
     (if empty then Ok None else (if cut then Err Cut else (if large then Err Size else (if within then Err Cut else Ok (Some entry))))) (Ok None) → ⊥
@@ -26,7 +26,7 @@ not_none false false true within entry some e = cc
 not_none false false false true entry some e = cc
 not_none false false false false entry some e = cc
 
--- where nothing is left, nothing comes after it
+-- If no record is left, `after_record` leaves the rest as it is.
 none_after : (left : List ℕ) → record_at left ≡ Ok None → after_record left ≡ left
 none_after [] e = drop-nil (head_size + size_at [])
 none_after (x ∷ left) e = absurd (not_none (length (x ∷ left) == 0) (nat_lt (length (x ∷ left)) 5) (nat_lt max_unit_size (size_at (x ∷ left)))
@@ -47,7 +47,7 @@ read_first xs units zero all = read_none xs
 read_first xs units (suc n) all =
     read_with xs units (records_of n xs) (after_records n xs) (record_at (after_records n xs)) refl all (read_first xs units n all)
 
--- all of them, where none is left
+-- The records are all units, if no record is left.
 pub all_records : (xs : List ℕ) (units : List (ℕ × AccessUnit)) (n : ℕ) → units_in xs ≡ Ok units → record_at (after_records n xs) ≡ Ok None →
     records_of n xs ≡ units
 all_records xs units n all none = same_units (records_of n xs) units (read_all xs (records_of n xs) (after_records n xs) (read_first xs units n all) none ∙ all)
@@ -57,7 +57,7 @@ unfolding joined
 joined_first done units (Ok entries) e = (entries, same_units units (done ++ entries) (sym e))
 joined_first done units (Err at) e = absurd cc
 
--- the first of them, where some may be left
+-- The records are the first units, if more records may follow.
 pub first_records : (xs : List ℕ) (units : List (ℕ × AccessUnit)) (n : ℕ) → units_in xs ≡ Ok units →
     (rest : List (ℕ × AccessUnit)) × (units ≡ records_of n xs ++ rest)
 first_records xs units n all =

@@ -1,4 +1,4 @@
--- The bytes between two clock references on which the clock goes on lie on the line through both.
+-- The bytes between two clock references with a continuous clock lie on the line through both references.
 use Rattle.std.proofs.Common.{◌≡◌, ◌∙◌, sym, ℕ, zero, suc, ◌+◌, ◌-◌, ◌*◌, ◌≤◌, ◌<◌, ◌⊎◌, ◌&&◌, not, is_some, Bool, true, false, nat_lt, List, [], ◌∷◌, ◌++◌}
 use Rattle.std.proofs.Common.{length, Option, Some, None, refl, ap, subst, inl, inr, arith}
 use Rattle.std.specs.Prelude.{IfSome, slice_get}
@@ -22,11 +22,11 @@ use Rattle.laws_arrival.specs.Between.{AreQuiet, BetweenLaw, LiesOn, line_throug
 use Rattle.laws_arrival.specs.TimedPackets.{Timed, arrived, arriving_so, timed_from, timed_packets, waiting, with_one}
 use Rattle.laws_arrival.proofs.Leads.{at_here}
 use Rattle.laws_arrival.proofs.Rising.{after_is, before_is}
-use Rattle.laws_arrival.proofs.Stands.{IsAt, Meet, MeetsLast, Origin}
+use Rattle.laws_arrival.proofs.ClockStates.{IsAt, Meet, MeetsLast, Origin}
 use Rattle.laws_arrival.proofs.TimedPackets.{many_arrive, once_from}
 use Rattle.laws_arrival.proofs.Waits.{Comes, Waits, alone_waits, comes_with, one_waits, reference_at, waits_first}
 
--- ---- elements of lists in two parts
+-- Elements of concatenated lists
 
 get_second : {A : Type 0} (xs ys : List A) (j : ℕ) → slice_get (xs ++ ys) (length xs + j) ≡ slice_get ys j
 get_second {A = A} [] ys j = let e : 0 + j ≡ j = omega arith in ap (λ (i : ℕ). slice_get ys i) e
@@ -41,7 +41,7 @@ get_so a [] rest j few = absurd (let no : ⊥ = omega (arith, few) in no)
 get_so a (bytes ∷ packets) rest zero few = refl
 get_so a (bytes ∷ packets) rest (suc j) few = get_so a packets rest j (omega (arith, few))
 
--- ---- packets in two parts
+-- Packets in two parts
 
 with_two : (q : QueueState) (xs ys : List (List ℕ)) → with_all q (xs ++ ys) ≡ with_all (with_all q xs) ys
 unfolding with_all
@@ -52,7 +52,7 @@ with_last : (q : QueueState) (xs : List (List ℕ)) (a : List ℕ) → with_all 
 unfolding with_all
 with_last q xs a = with_two q xs (a ∷ [])
 
--- those that arrive while these come
+-- The packets whose arrival becomes known during these packets
 unfoldable left : QueueState → List (List ℕ) → List Timed
 left q [] = []
 left q (bytes ∷ packets) = arrived (released q bytes) q.held ++ left (with_one q bytes) packets
@@ -75,7 +75,7 @@ many_left q xs =
     let same = length-append xs [] in
     omega (arith, whole, same, many_from q (xs ++ []), many_from (with_all q xs) [])
 
--- ---- what is so after these
+-- The waiting packets after these packets
 
 pub record WaitsAfter (q : QueueState) (here : ℕ) : Type 0 where
   pub first : ℕ
@@ -94,7 +94,7 @@ waits_all q (bytes ∷ packets) first here w =
     let one = waits_one q bytes first here w (still_wait q (reference_in q bytes)) refl in
     rw e at (waits_all (with_one q bytes) packets one.first (here + 1) one.waits)
 
--- ---- packets without a reference only wait
+-- Packets without a reference only wait
 
 still_quiet : (q : QueueState) (o : Option (ℕ × PcrSample)) → o ≡ None → length q.held < 65536 → still_wait q o ≡ true
 unfolding line_by
@@ -135,7 +135,7 @@ quiet_on (bytes ∷ between) ys q first here w quiet few =
     none_first : (held : List (List ℕ)) (rest : List Timed) → arrived None held ++ rest ≡ rest
     none_first held rest = unfold arrived in refl
 
--- ---- a reference, and the next one
+-- A reference, and the next reference
 
 taken_clock : (q : QueueState) (r : ℕ × PcrSample) (b : Bool) → still_wait q (Some r) ≡ b → (stepped_by q (Some r)).clock ≡ clocks.after q.clock r.1
 unfolding clock_by begun_by
@@ -154,7 +154,7 @@ line_is clock before sample t last same e =
     let line : line_to clock sample ≡ Some (line_through clock.moment t.sample sample) = rw (last, goes) refl in
     line ∙ ap (λ (s : PcrSample). Some (line_through clock.moment s sample)) same
 
--- ---- how the first packet arrives that waits, where a line is known
+-- The arrival of the first waiting packet, if its line is known
 
 pub record FirstOn (packets : List Timed) (first : ℕ) (line : Line) : Type 0 where
   pub lines : ClockLines
@@ -166,7 +166,7 @@ first_so : (lines : ClockLines) (held : List (List ℕ)) (rest : List Timed) (fi
     (lines.line ≡ line) ⊎ (188 * first + 10 ≤ lines.line.byte) → FirstOn (arriving_so (OnLines lines) held ++ rest) first line
 first_so lines held rest first line some before next = record { lines = lines; arrival = get_so (OnLines lines) held rest 0 some; before = before; next = next }
 
--- the next line begins with the last reference
+-- The next line is the same line, or it begins no earlier than byte 10 of the first waiting packet.
 begins_there : (q : QueueState) (o : Option (ℕ × PcrSample)) (first here : ℕ) (line l : Line) → Waits q first here → Comes q o first here →
     q.before ≡ Some line →
     (clock_by q o).line ≡ Some l → (l ≡ line) ⊎ (188 * first + 10 ≤ l.byte)
@@ -231,7 +231,7 @@ first_on (bytes ∷ packets) q first here line w is some =
     first_on packets (with_one q bytes) first (here + 1) line one (quiet_before q o h ∙ is) (omega (arith, one.held, w.held, some)))
     (still_wait q o) refl (clock_by q o).line refl
 
--- ---- all of it
+-- The law
 
 ref_at : (q : QueueState) (bytes : List ℕ) (r : ℕ × PcrSample) (first here : ℕ) → Waits q first here → reference_in q bytes ≡ Some r → IsAt 10 here r.1
 ref_at q bytes r first here w is =
@@ -260,7 +260,7 @@ unfolding arrival_by
 on_second None line = record { lines = record { before = line; line = line }; is = refl; line_is = refl }
 on_second (Some before) line = record { lines = record { before = before; line = line }; is = refl; line_is = refl }
 
--- the line of a byte in the packet of the second reference
+-- Each byte up to the second reference is on this line.
 first_line : (packets : List Timed) (m i : ℕ) (line : Line) (f : FirstOn packets m line) → i ≤ 188 * m + 10 → line_at f.lines i ≡ line
 first_line packets m i line f le = elim f.next [
   | inl same ↦ elim (cases_lt f.lines.line.byte i) [
@@ -270,7 +270,7 @@ first_line packets m i line f le = elim f.next [
   | inr far ↦ before_is f.lines i (omega (arith, le, far)) ∙ f.before
 ]
 
--- those that arrive at the second reference, and then the packet with it
+-- A byte's packet either arrives at the second reference or is the packet with the second reference.
 two_kinds : (held : List (List ℕ)) (later : List Timed) (a : Arrival) (line : Line) (f m k i : ℕ) → f + length held ≡ m → f ≤ k → SecondOn a line →
     FirstOn later m line →
     line.byte < i → i ≤ 188 * m + 10 → 188 * k ≤ i → LiesOn (arriving_so a held ++ later) (k - f) i line

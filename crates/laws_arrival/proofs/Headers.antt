@@ -1,4 +1,4 @@
--- A packet of 188 bytes with a clock reference: its payload stands behind the reference.
+-- In a packet of 188 bytes with a clock reference the payload is after the reference.
 use Rattle.std.proofs.Common.{◌≡◌, ◌∙◌, sym, ℕ, ◌+◌, ◌≤◌, Bool, true, false, is_some, List, [], ◌∷◌, length, take, drop, Option, Some, None, Result, Ok, Err}
 use Rattle.std.proofs.Common.{if◌then◌else◌, refl, ap, arith}
 use Rattle.std.specs.Prelude.{◌==◌, ◌/◌, ◌%◌, nat_lt, slice_index, unwrap_or}
@@ -15,7 +15,7 @@ use Rattle.ts_packet.specs.Reading.{adaptation_at, body_at, countdown_at, field_
 use Rattle.ts_packet.specs.Reading.{reference_of}
 use Rattle.ts_packet.specs.Views.{AdaptationView, FieldView, NoFlags, WithFlags, PacketView}
 
--- the reference of an adaptation field
+-- The reference of an adaptation field
 unfoldable pub pcr_in : Option AdaptationView → Option Reference
 pcr_in None = None
 pcr_in (Some NoFlags) = None
@@ -29,7 +29,7 @@ abbrev first_of : Result (Option Reference × List ℕ) PacketError → Option R
 first_of (Ok read) = read.0
 first_of (Err error) = None
 
--- a reference takes six bytes
+-- A reference takes six bytes.
 reference_long : (b : Bool) (bytes : List ℕ) (read : Option Reference × List ℕ) → reference_at b bytes ≡ Ok read → is_some read.0 ≡ true → 6 ≤ length bytes
 unfolding reference_at
 reference_long false bytes read e some =
@@ -43,7 +43,7 @@ reference_long true bytes read e some = by (nat_lt (length bytes) 6) refl e
     by true h e = absurd (let no : ⊥ = cc in no)
     by false h e = grind (arith, nat_tests)
 
--- so do the parts of an adaptation field that has one
+-- The parts of an adaptation field with a reference take at least six bytes.
 parts_long : (flags : ℕ) (bytes : List ℕ) (parts : FieldView) → parts_at flags bytes ≡ Ok parts → is_some parts.pcr ≡ true → 6 ≤ length bytes
 unfolding parts_at
 parts_long flags bytes parts e some =
@@ -55,7 +55,7 @@ parts_long flags bytes parts e some =
     let same = ap (λ (r : Result FieldView PacketError). pcr_of r) extension.2 in
     reference_long (flag flags 16) bytes pcr.0 pcr.1 (ap (λ (o : Option Reference). is_some o) same ∙ some)
 
--- and the field
+-- An adaptation field with a reference takes at least seven bytes.
 field_long : (bytes : List ℕ) (adaptation : AdaptationView) → adaptation_at bytes ≡ Ok adaptation → is_some (pcr_in (Some adaptation)) ≡ true → 7 ≤ length bytes
 unfolding adaptation_at pcr_in
 field_long [] NoFlags e some = absurd (let no : ⊥ = cc in no)
@@ -80,7 +80,7 @@ field_rest most (n ∷ bytes) field e some =
     let long = field_long (take n bytes) read.0 read.1 (ap (λ (a : AdaptationView). is_some (pcr_in (Some a))) first ∙ some) in
     omega (arith, long, length-take n bytes, length-drop n bytes, ap (λ (l : List ℕ). length l) rest)
 
--- so the payload of a packet that has one
+-- The payload of a packet with a reference is at least eight bytes shorter than the bytes after the header.
 body_rest : (header : Header) (control : ℕ) (bytes : List ℕ) (packet : PacketView) → body_at header control bytes ≡ Ok packet →
     is_some (pcr_in packet.adaptation) ≡ true →
     8 ≤ length bytes → 8 + length (unwrap_or packet.payload []) ≤ length bytes
@@ -123,7 +123,7 @@ packet_rest bytes packet whole e some = by (slice_index bytes 0 == 0x47) e
         omega (arith, size, whole, body_rest (header_of bytes) (slice_index bytes 3 / 16 % 4) (drop 4 bytes) packet e some (omega (arith, size, whole)))
     by false e = absurd (let no : ⊥ = cc in no)
 
--- of any packet of 188 bytes the payload has 184 bytes at most
+-- The payload of any packet of 188 bytes has at most 184 bytes.
 field_left : (most : ℕ) (bytes : List ℕ) (field : AdaptationView × List ℕ) → field_at most bytes ≡ Ok field → length field.1 ≤ length bytes
 unfolding field_at
 field_left most [] field e = absurd (let no : ⊥ = cc in no)

@@ -1,4 +1,4 @@
--- Where a line begins within a packet, its payload lies on that line.
+-- If a line begins within a packet, the packet's payload lies on that line.
 use Rattle.std.proofs.Common.{◌≡◌, sym, ℕ, ◌+◌, ◌-◌, ◌*◌, ◌≤◌, ◌<◌, ◌&&◌, not, Bool, true, false, nat_le, nat_lt, is_some, List, [], ◌∷◌, ◌++◌, length, All}
 use Rattle.std.proofs.Common.{Option, Some, None, Result, Ok, Err, if◌then◌else◌, refl, subst, inl, inr, arith}
 use Rattle.std.specs.Prelude.{IfSome, unwrap_or}
@@ -24,11 +24,11 @@ use Rattle.clocked_packets.specs.declared.packet_queue.ClockPid.{ClockPid}
 use Rattle.laws_arrival.specs.Leads.{AllLead, LeadLaw, payload_in, payload_size}
 use Rattle.laws_arrival.specs.TimedPackets.{Timed, arrived, arriving_so, timed_from, waiting, with_one}
 use Rattle.laws_arrival.proofs.Headers.{packet_rest, pcr_in}
-use Rattle.laws_arrival.proofs.Stands.{IsAt, Origin, origin_before}
+use Rattle.laws_arrival.proofs.ClockStates.{IsAt, Origin, origin_before}
 use Rattle.laws_arrival.proofs.Waits.{Comes, Waits, alone_waits, comes_with, exact, one_waits, reference_at, waits_first}
 use Rattle.laws_arrival.proofs.TimedPackets.{many_arrive}
 
--- ---- a packet with a reference has no more than 176 payload bytes
+-- Packets with a reference, which have at most 176 payload bytes
 
 sample_has : (index : ℕ) (field : Option AdaptationView) → IfSome (sample_in index field) (λ s. is_some (pcr_in field) ≡ true)
 unfolding sample_in pcr_in
@@ -68,7 +68,7 @@ read_small clock index (Ok packet) small = by (not packet.header.transport_error
 pub reference_small : (q : QueueState) (bytes : List ℕ) → length bytes ≡ 188 → IfSome (reference_in q bytes) (λ r. payload_size bytes ≤ 176)
 reference_small q bytes whole = read_small q.pid q.packets (packet_at bytes) (λ packet e has. packet_rest bytes packet whole e has)
 
--- ---- packets in which a byte stands: their payload comes after it
+-- The head of a packet: if the byte is in the packet, the payload begins after it
 
 abbrev pub HeadAt : ℕ → ℕ → List ℕ → Type 0
 HeadAt byte index bytes = 188 * index ≤ byte → byte < 188 * index + 188 → (byte + 1 - 188 * index) + payload_size bytes ≤ 188
@@ -99,11 +99,11 @@ head_before byte index (p ∷ packets) after = (
   head_before byte (index + 1) packets (omega (arith, after)),
 )
 
--- that with the reference
+-- The reference is in the head of its packet.
 reference_head : (here : ℕ) (sample : PcrSample) (bytes : List ℕ) → sample.byte ≡ 188 * here + 10 → payload_size bytes ≤ 176 → HeadAt sample.byte here bytes
 reference_head here sample bytes at small begun ends = omega (arith, at, small)
 
--- ---- so of those that arrive
+-- The same for arriving packets
 
 timed_leads : (lines : ClockLines) (index : ℕ) (packets : List (List ℕ)) → AllHead lines.line.byte index packets →
     AllLead index (arriving_so (OnLines lines) packets)
@@ -142,7 +142,7 @@ lead_append index (p ∷ ps) qs all more =
     let e : index + length (p ∷ ps) ≡ index + 1 + length ps = omega arith in
     (all.0, lead_append (index + 1) ps qs all.1 (rw e at more))
 
--- ---- what is so before each packet
+-- The waiting packets before each packet
 
 abbrev pub Heads : QueueState → ℕ → Type 0
 Heads q first = IfSome q.clock.clock.last (λ l. AllHead l.sample.byte first q.held)
@@ -153,7 +153,7 @@ line_heads last None first held heads origin = tt
 line_heads last (Some line) first held heads (inl far) = head_after line.byte first held (omega (arith, far))
 line_heads last (Some line) first held heads (inr from) = rw from.byte (rw from.is at heads)
 
--- the packet that comes, where those before wait still, and where it waits alone
+-- The last reference is in the head of its packet after one more packet, if the waiting packets still wait or if this packet waits alone.
 still_head : (q : QueueState) (o : Option (ℕ × PcrSample)) (bytes : List ℕ) (first here : ℕ) → Waits q first here → Heads q first →
     IfSome o (λ r. IsAt 10 here r.1) →
     IfSome o (λ r. payload_size bytes ≤ 176) → IfSome (clock_by q o).clock.last (λ l. AllHead l.sample.byte first (q.held ++ bytes ∷ []))
@@ -181,7 +181,7 @@ pub at_here : (q : QueueState) (o : Option (ℕ × PcrSample)) (first here : ℕ
 at_here q None first here w at = tt
 at_here q (Some r) first here w at = exact 10 q.packets here r.1 w.count at
 
--- ---- all of them
+-- All packets
 
 abbrev LaterLead : QueueState → List (List ℕ) → Type 0
 LaterLead q packets = (first here : ℕ) → Waits q first here → Heads q first → AllLead first (timed_from q packets)

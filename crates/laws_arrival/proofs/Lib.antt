@@ -1,5 +1,5 @@
 pub mod Lines
-pub mod Stands
+pub mod ClockStates
 pub mod Rising
 pub mod Headers
 pub mod Waits

@@ -1,4 +1,4 @@
--- Bytes on lines that meet.
+-- Arrival times of bytes on lines that meet.
 use Rattle.std.proofs.Common.{◌≡◌, ℕ, ◌+◌, ◌-◌, ◌*◌, ◌/◌, ◌^◌, ◌≤◌, ◌<◌, arith}
 use Rattle.std.specs.Prelude.{max}
 use Rattle.std.proofs.Math.Nat.{mul-div_cancel, mul-le-mul_left, mul-le-mul_right, div-lt_iff_lt-mul, lt-mul-div-succ}
@@ -8,7 +8,7 @@ use Rattle.arrival.specs.Lines.{arrival_at, parts_at}
 use Rattle.tstd_rows.proofs.EvenRows.{div_le}
 use Rattle.arrival.specs.ArrivalClocks.{tick_after}
 
--- a byte arrives no later than the first whole tick that is not before it
+-- A byte arrives no later than the first whole tick that is not before it.
 up : (parts bytes : ℕ) → 0 < bytes → parts ≤ (parts + (bytes - 1)) / max 1 bytes * bytes
 up parts bytes some =
     let e : max 1 bytes ≡ bytes = omega (arith, some) in
@@ -22,7 +22,7 @@ by_tick scale line i some =
     let exact : scale * (t * line.bytes) / line.bytes ≡ scale * t = rw whole (mul-div_cancel (scale * t) some) in
     rw exact at (div_le (scale * parts_at line i) (scale * (t * line.bytes)) line.bytes some le)
 
--- and that is no later than an interval for each packet before
+-- The time of a byte is at most 2^44 ticks plus 143,618 ticks for each byte before it.
 parts_soon : (line : Line) (d : ℕ) → IsClockLine line → parts_at line (line.byte + d) ≤ (2 ^ 44 + 143618 * (line.byte + d)) * line.bytes
 parts_soon line d is =
     let begun = mul-le-mul_right line.bytes is.soon in

@@ -1,4 +1,4 @@
--- Bytes of packets that arrive one after another: their times rise.
+-- The arrival times of the bytes of successive packets rise.
 use Rattle.std.proofs.Common.{◌≡◌, sym, ℕ, zero, suc, ◌+◌, ◌*◌, ◌≤◌, ◌<◌, Bool, true, false, List, [], ◌∷◌, ◌++◌, length, if◌then◌else◌, refl, inl, inr, arith}
 use Rattle.std.proofs.Common.{All}
 use Rattle.std.proofs.lemmas.Bool.{cases_lt, le-leb, lt-leb}
@@ -14,13 +14,13 @@ use Rattle.arrival.specs.declared.arrival.Arrival.TheVariants.{OnLines}
 use Rattle.arrival.specs.declared.arrival.ClockLines.{ClockLines}
 use Rattle.laws_arrival.specs.TimedPackets.{Timed, arriving_so}
 use Rattle.laws_arrival.specs.Times.{packet_times, time_of, times_among, times_from}
-use Rattle.laws_arrival.proofs.Stands.{MeetAt}
+use Rattle.laws_arrival.proofs.ClockStates.{MeetAt}
 
--- no byte arrives before an earlier one
+-- No byte arrives before an earlier byte.
 abbrev pub InOrder : Arrival → ℕ → Type 0
 InOrder arrival drain = (i j : ℕ) → i ≤ j → time_of arrival drain i ≤ time_of arrival drain j
 
--- times that rise between two moments
+-- Times that rise between two moments
 pub record Between (low high : ℕ) (times : List ℕ) : Type 0 where
   pub rises : Rises low times
   pub within : All (λ t. t ≤ high) times
@@ -36,7 +36,7 @@ both_between low middle high times more p q = record {
   order = omega (arith, p.order, q.order);
 }
 
--- bytes one after another
+-- Successive bytes have times that rise.
 pub bytes_between : (arrival : Arrival) (drain i n : ℕ) → InOrder arrival drain →
     Between (time_of arrival drain i) (time_of arrival drain (i + n)) (times_from arrival drain i n)
 unfolding times_from
@@ -54,7 +54,7 @@ bytes_between arrival drain i (suc n) order =
     } in
     both_between t (time_of arrival drain (suc i)) (time_of arrival drain (i + suc n)) (t ∷ []) (times_from arrival drain (suc i) n) one rest
 
--- packets one after another that arrive so, whichever of them count
+-- Successive packets with this arrival have times that rise, whichever packets are chosen.
 packet_between : (arrival : Arrival) (drain index : ℕ) (counts : Bool) → InOrder arrival drain →
     Between (time_of arrival drain (188 * index)) (time_of arrival drain (188 * (index + 1))) (if counts then packet_times drain index arrival else [])
 packet_between arrival drain index counts order = by counts (has_times arrival (188 * index) 188)
@@ -87,7 +87,7 @@ packets_between arrival chosen drain index (bytes ∷ packets) order =
     (if chosen index bytes then packet_times drain index arrival else []) (times_among chosen drain (index + 1) (arriving_so arrival packets))
     (packet_between arrival drain index (chosen index bytes) order) rest
 
--- more packets after these
+-- The times of concatenated lists of packets are concatenated.
 pub among-append : (chosen : ℕ → List ℕ → Bool) (drain index : ℕ) (ps qs : List Timed) →
     times_among chosen drain index (ps ++ qs) ≡ times_among chosen drain index ps ++ times_among chosen drain (index + length ps) qs
 unfolding times_among
@@ -98,7 +98,7 @@ among-append chosen drain index (p ∷ ps) qs =
     rw rest (sym (append_assoc (if chosen index p.bytes then packet_times drain index p.arrival else []) (times_among chosen drain (index + 1) ps)
     (times_among chosen drain (index + length (p ∷ ps)) qs)))
 
--- on two lines that meet
+-- Times on two lines that meet rise.
 pub before_is : (lines : ClockLines) (i : ℕ) → i ≤ lines.line.byte → line_at lines i ≡ lines.before
 before_is lines i le = rw (le-leb i lines.line.byte le) refl
 
@@ -122,7 +122,7 @@ lines_in_order lines first drain meet i j le = elim (cases_lt lines.line.byte i)
   ]
 ]
 
--- their first time, and their last
+-- The first byte of the waiting packets arrives on the earlier line, and bytes after the begin of the later line arrive on the later line.
 pub first_time : (lines : ClockLines) (first drain : ℕ) → MeetAt lines.before lines.line first →
     arrival_at drain lines.before (188 * first) ≡ time_of (OnLines lines) drain (188 * first)
 unfolding time_of

@@ -1,4 +1,4 @@
--- By stamps, where a line begins within a packet, its payload lies on that line.
+-- In a stream with stamps, if a line begins within a packet, the packet's payload lies on that line.
 use Rattle.std.proofs.Common.{◌≡◌, sym, ℕ, ◌+◌, ◌-◌, ◌*◌, ◌≤◌, ◌<◌, Bool, true, false, List, [], ◌∷◌, ◌++◌, length, All}
 use Rattle.std.proofs.Common.{Option, Some, None, Result, Ok, Err, refl, subst, arith}
 use Rattle.std.specs.Prelude.{IfSome, unwrap_or}
@@ -20,10 +20,10 @@ use Rattle.laws_arrival.specs.TimedPackets.{Timed, arrived, arriving_so, waiting
 use Rattle.laws_arrival.proofs.Headers.{packet_left}
 use Rattle.laws_arrival.proofs.Leads.{AllHead, HeadAt, Heads, head_before, head_one, line_heads, those_first, those_lead}
 use Rattle.laws_arrival.proofs.StampedPackets.{StampsWait, alone_stamped, comes_stamped, none_stamped, one_stamped, stamp_at}
-use Rattle.laws_arrival.proofs.Stands.{IsAt, origin_before}
+use Rattle.laws_arrival.proofs.ClockStates.{IsAt, origin_before}
 use Rattle.laws_arrival.proofs.Waits.{ComesAt, WaitsAt, exact}
 
--- ---- a packet of 188 bytes has no more than 184 payload bytes
+-- Packets of 188 bytes, which have at most 184 payload bytes
 
 read_left : (bytes : List ℕ) (r : Result PacketView PacketError) → packet_at bytes ≡ r → length bytes ≡ 188 → payload_in r ≤ 184
 unfolding payload_in
@@ -36,7 +36,7 @@ payload_left bytes whole = read_left bytes (packet_at bytes) refl whole
 stamp_head : (here : ℕ) (sample : PcrSample) (bytes : List ℕ) → sample.byte ≡ 188 * here + 0 → payload_size bytes ≤ 184 → HeadAt sample.byte here bytes
 stamp_head here sample bytes at small begun ends = omega (arith, at, small)
 
--- ---- what is so before each packet
+-- The waiting packets before each packet
 
 at_place : (q : QueueState) (o : Option (ℕ × PcrSample)) (first here : ℕ) → WaitsAt 0 q first here → IfSome o (λ r. IsAt 0 q.packets r.1) →
     IfSome o (λ r. IsAt 0 here r.1)
@@ -63,7 +63,7 @@ unfolding clock_by begun_by AllHead
 alone_head q None bytes here at small = tt
 alone_head q (Some r) bytes here at small = (stamp_head here r.1 bytes at.byte small, tt)
 
--- ---- all of them
+-- All packets
 
 abbrev LaterLead : StampState → QueueState → List Stamped → Type 0
 LaterLead c q packets = (first here : ℕ) → StampsWait c q first here → Heads q first → AllLead first (stamped_from c q packets)

@@ -1,4 +1,4 @@
--- Of a stream that arrives by stamps each packet arrives once, and no byte before an earlier one.
+-- In a stream with stamps each packet arrives once, and no byte arrives before an earlier byte.
 use Rattle.std.proofs.Common.{◌≡◌, ◌∙◌, sym, ℕ, ◌+◌, ◌*◌, ◌≤◌, ◌==◌, Bool, true, false, List, [], ◌∷◌, ◌++◌, length, map, Option, Some, None, if◌then◌else◌}
 use Rattle.std.proofs.Common.{refl, ap, subst, arith}
 use Rattle.std.specs.Prelude.{IfSome}
@@ -19,11 +19,11 @@ use Rattle.laws_arrival.specs.StampedPackets.{Stamped, StampedOnceLaw, StampedRi
 use Rattle.laws_arrival.specs.TimedPackets.{Timed, arrived, arriving_so, waiting}
 use Rattle.laws_arrival.specs.Times.{times_among}
 use Rattle.laws_arrival.proofs.Rising.{Between}
-use Rattle.laws_arrival.proofs.Stands.{IsAt, Meet, meets_itself}
+use Rattle.laws_arrival.proofs.ClockStates.{IsAt, Meet, meets_itself}
 use Rattle.laws_arrival.proofs.TimedPackets.{all_of, begun_by, bound, bytes_of, those_between, those_first}
 use Rattle.laws_arrival.proofs.Waits.{ComesAt, WaitsAt, comes, none_waits}
 
--- ---- each packet once
+-- The packets, each of them once
 
 stamped_once : (packets : List Stamped) (c : StampState) (q : QueueState) →
     map (λ p. p.bytes) (stamped_from c q packets) ≡ q.held ++ map (λ p. p.bytes) packets
@@ -37,7 +37,7 @@ stamped_once (p ∷ packets) c q =
 pub once_law : StampedOnceLaw
 once_law pid packets = stamped_once packets no_stamp (no_packet pid)
 
--- ---- the sample of a packet stands at its first byte
+-- The sample of a packet, which is at its first byte
 
 near_at : (index : ℕ) (value : StampValue) (b : Bool) → is_near index ≡ b → IfSome (if b then Some (sample_of index value) else None) (IsAt 0 index)
 near_at index value true e = record { byte = omega arith; small = omega arith; near = grind (arith, nat_tests) }
@@ -56,9 +56,9 @@ stamp_at c head =
     given_at c.packets (step_at c head).sample
     (if_at (is_same (ticks_since c.last (stamp_in head))) c.packets (value_after c.last (stamp_in head)))
 
--- ---- a packet comes
+-- One more packet
 
--- what is so before it
+-- The waiting packets before this packet
 pub record StampsWait (c : StampState) (q : QueueState) (first here : ℕ) : Type 0 where
   pub waits : WaitsAt 0 q first here
   pub count : c.packets ≡ q.packets
@@ -69,7 +69,7 @@ comes_stamped c q head first here w =
     comes 0 q (given_sample (step_at c head).sample) first here w.waits
     (subst (λ (n : ℕ). IfSome (given_sample (step_at c head).sample) (λ r. IsAt 0 n r.1)) w.count (stamp_at c head))
 
--- those that wait still, with one more
+-- If the waiting packets still wait, this packet waits with them.
 pub one_stamped : (c : StampState) (q : QueueState) (head : ℕ) (bytes : List ℕ) (first here : ℕ) → StampsWait c q first here →
     ComesAt 0 q (given_sample (step_at c head).sample) first here → still_wait q (given_sample (step_at c head).sample) ≡ true →
     StampsWait (after c head) (with_stamped q (step_at c head).sample bytes) first (here + 1)
@@ -84,7 +84,7 @@ one_stamped c q head bytes first here s c' h = record {
   count = omega (arith, s.count);
 }
 
--- or the packet alone, where the others arrive
+-- If the waiting packets arrive, this packet waits alone.
 pub alone_stamped : (c : StampState) (q : QueueState) (head : ℕ) (bytes : List ℕ) (first here : ℕ) → StampsWait c q first here →
     ComesAt 0 q (given_sample (step_at c head).sample) first here → still_wait q (given_sample (step_at c head).sample) ≡ false →
     StampsWait (after c head) (with_stamped q (step_at c head).sample bytes) here (here + 1)
@@ -99,7 +99,7 @@ alone_stamped c q head bytes first here s c' h = record {
   count = omega (arith, s.count);
 }
 
--- ---- all of them
+-- All packets
 
 abbrev LaterRise : StampState → QueueState → List Stamped → (ℕ → List ℕ → Bool) → ℕ → Type 0
 LaterRise c q packets chosen drain = (first here : ℕ) → StampsWait c q first here →

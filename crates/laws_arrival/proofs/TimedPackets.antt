@@ -1,4 +1,4 @@
--- Of a stream that arrives by clock references each packet arrives once, and no byte before an earlier one.
+-- In a stream with clock references each packet arrives once, and no byte arrives before an earlier byte.
 use Rattle.std.proofs.Common.{◌≡◌, ◌∙◌, sym, ℕ, ◌+◌, ◌*◌, ◌≤◌, ◌<◌, Bool, true, false, List, [], ◌∷◌, ◌++◌, length, map, Option, Some, None, if◌then◌else◌}
 use Rattle.std.proofs.Common.{refl, ap, subst, inl, arith}
 use Rattle.std.specs.Prelude.{IfSome}
@@ -15,11 +15,11 @@ use Rattle.arrival.specs.declared.arrival.ClockLines.{ClockLines}
 use Rattle.clocked_packets.specs.Waiting.{QueueState, arrival_by, clock_by, last_arrival, no_packet, reference_in, released, still_wait}
 use Rattle.laws_arrival.specs.TimedPackets.{EachOnceLaw, Timed, arrived, arriving_so, timed_from, waiting, with_one}
 use Rattle.laws_arrival.specs.Times.{RisesLaw, times_among}
-use Rattle.laws_arrival.proofs.Stands.{Meet, MeetAt, meets_itself}
+use Rattle.laws_arrival.proofs.ClockStates.{Meet, MeetAt, meets_itself}
 use Rattle.laws_arrival.proofs.Rising.{Between, among-append, both_between, first_time, last_time, lines_in_order, none_between, packets_between}
 use Rattle.laws_arrival.proofs.Waits.{Comes, Waits, alone_waits, comes_with, one_waits, waits_first}
 
--- ---- each packet once
+-- The packets, each of them once
 
 pub bytes_of : (arrival : Arrival) (packets : List (List ℕ)) → map (λ p. p.bytes) (arriving_so arrival packets) ≡ packets
 bytes_of arrival [] = refl
@@ -44,9 +44,9 @@ once_from q (bytes ∷ packets) = all_of (released q bytes) q.held packets bytes
 pub each_once : EachOnceLaw
 each_once pid packets = once_from (no_packet pid) packets
 
--- ---- those that arrive on their lines
+-- Packets that arrive on their lines
 
--- when the first byte of the packet at an index comes on a line
+-- The time at which the first byte of packet `index` arrives on a line
 unfoldable pub bound : ℕ → ℕ → Option Line → ℕ
 bound drain index None = 0
 bound drain index (Some line) = arrival_at drain line (188 * index)
@@ -92,14 +92,14 @@ pub begun_by : (line : Option Line) (first here : ℕ) → IfSome line (λ l. Is
 begun_by None first here is le = tt
 begun_by (Some line) first here is le = omega (arith, is.1, le)
 
--- ---- all of them
+-- All packets
 
--- what is so of all that come later
+-- The times of all later packets rise.
 abbrev LaterRise : QueueState → List (List ℕ) → (ℕ → List ℕ → Bool) → ℕ → Type 0
 LaterRise q packets chosen drain = (first here : ℕ) → Waits q first here →
     Rises (bound drain first q.before) (times_among chosen drain first (timed_from q packets))
 
--- packets that arrive so, and then others
+-- If the times of these packets rise, and then the times of the rest, all times rise.
 pub those_first : (chosen : ℕ → List ℕ → Bool) (drain first here low middle : ℕ) (a : Arrival) (held : List (List ℕ)) (o : Option Arrival) (rest : List Timed) →
     o ≡ Some a →
     first + length held ≡ here → Between low middle (times_among chosen drain first (arriving_so a held)) → Rises middle (times_among chosen drain here rest) →

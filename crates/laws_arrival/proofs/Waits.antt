@@ -1,4 +1,4 @@
--- Packets that wait, and those that no longer do: what is so of them before each packet.
+-- The state of the waiting packets before each packet, and the packets whose arrival becomes known.
 use Rattle.std.proofs.Common.{◌≡◌, ◌∙◌, sym, ℕ, ◌+◌, ◌-◌, ◌^◌, ◌≤◌, ◌&&◌, not, nat_lt, is_some, Bool, true, false, List, [], ◌∷◌, length, Option, Some, None}
 use Rattle.std.proofs.Common.{Result, Ok, Err, if◌then◌else◌, refl, subst, arith}
 use Rattle.std.specs.Prelude.{IfSome, min}
@@ -17,9 +17,9 @@ use Rattle.clocked_packets.specs.Waiting.{QueueState, begun_by, clock_by, is_of_
 use Rattle.clocked_packets.specs.Waiting.{still_wait}
 use Rattle.clocked_packets.specs.declared.packet_queue.ClockPid.{ClockPid}
 use Rattle.laws_arrival.specs.TimedPackets.{waiting, with_one}
-use Rattle.laws_arrival.proofs.Stands.{IsAt, Meet, Next, Origin, Stands, meets_itself, next, origin_before, stands_later, stands_without}
+use Rattle.laws_arrival.proofs.ClockStates.{IsAt, Meet, Next, Origin, IsStateAt, meets_itself, next, origin_before, state_later, state_without}
 
--- ---- the reference of a packet stands at its byte
+-- The reference of a packet, which is at its byte 10
 
 near_sample : (index : ℕ) (anew : Bool) (pcr : Reference) (b : Bool) → is_near index ≡ b →
     IfSome (if b then Some (sample_of index anew pcr) else None) (IsAt 10 index)
@@ -55,18 +55,18 @@ unfolding reference_read
 reference_at clock index (Err error) = tt
 reference_at clock index (Ok packet) = packet_reference clock index packet
 
--- ---- what is so before a packet: those from index `first` on wait
+-- The state before packet `here`: the packets from `first` on wait
 
-abbrev pub ClockStands : ℕ → ArrivalClockState → ℕ → ℕ → Type 0
-ClockStands d clock first here = Stands d clock.clock.last clock.moment clock.line first here
+abbrev pub IsClockAt : ℕ → ArrivalClockState → ℕ → ℕ → Type 0
+IsClockAt d clock first here = IsStateAt d clock.clock.last clock.moment clock.line first here
 
 pub record WaitsAt (d : ℕ) (q : QueueState) (first here : ℕ) : Type 0 where
   pub count : q.packets ≡ min here (2 ^ 64 - 1)
   pub held : first + length q.held ≡ here
   pub before : q.before ≡ q.clock.line
-  pub clock : ClockStands d q.clock first here
+  pub clock : IsClockAt d q.clock first here
 
--- by clock references
+-- The state for clock references, which are at byte 10
 abbrev pub Waits : QueueState → ℕ → ℕ → Type 0
 Waits q first here = WaitsAt 10 q first here
 
@@ -76,19 +76,19 @@ none_waits d pid = record { count = refl; held = refl; before = refl; clock = re
 pub waits_first : (pid : ClockPid) → Waits (no_packet pid) 0 0
 waits_first pid = none_waits 10 pid
 
--- ---- a packet comes
+-- One more packet
 
--- a reference within the first 2^40 bytes is that of the packet at the index to which all are counted
+-- In the first 2^40 bytes the count of packets is exact, so a reference is in packet `here`.
 pub exact : (d packets here : ℕ) (sample : PcrSample) → packets ≡ min here (2 ^ 64 - 1) → IsAt d packets sample → IsAt d here sample
 exact d packets here sample count at =
     let e : packets ≡ here = omega (arith, count, at.byte, at.near) in
     subst (λ (i : ℕ). IsAt d i sample) e at
 
--- what it leaves: those that wait, from `first'` on, and how those before arrive
+-- The state after the packet, if the packets from `first` on still wait or if they arrive, and how the two lines meet.
 pub record ComesAt (d : ℕ) (q : QueueState) (o : Option (ℕ × PcrSample)) (first here : ℕ) : Type 0 where
-  pub stays : still_wait q o ≡ true → ClockStands d (clock_by q o) first (here + 1)
+  pub stays : still_wait q o ≡ true → IsClockAt d (clock_by q o) first (here + 1)
   pub no_line : still_wait q o ≡ true → (clock_by q o).line ≡ q.clock.line
-  pub leaves : still_wait q o ≡ false → ClockStands d (begun_by (clock_by q o) o) here (here + 1)
+  pub leaves : still_wait q o ≡ false → IsClockAt d (begun_by (clock_by q o) o) here (here + 1)
   pub same_line : (begun_by (clock_by q o) o).line ≡ (clock_by q o).line
   pub meets : Meet q.clock.line (clock_by q o).line first
   pub none : (clock_by q o).line ≡ None → q.clock.line ≡ None
@@ -114,9 +114,9 @@ unfolding line_by clock_by begun_by
 comes d q None first here w at =
     let le : first ≤ here = omega (arith, w.held) in
     record {
-      stays = λ e. stands_later d q.clock.clock.last q.clock.moment q.clock.line first here w.clock;
+      stays = λ e. state_later d q.clock.clock.last q.clock.moment q.clock.line first here w.clock;
       no_line = λ e. refl;
-      leaves = λ e. stands_without d q.clock first here w.clock le;
+      leaves = λ e. state_without d q.clock first here w.clock le;
       same_line = refl;
       meets = meets_itself q.clock.line first w.clock.begun;
       none = λ e. e;
@@ -127,18 +127,18 @@ comes d q (Some r) first here w at =
     let n : Next d q.clock r.1 first here = next d q.clock r.1 first here w.clock le (exact d q.packets here r.1 w.count at) in
     let few : Bool = nat_lt (length q.held) 65536 in
     record {
-      stays = λ e. n.stands first (if_none (line_to q.clock r.1) first here (none_given (line_to q.clock r.1) few e));
+      stays = λ e. n.state_is first (if_none (line_to q.clock r.1) first here (none_given (line_to q.clock r.1) few e));
       no_line = λ e.
           let none : line_to q.clock r.1 ≡ None = none_given (line_to q.clock r.1) few e in
           none ∙ sym (n.none none);
-      leaves = λ e. n.stands here (if_here (line_to q.clock r.1) here);
+      leaves = λ e. n.state_is here (if_here (line_to q.clock r.1) here);
       same_line = refl;
       meets = n.meets;
       none = n.none;
       origin = n.origin;
     }
 
--- those that wait still, with one more
+-- If the waiting packets still wait, this packet waits with them.
 pub one_waits : (q : QueueState) (bytes : List ℕ) (first here : ℕ) → Waits q first here → Comes q (reference_in q bytes) first here →
     still_wait q (reference_in q bytes) ≡ true → Waits (with_one q bytes) first (here + 1)
 unfolding waiting
@@ -149,7 +149,7 @@ one_waits q bytes first here w c h = record {
   clock = rw h (c.stays h);
 }
 
--- or the packet alone, where the others arrive
+-- If the waiting packets arrive, this packet waits alone.
 pub alone_waits : (q : QueueState) (bytes : List ℕ) (first here : ℕ) → Waits q first here → Comes q (reference_in q bytes) first here →
     still_wait q (reference_in q bytes) ≡ false → Waits (with_one q bytes) here (here + 1)
 unfolding waiting

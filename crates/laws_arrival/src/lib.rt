@@ -4,8 +4,8 @@
 //! packet of a stream arrives by clock references, once it no longer waits for its line; `Leads` is about packets
 //! within which another line begins, and `Between` about the bytes between two references.
 //!
-//! - [`laws`]: by clock references no byte arrives before an earlier one, also from one line to the next and where the clock restarts,
-//!   and the bytes between two references lie on the line through both, if the clock continues.
+//! - [`laws`]: by clock references no byte arrives before an earlier one, also from one line to the next and where the
+//!   clock restarts, and the bytes between two references lie on the line through both, if the clock continues.
 #![tactic(auto)]
 
 pub mod laws;

@@ -35,7 +35,7 @@ use Rattle.es_moments.specs.WireUnits.{CarriedUnit, unit_with}
 abbrev HasBytes : AccessUnit → Type 0
 HasBytes u = 1 ≤ length u.bytes
 
--- a unit in front, unless it is empty
+-- A unit is put before the later units, unless it is empty.
 some_or : (u : CarriedUnit) (later : List CarriedUnit) (b : Bool) → length u.unit.bytes == 0 ≡ b → All HasBytes (map (λ x. x.unit) later) →
     All HasBytes (map (λ x. x.unit) (if b then later else u ∷ later))
 some_or u later true e all = all
@@ -63,7 +63,7 @@ each_has_bytes split pid (f ∷ fs) = by_have_bytes split pid (role_of pid f) fs
 have_bytes : (pid : ℕ) (findings : List FindingView) → All HasBytes (wire_units pid findings)
 have_bytes pid findings = each_has_bytes (is_split pid findings) pid findings
 
--- with other DTS too
+-- The units have bytes with other DTS too.
 still_have_bytes : (ds : List ℕ) (us : List CarriedUnit) → All HasBytes (map (λ x. x.unit) us) → All HasBytes (map (λ x. x.unit) (with_dts ds us))
 unfolding with_dts
 still_have_bytes [] us all = All-nil HasBytes
@@ -77,7 +77,7 @@ unfolding source_of
 sources_have_bytes false pid findings = still_have_bytes (apart_dts 0 (carried_units pid findings)) (carried_units pid findings) (have_bytes pid findings)
 sources_have_bytes true pid findings = still_have_bytes (made_dts (pts_of (carried_units pid findings))) (carried_units pid findings) (have_bytes pid findings)
 
--- 2. The units of a stream keep what it declares
+-- 2. The units of a stream keep its declaration
 
 found_kept : UnitsAreKept → (made : Bool) (line : Scheduled) (findings : List FindingView) (pid k : ℕ) (s : DescribedStream) (us : List AccessUnit) →
     AreFound made findings pid us → Declares line.description s us → Kept (owned_stream line k s) us
@@ -96,13 +96,13 @@ all_kept law made line findings units ranges are = record {
   kept = λ k s is. (let stream = are.streams k s is in found_kept law made line findings s.pid k s (units_of k units) stream.found stream.declares);
 }
 
--- a number below the length of a list is that of one of it
+-- A list has an element at each number below its length.
 pub stream_there : {X : Type 0} (streams : List X) (k : ℕ) → k < length streams → (s : X) × (slice_get streams k ≡ Some s)
 stream_there [] k lt = absurd (omega (arith, lt))
 stream_there (s ∷ streams) zero lt = (s, refl)
 stream_there (s ∷ streams) (suc k) lt = stream_there streams k (omega (arith, lt))
 
--- so do those of several inputs
+-- The units of a stream of a job of several inputs were found in one input.
 pub record FoundSomewhere (made : Bool) (inputs : List (List FindingView)) (d : Described) (s : DescribedStream) (us : List AccessUnit) : Type 0 where
   pub origin : Origin
   pub is : IsStreamIn made inputs origin d s us
@@ -122,9 +122,9 @@ all_kept_in law made line inputs origins units ranges are = record {
       found_kept law made line (findings_in inputs one.origin.input) one.origin.pid k s (units_of k units) one.is.found one.is.declares);
 }
 
--- 3. One after another
+-- 3. All units in turn
 
--- what the streams of a line have: rules in their ranges, and few units that are kept
+-- The streams of a line have rules in their ranges, and few units, which keep their declarations
 record AllFit (line : Scheduled) (all : List (ℕ × AccessUnit)) : Type 0 where
   kept : UnitsKept line (λ k. units_of k all)
   few : (k : ℕ) (s : DescribedStream) → slice_get line.description.streams k ≡ Some s → length (units_of k all) ≤ 1048576

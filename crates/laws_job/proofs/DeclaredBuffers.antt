@@ -13,7 +13,7 @@ use Rattle.laws_job.specs.DeclaredBuffers.{DeclaredLaw, program_parts, stream_pa
 use Rattle.laws_job.proofs.TextsDescribed.{texts_are_described}
 use Rattle.job_programs.specs.Events.{events_text}
 
--- the text of a description, by its parts
+-- The text of a description, made of its parts
 abbrev text_of_parts : JobOptionsView → JobInputView → ℕ → List ℕ
 text_of_parts options input rate =
     heading_text (heading_of input rate)

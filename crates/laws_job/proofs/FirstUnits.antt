@@ -1,4 +1,4 @@
--- The first units of a job are due 2 s after the run's begin or later.
+-- The first units of a job are due at least 2 s after the start of the run.
 use Rattle.std.proofs.Common.{◌≡◌, ◌≤◌, ◌<◌, ℕ, zero, suc, ◌+◌, ◌-◌, ◌%◌, ◌^◌, Bool, true, false, min, List, [], ◌∷◌, map, Some, None, Ok, slice_get}
 use Rattle.std.proofs.Common.{option_map, All, refl, sym, ap, subst, ◌∙◌, inl, inr, arith, eq-eqb}
 use Rattle.std.proofs.Math.Nat.{le_trans}
@@ -22,7 +22,7 @@ use Rattle.job_programs.proofs.Steps.{granted, same_value, each_all}
 use Rattle.laws_job.specs.FirstUnits.{head_stamp, stamps_beside, BeginsNear}
 use Rattle.es_moments.specs.WireUnits.{CarriedUnit}
 
--- ---- the earliest of several
+-- The earliest of several stamps
 
 min_more : (from least : ℕ) (stamps : List ℕ) → min_distance from least stamps ≤ least
 unfolding min_distance
@@ -34,7 +34,7 @@ unfolding is_same_clock
 same_clock (References pid) = eq-eqb pid pid refl
 same_clock (Own number) = eq-eqb number number refl
 
--- whether a stream counts by a clock
+-- Whether a stream uses this clock
 abbrev counts_by : List JobProgramView → WireStreamView → ProgramClock → Bool
 counts_by programs s clock = is_same_clock (clock_in programs s.program) clock
 
@@ -49,12 +49,12 @@ other_stamp : (programs : List JobProgramView) (x : WireStreamView) (clock : Pro
 unfolding is_on_clock first_dts_of
 other_stamp programs x clock streams other = rw other refl
 
--- a stream counts by its own clock
+-- A stream uses its own clock.
 counts_by_own : (programs : List JobProgramView) (x s : WireStreamView) → x ≡ s → counts_by programs x (clock_in programs s.program) ≡ true
 counts_by_own programs x s same =
     ap (λ (y : WireStreamView). is_same_clock (clock_in programs y.program) (clock_in programs s.program)) same ∙ same_clock (clock_in programs s.program)
 
--- the stamps of a clock have that of each of its streams
+-- The least distance of the stamps of a clock is no greater than the distance of any of its streams.
 min_of : (programs : List JobProgramView) (from least i : ℕ) (s : WireStreamView) (streams : List WireStreamView) → slice_get streams i ≡ Some s →
     min_distance from least (stamps_beside programs streams s) ≤ distance from (first_dts s.units)
 unfolding min_distance
@@ -77,7 +77,7 @@ min_of programs from least (suc i) s (x ∷ streams) is =
           (min_of programs from least i s streams is)
     ]
 
--- ---- the first DTS as a moment
+-- The first DTS as a moment
 
 due_from : (programs : List JobProgramView) (tables : List JobTableView) (streams : List WireStreamView) →
     (180000 ≤ earliest programs tables streams) × (earliest programs tables streams ≤ 225000)
@@ -94,7 +94,7 @@ at_base due first stamps stamp most least near =
     let is = constant_least due first stamps stamp (omega (arith, most)) least (omega (arith, near, most)) in
     omega (arith, is)
 
--- that of a program is counted from its first stream's
+-- Counted from the base of a clock, each first DTS is at least `due`.
 first_due : (due : ℕ) (stamps : List ℕ) (stamp : ℕ) → due ≤ 225000 →
     min_distance (head_stamp stamps % 2 ^ 33 + 2 ^ 32) (2 ^ 32) stamps ≤ after_half (head_stamp stamps % 2 ^ 33) stamp →
     after_half (head_stamp stamps % 2 ^ 33) stamp + 225000 < 2 ^ 33 → (stamps ≡ [] → ⊥) → due ≤ distance (base_for due stamps) stamp
@@ -119,7 +119,7 @@ some_stamps programs (suc i) s (x ∷ streams) is none =
       | inr n ↦ some_stamps programs i s streams is (sym (other_stamp programs x clock streams n) ∙ none)
     ]
 
--- ---- all units after the first
+-- All units after the first
 
 later_due : (from base before : ℕ) (us : List AccessUnit) → from ≤ before → All (λ u. from ≤ u.dts) (moved base (Some before) us)
 unfolding moved unit_at dts_at
@@ -137,15 +137,15 @@ all_due from base (u ∷ us) first =
     All-cons (λ (v : AccessUnit). from ≤ v.dts) (unit_at base None u) (moved base (Some (distance base u.dts)) us) (first u us refl)
     (later_due from base (distance base u.dts) us (first u us refl))
 
--- ---- a stream
+-- A stream
 
--- the first unit on the wire has the first DTS
+-- The first unit on the wire has the first DTS.
 wire_first : (units : List CarriedUnit) (u : AccessUnit) (rest : List AccessUnit) → map (λ c. c.unit) units ≡ u ∷ rest → u.dts ≡ first_dts units
 unfolding first_dts
 wire_first [] u rest is = absurd (let no : ⊥ = cc in no)
 wire_first (c ∷ cs) u rest is = let same : c.unit ≡ u = cc in sym (ap (λ (v : AccessUnit). v.dts) same)
 
--- a stream among these, which begins near the others on its clock
+-- A stream of this list that begins near the rest of the streams on its clock
 abbrev IsHere : List JobProgramView → List WireStreamView → WireStreamView → Type 0
 IsHere programs streams s = ((i : ℕ) × (slice_get streams i ≡ Some s)) × BeginsNear programs streams s
 
@@ -166,7 +166,7 @@ stream_late findings due programs streams s t range here is =
     let dts : u.dts ≡ first_dts s.units = wire_first s.units u rest e in
     subst (λ (n : ℕ). 180000 ≤ distance base n) (sym dts) (le_trans range.0 from)))
 
--- ---- all streams
+-- All streams
 
 all_here : (programs : List JobProgramView) (streams rest : List WireStreamView) (from : ℕ) → ((i : ℕ) → slice_get streams (from + i) ≡ slice_get rest i) →
     All (BeginsNear programs streams) rest → All (IsHere programs streams) rest

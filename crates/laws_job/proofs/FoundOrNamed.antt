@@ -1,4 +1,4 @@
--- What is found on a stream's PID is found again in the bytes of the job, or a line says why not.
+-- Each finding on a stream's PID is found again in the bytes of the job, or a line says why not.
 use Rattle.std.proofs.Common.{◌≡◌, ◌∙◌, ◌⊎◌, inl, inr, ℕ, zero, suc, ◌+◌, ◌-◌, ◌^◌, Bool, true, List, [], ◌∷◌, ◌++◌, map, Contains}
 use Rattle.std.proofs.Common.{ap, subst, refl, arith}
 use Rattle.pes_packet.specs.AccessUnits.{AccessUnit}
@@ -15,7 +15,7 @@ use Rattle.laws_job.specs.LeftOut.{IsNamedUnit, IsCarriedOrNamed, IsInUnit, PesA
 use Rattle.laws_job.specs.JoinedLaws.{JoinedAgainLaw}
 use Rattle.laws_job.specs.FoundOrNamed.{IsAgain, units_again, FoundOrNamedLaw, JoinedOrNamedLaw}
 
--- 1. Units that are later
+-- 1. Units with later stamps
 
 later_bytes : (time : ℕ) (us : List CarriedUnit) → map (λ v. v.bytes) (map (later_by time) (map (λ u. u.unit) us)) ≡ map (λ u. u.unit.bytes) us
 later_bytes time [] = refl
@@ -25,7 +25,7 @@ later_marks : (time : ℕ) (us : List CarriedUnit) → map (λ v. v.marks) (map 
 later_marks time [] = refl
 later_marks time (u ∷ us) = ap (λ (ms : List Marks). u.unit.marks ∷ ms) (later_marks time us)
 
--- with the same marks and bytes in a row, each is there
+-- If the found units have the same marks and bytes in the same order, each unit is found again.
 each_again : (us : List CarriedUnit) (found : List AccessUnit) (u : CarriedUnit) → map (λ v. v.marks) found ≡ map (λ w. w.unit.marks) us →
     map (λ v. v.bytes) found ≡ map (λ w. w.unit.bytes) us → Contains us u → IsAgain found u
 each_again [] found u marks bytes (k, lt, e) = absurd (omega (arith, lt))
@@ -60,7 +60,7 @@ unit_again pid time findings found u is at =
 
 -- 2. A PES packet
 
--- what is so of its unit
+-- A property of its unit may be replaced by a property that follows from it.
 in_unit : (pid : ℕ) (before : List FindingView) (f : FindingView) (later : List FindingView) (body : List ℕ) (IsSo IsThen : CarriedUnit → Type 0) →
     ((u : CarriedUnit) → IsSo u → IsThen u) → IsInUnit pid before f later body IsSo → IsInUnit pid before f later body IsThen
 in_unit pid before f later body IsSo IsThen makes is = record {
@@ -87,7 +87,7 @@ again_or_named : (pid count time : ℕ) (findings : List FindingView) (found : L
 again_or_named pid count time findings found u is (inl carried) = inl (unit_again pid time findings found u is carried)
 again_or_named pid count time findings found u is (inr named) = inr named
 
--- 3. All of them
+-- 3. All PES packets
 
 pes_of : (pid count : ℕ) (before : List FindingView) (f : FindingView) (later : List FindingView) (header : PesHeader) (unended : Bool) (body : List ℕ) →
     Accounted pid count before f later f.what → f.what ≡ IsPes header unended body →
@@ -95,7 +95,7 @@ pes_of : (pid count : ℕ) (before : List FindingView) (f : FindingView) (later 
 unfolding Accounted
 pes_of pid count before f later header unended body holds is = subst (λ (what : WhatView). Accounted pid count before f later what) is holds
 
--- the units that are found are those of the PID, later
+-- If the found units are the units of the PID with later stamps, each PES packet is found or named.
 each_named : (pid count time : ℕ) (found : List AccessUnit) (before : List FindingView) (f : FindingView) (later : List FindingView) (header : PesHeader)
     (unended : Bool) (body : List ℕ) → NothingIsSilent → found ≡ map (later_by time) (apart_wire_units pid (before ++ f ∷ later)) →
     has_pid pid f.pid ≡ true → f.what ≡ IsPes header unended body →

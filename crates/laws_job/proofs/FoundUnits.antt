@@ -1,4 +1,4 @@
--- What is found in the bytes of a job are the units that were found before.
+-- A demultiplexer finds in the bytes of a job the units that were found in its input.
 use Rattle.std.proofs.Common.{◌≡◌, ◌≤◌, ℕ, ◌+◌, ◌-◌, ◌^◌, ◌%◌, List, [], ◌∷◌, length, map, Some, None, slice_get, All, refl, sym, ap, ◌∙◌, arith}
 use Rattle.std.proofs.lemmas.List.Elements.{All-nil, All-cons, All-head, All-tail}
 use Rattle.own_slots.specs.Slots.{own_slots}
@@ -28,7 +28,7 @@ some_bytes r [] all = All-nil (λ (u : AccessUnit). 1 ≤ length u.bytes)
 some_bytes r (u ∷ us) all =
     All-cons (λ (v : AccessUnit). 1 ≤ length v.bytes) u us (All-head (IsUnit r) u us all).some (some_bytes r us (All-tail (IsUnit r) u us all))
 
--- units that keep what is declared, and are all due, are sent whole
+-- Units that keep their declaration and are all due are sent whole.
 whole : (line : Scheduled) (k n : ℕ) (s : DescribedStream) (us : List AccessUnit) → Promised line.description line.schedule →
     slice_get line.description.streams k ≡ Some s →
     Kept (owned_stream line k s) us → AllDue line.description.rate n us → All (IsWhole (owned_stream line k s)) (sent_units (owned_stream line k s) n us)
@@ -37,7 +37,7 @@ whole line k n s us promised is kept due =
     record { spaced = kept.spaced; sized = kept.sized; allowed = kept.allowed } in
     sent_whole (owned_stream line k s) s.rx n us due ((promised.streams k s (map (timed (owned_stream line k s)) us) is keeps).arrived n)
 
--- on their PID they are found
+-- The units are found on their PID.
 units_again : (line : Scheduled) (units : ℕ → List AccessUnit) (n k : ℕ) (s : DescribedStream) (bytes : List ℕ) → Promised line.description line.schedule →
     slice_get line.description.streams k ≡ Some s → Kept (owned_stream line k s) (units k) → All Sixteen (units k) → AllDue line.description.rate n (units k) →
     GivenBack line units n bytes → wire_units s.pid (all_found bytes) ≡ map (later_by line.description.base0) (units k)
@@ -47,12 +47,12 @@ units_again line units n k s bytes promised is kept sixteen due back =
     ap (map (λ u. u.unit)) (sym (same_units s.pid (all_found bytes))) ∙ ap (wire_units s.pid) (back.streams k s is)
     ∙ found_again s.pid n l us (own_slots l.own 0 n) (whole line k n s us promised is kept due) (some_bytes l.parameters us kept.units) sixteen
 
--- and they are those of the wire
+-- The found units are the units on the wire with later stamps.
 wire_again : (base base0 : ℕ) (wire us found : List AccessUnit) → AreMoved wire base us → found ≡ map (later_by base0) us →
     found ≡ map (later_by (base0 + 2 ^ 33 - base)) wire
 wire_again base base0 wire us found are is = is ∙ ap (map (later_by base0)) are.are ∙ moved_later base base0 None wire are.range
 
--- a whole range later is no later
+-- Stamps that are moved by the whole range are unchanged.
 pub same_stamps : (time : ℕ) (us : List AccessUnit) → All IsOnWire us → map (later_by (time + 2 ^ 33 - time)) us ≡ us
 same_stamps time [] all = refl
 same_stamps time (u ∷ us) all =

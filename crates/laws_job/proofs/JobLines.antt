@@ -1,4 +1,4 @@
--- A job has the lines of its streams, of damaged packets, and of streams that are left out.
+-- A job has the lines of its streams, a line for each damaged packet, and a line for each stream that is left out.
 use Rattle.std.proofs.Common.{◌≡◌, ◌∙◌, ◌⊎◌, inl, inr, ℕ, zero, suc, ◌==◌, ◌++◌, Bool, true, false, cond, if◌then◌else◌, List, [], ◌∷◌, length, map, filter}
 use Rattle.std.proofs.Common.{flat_map, Option, Some, None, Result, Ok, Err, Contains, refl, sym, ap, subst, arith, eq-eqb, ⊎_elim}
 use Rattle.std.specs.Prelude.{ok_or, option_to_list, is_some}
@@ -20,7 +20,7 @@ use Rattle.job_programs.specs.Information.{JobInformationView, information_of}
 use Rattle.job_programs.specs.JobOptions.{JobOptionsView}
 use Rattle.job_programs.specs.JobPrograms.{JobProgramView, all_program_warnings, job_programs, numbers_named}
 use Rattle.job_programs.specs.JobStreams.{TimedStreamView, WireStreamView}
-use Rattle.job_programs.specs.JobTables.{JobTableView, told, is_told}
+use Rattle.job_programs.specs.JobTables.{JobTableView, reported, is_reported}
 use Rattle.job_programs.specs.Packets.{no_packets}
 use Rattle.job_programs.specs.Warnings.{packet_warning, packet_warning_of, packet_warnings, pid_warnings}
 use Rattle.job_programs.specs.declared.warning.PacketWarning.TheVariants.{Bad, Errored}
@@ -72,12 +72,12 @@ filter_has p [] x keeps (k, lt, e) = absurd (omega (arith, lt))
 filter_has p (z ∷ zs) x keeps (zero, lt, e) = first_kept (p z) z (filter p zs) x (ap p e ∙ keeps) e
 filter_has p (z ∷ zs) x keeps (suc k, lt, e) = later_kept (p z) z (filter p zs) x (filter_has p zs x keeps (k, omega (arith, lt), e))
 
--- what is made of each element's number is made of the numbers
+-- A list made from each element's number is made from the numbers alone.
 flat_of : {X Y : Type 0} (g : ℕ → List Y) (p : X → ℕ) (xs : List X) → flat_map (λ x. g (p x)) xs ≡ flat_map g (map p xs)
 flat_of g p [] = refl
 flat_of g p (x ∷ xs) = ap (λ ys. g (p x) ++ ys) (flat_of g p xs)
 
--- 2. The PIDs of streams stay
+-- 2. The PIDs of streams stay the same
 
 moved_pid : (findings : List FindingView) (base : ℕ) (s : WireStreamView) (t : TimedStreamView) → moved_stream findings base s ≡ Ok t → t.pid ≡ s.pid
 unfolding moved_stream with_moments
@@ -101,7 +101,7 @@ unfolding moved_streams moved_by
 moved_pids findings due programs ss ts is =
     all_pids (moved_by findings due programs (firsts programs ss)) (λ s t. moved_pid findings _ s t) ss ts is
 
--- 3. A stream is carried, or named
+-- 3. A stream is carried, or a line names it
 
 record IsKept (pid : ℕ) (ws : List WireStreamView) : Type 0 where
   stream : WireStreamView
@@ -176,7 +176,7 @@ each_stream options count findings ss s at =
     }))
     (one_stream options count findings s)
 
--- 4. What a job is made of
+-- 4. The parts of a job
 
 record Made (all : List Warning) (streams : List TimedStreamView) (input : JobInputView) : Type 0 where
   more : List Warning
@@ -220,7 +220,7 @@ record Lined (options : JobOptionsView) (count : ℕ) (findings : List FindingVi
   assigned : List ProgramPids
   tables : List JobTableView
   pids : pids_of input ≡ map (λ s. s.pid) (wire_streams options findings (programs_of (named_of options association_is) findings).streams)
-  lines : (w : Warning) → is_told tables w ≡ true →
+  lines : (w : Warning) → is_reported tables w ≡ true →
       Contains (job_warnings options count findings association_is (named_of options association_is) (programs_of (named_of options association_is) findings)
       assigned (wire_streams options findings (programs_of (named_of options association_is) findings).streams)) w → Contains input.warnings w
 
@@ -242,11 +242,11 @@ lined options count findings input is =
     let information = information_of options a.transport_stream_id findings programs in
     let due = earliest programs tables streams in
     let base = base0_of options.base (first_base due programs streams) in
-    let timed = comes (with_moved options information base programs tables (told tables all)) (moved_streams findings due programs streams) input
-    (granted (nothing_carried options.strict (told tables all) streams)
-    (and_then (with_moved options information base programs tables (told tables all)) (moved_streams findings due programs streams))
+    let timed = comes (with_moved options information base programs tables (reported tables all)) (moved_streams findings due programs streams) input
+    (granted (nothing_carried options.strict (reported tables all) streams)
+    (and_then (with_moved options information base programs tables (reported tables all)) (moved_streams findings due programs streams))
     input assigned.last_is) in
-    let done = made options information base programs tables (told tables all) timed.value input timed.last_is in
+    let done = made options information base programs tables (reported tables all) timed.value input timed.last_is in
     record {
       association_is = a;
       in_force = ok_value (association findings) refusals.NoAssociation a associated.first_is;
@@ -254,21 +254,21 @@ lined options count findings input is =
       tables = tables;
       pids = ap (λ (ts : List TimedStreamView). map (λ t. t.pid) ts) done.streams_are ∙ moved_pids findings due programs streams timed.value timed.first_is;
       lines = λ w keeps at. subst (λ (ws : List Warning). Contains ws w) (sym done.warnings_are)
-          (Contains-append_left (told tables all) done.more w (filter_has (is_told tables) all w keeps at));
+          (Contains-append_left (reported tables all) done.more w (filter_has (is_reported tables) all w keeps at));
     }
 
--- 5. Which lines are there
+-- 5. The lines of a job
 
 packets_in : (options : JobOptionsView) (count : ℕ) (findings : List FindingView) (a : AssociationView) (named : _) (found : FoundProgramsView)
     (assigned : List ProgramPids) (streams : List WireStreamView) (w : Warning) → Contains (packet_warnings findings) w →
     Contains (job_warnings options count findings a named found assigned streams) w
 unfolding job_warnings stream_warnings table_warnings change_warnings
 packets_in options count findings a named found assigned streams w at =
-    let changes : Contains (change_warnings a named findings) w =
+    let changes : Contains (change_warnings options a named findings) w =
     Contains-append_left _ _ w (Contains-append_left _ _ w (Contains-append_left (packet_warnings findings) _ w at)) in
     let of_tables : Contains (table_warnings options a named findings found) w =
     Contains-append_left _ _ w (Contains-append_left _ _ w (Contains-append_left _ _ w
-    (Contains-append_left (change_warnings a named findings) _ w changes))) in
+    (Contains-append_left (change_warnings options a named findings) _ w changes))) in
     let of_streams : Contains (stream_warnings options count findings a named found) w =
     Contains-append_left (table_warnings options a named findings found) _ w of_tables in
     Contains-append_left _ _ w (Contains-append_left _ _ w (Contains-append_left (stream_warnings options count findings a named found) _ w of_streams))
@@ -300,40 +300,41 @@ unit_line pid count findings streams w on at =
     (flat_has (pid_warnings count findings) (map (λ s. s.pid) streams) pid (warnings.Units pid w) on
     (map_has (warnings.Units pid) (unit_warnings pid count findings) w at))
 
--- the tables that are carried take none of these back
-told_alone : (tables : List JobTableView) (line w : Warning) → is_told tables line ≡ true → Contains (line ∷ []) w → is_told tables w ≡ true
-told_alone tables line w keeps (zero, lt, e) = subst (λ (x : Warning). is_told tables x ≡ true) e keeps
-told_alone tables line w keeps (suc k, lt, e) = absurd (omega (arith, lt))
+-- The carried tables remove none of these lines.
+reported_alone : (tables : List JobTableView) (line w : Warning) → is_reported tables line ≡ true → Contains (line ∷ []) w → is_reported tables w ≡ true
+reported_alone tables line w keeps (zero, lt, e) = subst (λ (x : Warning). is_reported tables x ≡ true) e keeps
+reported_alone tables line w keeps (suc k, lt, e) = absurd (omega (arith, lt))
 
-told_none : (tables : List JobTableView) (w : Warning) → Contains [] w → is_told tables w ≡ true
-told_none tables w (k, lt, e) = absurd (omega (arith, lt))
+reported_none : (tables : List JobTableView) (w : Warning) → Contains [] w → is_reported tables w ≡ true
+reported_none tables w (k, lt, e) = absurd (omega (arith, lt))
 
-what_told : (tables : List JobTableView) (packet : ℕ) (what : WhatView) (w : Warning) → Contains (packet_warning_of packet what) w → is_told tables w ≡ true
-unfolding packet_warning_of is_told
-what_told tables packet (IsBadPacket error) w at = told_alone tables (warnings.Packet packet Bad) w refl at
-what_told tables packet IsErrored w at = told_alone tables (warnings.Packet packet Errored) w refl at
-what_told tables packet (IsTruncated bytes) w at = told_alone tables (warnings.TrailingBytes (length bytes)) w refl at
-what_told tables packet _ w at = told_none tables w at
+what_reported : (tables : List JobTableView) (packet : ℕ) (what : WhatView) (w : Warning) → Contains (packet_warning_of packet what) w →
+    is_reported tables w ≡ true
+unfolding packet_warning_of is_reported
+what_reported tables packet (IsBadPacket error) w at = reported_alone tables (warnings.Packet packet Bad) w refl at
+what_reported tables packet IsErrored w at = reported_alone tables (warnings.Packet packet Errored) w refl at
+what_reported tables packet (IsTruncated bytes) w at = reported_alone tables (warnings.TrailingBytes (length bytes)) w refl at
+what_reported tables packet _ w at = reported_none tables w at
 
-if_told : (tables : List JobTableView) (some : Bool) (packet : ℕ) (what : WhatView) (w : Warning) →
-    Contains (if some then [] else packet_warning_of packet what) w → is_told tables w ≡ true
-if_told tables true packet what w at = told_none tables w at
-if_told tables false packet what w at = what_told tables packet what w at
+if_reported : (tables : List JobTableView) (some : Bool) (packet : ℕ) (what : WhatView) (w : Warning) →
+    Contains (if some then [] else packet_warning_of packet what) w → is_reported tables w ≡ true
+if_reported tables true packet what w at = reported_none tables w at
+if_reported tables false packet what w at = what_reported tables packet what w at
 
-packet_told : (tables : List JobTableView) (f : FindingView) (w : Warning) → Contains (packet_warning f) w → is_told tables w ≡ true
+packet_reported : (tables : List JobTableView) (f : FindingView) (w : Warning) → Contains (packet_warning f) w → is_reported tables w ≡ true
 unfolding packet_warning
-packet_told tables f w at = if_told tables (is_some f.pid) f.packet f.what w at
+packet_reported tables f w at = if_reported tables (is_some f.pid) f.packet f.what w at
 
-about_told : (tables : List JobTableView) (pid : ℕ) (w : Warning) → is_about pid w ≡ true → is_told tables w ≡ true
-unfolding is_about is_told
-about_told tables pid (warnings.Table omission) is = absurd (cc)
-about_told tables pid _ is = refl
+about_reported : (tables : List JobTableView) (pid : ℕ) (w : Warning) → is_about pid w ≡ true → is_reported tables w ≡ true
+unfolding is_about is_reported
+about_reported tables pid (warnings.Table omission) is = absurd (cc)
+about_reported tables pid _ is = refl
 
-units_told : (tables : List JobTableView) (pid : ℕ) (w : UnitWarning) → is_told tables (warnings.Units pid w) ≡ true
-unfolding is_told
-units_told tables pid w = refl
+units_reported : (tables : List JobTableView) (pid : ℕ) (w : UnitWarning) → is_reported tables (warnings.Units pid w) ≡ true
+unfolding is_reported
+units_reported tables pid w = refl
 
--- 6. All of them
+-- 6. All lines
 
 pub says_all : JobLinesLaw
 says_all options count findings input is =
@@ -342,17 +343,17 @@ says_all options count findings input is =
     let found = programs_of (named_of options a) findings in
     let streams = wire_streams options findings found.streams in
     record {
-      units = λ pid w on at. all.lines (warnings.Units pid w) (units_told all.tables pid w)
+      units = λ pid w on at. all.lines (warnings.Units pid w) (units_reported all.tables pid w)
           (units_in options count findings a (named_of options a) found all.assigned streams (warnings.Units pid w)
           (unit_line pid count findings streams w (subst (λ (pids : List ℕ). Contains pids pid) all.pids on) at));
-      packets = λ f w on at. all.lines w (packet_told all.tables f w at)
+      packets = λ f w on at. all.lines w (packet_reported all.tables f w at)
           (packets_in options count findings a (named_of options a) found all.assigned streams w (flat_has packet_warning findings f w on at));
       named_by = a;
       in_force = all.in_force;
       streams = λ s at. ⊎_elim (λ kept. inl (subst (λ (pids : List ℕ). Contains pids s.pid) (sym all.pids) kept))
           (λ named. inr (record {
             line = named.line;
-            among = all.lines named.line (about_told all.tables s.pid named.line named.about)
+            among = all.lines named.line (about_reported all.tables s.pid named.line named.about)
                 (left_out_in options count findings a (named_of options a) found all.assigned streams named.line named.among);
             about = named.about;
           }))

@@ -13,7 +13,7 @@ use Rattle.job_inputs.proofs.MovedInputs.{moved_of}
 use Rattle.laws_job.specs.FirstUnits.{FirstUnitsLaw, TablesFirstLaw}
 use Rattle.laws_job.proofs.FirstUnits.{all_late}
 
--- no unit has a number that no stream has
+-- If no stream has the number k, no unit has it.
 none_of : (k count : ℕ) (units : List (ℕ × AccessUnit)) → count ≤ k → All (λ e. e.0 < count) units → units_of k units ≡ []
 none_of k count [] past all = refl
 none_of k count (entry ∷ rest) past all =
@@ -21,7 +21,7 @@ none_of k count (entry ∷ rest) past all =
     let other : entry.0 ≢ k = λ same. omega (arith, below, past, same) in
     other_units k entry rest other ∙ none_of k count rest past (All-tail (λ (e : ℕ × AccessUnit). e.0 < count) entry rest all)
 
--- the units of one stream of a job are due late where those of all are
+-- If all units of a job are due late, the units of each stream are due late.
 job_late : (k : ℕ) (streams : List TimedStreamView) (units : List (ℕ × AccessUnit)) → AreMerged (map (λ t. t.units) streams) units →
     All (λ t. DueLate t.units) streams → DueLate (units_of k units)
 job_late k streams units merged all = elim (slice_get_cases streams k).1 [

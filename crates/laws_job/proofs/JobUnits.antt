@@ -1,4 +1,4 @@
--- The units of a job are those that were found.
+-- The units of a job are the units that were found.
 use Rattle.std.proofs.Common.{ℕ, false, List, None, sym, subst}
 use Rattle.pes_packet.specs.AccessUnits.{AccessUnit}
 use Rattle.pid_findings.specs.Views.{FindingView}

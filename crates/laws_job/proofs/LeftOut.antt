@@ -1,4 +1,4 @@
--- What is found on a PID is in a unit, or a line names its packet.
+-- Each finding on a PID is a part of a unit, or a line names its packet.
 use Rattle.std.proofs.Common.{◌≡◌, ◌∙◌, inl, inr, ℕ, ◌==◌, ◌&&◌, Bool, true, false, if◌then◌else◌, Option, Some, None, List, [], ◌∷◌, ◌++◌, length}
 use Rattle.std.proofs.Common.{refl, sym, ap, subst}
 use Rattle.std.specs.Prelude.{⊤}
@@ -23,7 +23,7 @@ use Rattle.es_units.specs.declared.unit_warning.UnitWarningCause.TheVariants as 
 use Rattle.laws_job.specs.LeftOut.{HasLine, IsCarriedOrNamed, IsInUnit, PesAccounted, Accounted, NothingIsSilent}
 use Rattle.laws_job.proofs.NamedUnits.{id_after, has_line, whole_or_named}
 
--- 1. The unit that is not ended yet
+-- 1. The unit that has not ended yet
 
 record OpenUnit (pid : ℕ) (done : List FindingView) : Type 0 where
   earlier : List FindingView
@@ -39,7 +39,7 @@ unfoldable IsOpen : ℕ → Option ℕ → List FindingView → Type 0
 IsOpen pid None done = ⊤
 IsOpen pid (Some id) done = (o : OpenUnit pid done) × (o.start.stream_id ≡ id)
 
--- the bytes of a finding come first
+-- The continuation of a unit begins with the bytes of the next finding.
 first_bytes : (id pid : ℕ) (f : FindingView) (rest : List FindingView) (body : List ℕ) → more_bytes id (role_of pid f) ≡ Some body →
     continuation id pid (f ∷ rest) ≡ body ++ continuation id pid rest
 unfolding continuation continued_by
@@ -122,7 +122,7 @@ open_at pid before = open_after pid None [] before tt
 
 -- 2. A PES packet
 
--- with a PTS it begins a unit
+-- A PES packet with a PTS begins a unit.
 begins_unit : (pid count : ℕ) (before : List FindingView) (f : FindingView) (later : List FindingView) (u : CarriedUnit) → role_of pid f ≡ Start u →
     IsInUnit pid before f later u.unit.bytes (IsCarriedOrNamed pid count (before ++ f ∷ later))
 begins_unit pid count before f later u begins = record {
@@ -137,7 +137,7 @@ begins_unit pid count before f later u begins = record {
   is_so = whole_or_named pid count before f later u begins;
 }
 
--- without one it goes on with the unit before it
+-- A PES packet without a PTS continues the unit before it.
 found_all : (pid : ℕ) (before : List FindingView) (f : FindingView) (later : List FindingView) (o : OpenUnit pid before) →
     o.earlier ++ o.first ∷ ((o.between ++ f ∷ []) ++ later) ≡ before ++ f ∷ later
 found_all pid before f later o =
@@ -163,7 +163,7 @@ goes_on pid count before f later body o is =
           (whole_or_named pid count o.earlier o.first all o.start o.begins);
     }
 
--- what is found of it
+-- The role and the cause of a finding follow from its contents.
 role_on : (pid : ℕ) (f : FindingView) (what : WhatView) → has_pid pid f.pid ≡ true → f.what ≡ what →
     role_of pid f ≡ role_of_what (first_packet f.packet f.begun) (is_unstamped f.begun) (is_access_point f.begun) what
 unfolding role_of
@@ -235,7 +235,7 @@ pes_accounted pid count before f later header unended body own is =
 
 -- 3. A finding
 
--- a cause of its own
+-- If a finding is a cause by itself, its line is among the lines.
 own_line : (pid count : ℕ) (before : List FindingView) (f : FindingView) (later : List FindingView) (what : WhatView) (cause : UnitWarningCause) →
     has_pid pid f.pid ≡ true → f.what ≡ what →
     ((current : Option ℕ) (lost alone : Bool) → cause_of_what count f.packet current lost alone what ≡ Some cause) →

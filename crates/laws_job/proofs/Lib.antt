@@ -14,3 +14,5 @@ pub mod LeftOut
 pub mod JobLines
 pub mod FoundOrNamed
 pub mod StrayPayload
+pub mod WorkedFindings
+pub mod WorkedJob

@@ -1,4 +1,4 @@
--- The lines of a PID's findings, and the unit that a PES packet begins.
+-- The lines of a PID's findings, and the unit that a PES packet begins
 use Rattle.std.proofs.Common.{◌≡◌, ◌∙◌, inl, inr, suc, ℕ, ◌==◌, ◌&&◌, Bool, true, false, if◌then◌else◌, Option, Some, None, List, [], ◌∷◌, ◌++◌, length}
 use Rattle.std.proofs.Common.{Contains, refl, subst, arith}
 use Rattle.std.proofs.lemmas.Bool.{ne_eqb}
@@ -24,7 +24,7 @@ use Rattle.laws_job.specs.LeftOut.{HasLine, IsCarriedOrNamed}
 
 -- 1. Lines
 
--- the stream_id of the unit that a PES packet without a PTS goes on with after these findings
+-- The stream_id of the unit that a PES packet without a PTS continues after these findings
 unfoldable pub id_after : ℕ → Option ℕ → List FindingView → Option ℕ
 id_after pid current [] = current
 id_after pid current (f ∷ fs) = id_after pid (current_after current (role_of pid f)) fs
@@ -36,7 +36,7 @@ one_line : (packet : ℕ) (cause : UnitWarningCause) (o : Option UnitWarningCaus
 unfolding warning_list
 one_line packet cause o is = rw is (0, omega arith, refl)
 
--- the line of a finding is among those of all
+-- The line of a finding is among the lines of all findings.
 line_in : (split : Bool) (pid count : ℕ) (current : Option ℕ) (before : List FindingView) (f : FindingView) (later : List FindingView)
     (cause : UnitWarningCause) → cause_of split pid count (id_after pid current before) f later ≡ Some cause →
     Contains (warnings_from split pid count current (before ++ f ∷ later)) (line_at (first_packet f.packet f.begun) cause)
@@ -155,12 +155,12 @@ is_first split pid count current f rest u begins =
 suc_is_not : (n : ℕ) → (suc n == 0) ≡ false
 suc_is_not n = ne_eqb (suc n) 0 (λ e. omega (arith, e))
 
--- it is empty if both parts are
+-- Two lists in a row are empty if both lists are.
 both_empty : (a b : List ℕ) → (length (a ++ b) == 0) ≡ (length a == 0 && length b == 0)
 both_empty [] b = refl
 both_empty (x ∷ a) b = rw (suc_is_not (length (a ++ b)), suc_is_not (length a)) refl
 
--- a unit is carried, or its first packet is named
+-- A unit is carried, or a line names its first packet.
 first_named : (pid count : ℕ) (before : List FindingView) (f : FindingView) (rest : List FindingView) (u : CarriedUnit) (cause : UnitWarningCause) →
     first_packet f.packet f.begun ≡ u.packet → cause_of (is_split pid (before ++ f ∷ rest)) pid count (id_after pid None before) f rest ≡ Some cause →
     HasLine pid count (before ++ f ∷ rest) u.packet cause

@@ -1,4 +1,4 @@
--- PES_private_data of units that were found has 16 bytes.
+-- PES_private_data of found units has 16 bytes.
 use Rattle.std.proofs.Common.{◌≡◌, ◌==◌, ℕ, ◌&&◌, Bool, true, false, cond, List, [], ◌∷◌, ◌++◌, length, map, slice_get, Option, Some, None, All, sym, subst}
 use Rattle.std.proofs.lemmas.List.Elements.{All-nil, All-cons, All-head, All-tail}
 use Rattle.pes_packet.specs.AccessUnits.{AccessUnit}
@@ -26,11 +26,11 @@ use Rattle.job_inputs.specs.declared.joined_inputs.Origin.{Origin}
 use Rattle.laws_job.proofs.AcceptedUnits.{somewhere}
 use Rattle.es_moments.specs.WireUnits.{CarriedUnit, unit_with}
 
--- if a unit has PES_private_data, they are 16 bytes
+-- If a unit has PES_private_data, it has 16 bytes.
 abbrev pub Sixteen : AccessUnit → Type 0
 Sixteen u = HasSixteen u.marks
 
--- 1. What a finding starts
+-- 1. The unit that a finding starts
 
 abbrev Starts : RoleView → Type 0
 Starts Ignored = Unit {0}
@@ -112,7 +112,7 @@ unfolding source_of
 sources false pid fs = with_made (apart_dts 0 (carried_units pid fs)) (carried_units pid fs) (all_units (is_split pid fs) pid fs)
 sources true pid fs = with_made (made_dts (pts_of (carried_units pid fs))) (carried_units pid fs) (all_units (is_split pid fs) pid fs)
 
--- 3. At moments of a run
+-- 3. The units at moments of a run
 
 units_only : (cs : List CarriedUnit) → All Carried cs → All Sixteen (map (λ c. c.unit) cs)
 units_only [] all = All-nil Sixteen
@@ -130,7 +130,7 @@ found_sixteen made findings pid us found =
     subst (All Sixteen) (sym found.moved.are)
     (all_moved found.base None (map (λ w. w.unit) (source_of made pid findings)) (units_only (source_of made pid findings) (sources made pid findings)))
 
--- of a job of one input, and of one of several
+-- PES_private_data of the units of a job has 16 bytes, with one input and with several.
 pub units_sixteen : (made : Bool) (findings : List FindingView) (d : Described) (units : List (ℕ × AccessUnit)) → AreUnits made findings d units →
     (k : ℕ) (s : DescribedStream) → slice_get d.streams k ≡ Some s → All Sixteen (units_of k units)
 units_sixteen made findings d units are k s is = found_sixteen made findings s.pid (units_of k units) (are.streams k s is).found

@@ -19,7 +19,7 @@ use Rattle.laws_pid.specs.Sent.{Sending}
 use Rattle.laws_run.specs.Placed.{units_placed, sent_units}
 use Rattle.laws_job.specs.Laws.{AllDue}
 
--- 1. Bytes of units, and of packets
+-- 1. Bytes of units and bytes of packets
 
 unfoldable unit_bytes : List PesPacket → ℕ
 unit_bytes [] = 0
@@ -53,7 +53,7 @@ unfolding cut packet_bytes
 cut_bytes front size [] = omega arith
 cut_bytes front size (s ∷ slots) = omega (arith, cut_bytes (front - 184) (size - (184 - front)) slots)
 
--- a PES packet has a header
+-- A PES packet has a header.
 header_some : (long same : Bool) (extension : ℕ) → 1 ≤ (if long then 45 else ((if same then 14 else 19) + extension))
 header_some true same extension = omega arith
 header_some false true extension = omega arith
@@ -71,7 +71,7 @@ some_size l u =
       header_some u.marks.long (on_wire (u.pts + base0) == on_wire (u.dts + base0)) (extension_size u.marks),
     )
 
--- 2. What has left is no more than what came
+-- 2. No more bytes have left than entered
 
 left_bytes : (rate r n : ℕ) (units : List PesPacket) (left : List ℕ) → All (λ u. u.dts * rate ≤ n * 135360000) units → AllLeft rate r n units left →
     unit_bytes units ≤ length left
@@ -82,9 +82,9 @@ left_bytes rate r n (unit ∷ units) left due all =
     let rest = left_bytes rate r n units (drop unit.size left) (All-tail (λ u. u.dts * rate ≤ n * 135360000) unit units due) all.1 in
     omega (arith, has.0, rest, length-drop unit.size left)
 
--- 3. Each has all its packets
+-- 3. Each unit has all its packets
 
--- the packets of a lane's units
+-- The packets of a lane's units
 abbrev packets_of : OwnedStream → ℕ → List AccessUnit → List ℕ → List Packet
 packets_of l free us slots = packets_in_slots l.own l.parameters.rate l.parameters.lead free (map (timed l) us) slots
 
@@ -103,7 +103,7 @@ unfolding unit_bytes
 no_more l free [] slots = unfold packets_in_slots in unfold packet_bytes in omega arith
 no_more l free (u ∷ us) slots = omega (arith, first_bytes l free u us slots, no_more l (end_slot l free u) us slots)
 
--- all bytes of units that are sent have packets
+-- Whether all bytes of a sent unit have packets
 abbrev pub IsWhole : OwnedStream → Sending AccessUnit → Type 0
 IsWhole l x = packet_count l x.item ≤ length x.packets
 

@@ -1,4 +1,4 @@
--- Payload goes on with what is open, or follows nothing, a loss or an end, and is found as stray.
+-- Payload continues the open unit, or follows nothing, a loss or an end, and is found as stray.
 use Rattle.std.proofs.Common.{◌≡◌, ◌∙◌, ◌⊎◌, inl, inr, ℕ, ◌++◌, ◌||◌, Bool, true, false, if◌then◌else◌, List, [], ◌∷◌, Option, Some, None, is_some}
 use Rattle.std.proofs.Common.{option_map, refl, sym, ap, ap₂}
 use Rattle.std.proofs.lemmas.List.{append_assoc}
@@ -12,7 +12,7 @@ use Rattle.pid_findings.specs.Findings.{undecided}
 use Rattle.pid_findings.specs.Findings.{unless_decided}
 use Rattle.laws_job.specs.StrayPayload.{FollowsEnd, FollowsLoss, GoesOn, IsFoundStray, LostPayloadLaw, StrayPayloadLaw, Waits}
 
--- 1. The last packet in which something could begin
+-- 1. The last packet that could begin a unit
 
 picked : (here : Bool) (m d : Marked) (rest : Option Marked) → divides m ≡ here → (rest ≡ Some d → divides d ≡ true) →
     (if here then Some m else rest) ≡ Some d → divides d ≡ true
@@ -24,12 +24,12 @@ unfolding divider
 it_divides [] d at = absurd (cc)
 it_divides (m ∷ before) d at = picked (divides m) m d (divider before) refl (it_divides before d) at
 
--- a packet that goes on divides nothing
+-- A packet that continues a unit does not begin one.
 not_divides : (m : Marked) (payload : List ℕ) → role m ≡ Continuation payload → m.broken ≡ None → divides m ≡ false
 unfolding divides
 not_divides m payload is whole = ap₂ (λ (b : Option (ℕ × ℕ)) (r : Role). is_some b || role_divides r) whole is
 
--- 2. What begins, with more bytes
+-- 2. A unit that begins, with more bytes
 
 section_more : (packet : ℕ) (more payload : List ℕ) (rest : Option (List ℕ)) (unit : OpenUnit) →
     option_map (λ bs. section packet (bs ++ more)) rest ≡ Some unit →
@@ -52,7 +52,7 @@ begins_more packet (PesStart access bytes) more payload unit is =
     let same : first (bytes ++ more) ≡ unit = cc in
     ap (λ (bs : List ℕ). Some (first bs)) (sym (append_assoc bytes more payload)) ∙ ap (λ (u : OpenUnit). Some (appended u payload)) same
 
--- 3. Where nothing begins
+-- 3. No unit begins
 
 by_broken : (before : List Marked) (d : Marked) (broken : Option (ℕ × ℕ)) → divider before ≡ Some d → d.broken ≡ broken → (is_some broken || false) ≡ true →
     FollowsLoss before
@@ -69,9 +69,9 @@ no_start before d more PointerPastEnd at is none splits = record { packet = d; l
 no_start before d more (SectionStart front rest) at is none splits = record { packet = d; last = at; why = inr (inr (inr (front, rest, is))) }
 no_start before d more (PesStart access bytes) at is none splits = absurd (cc)
 
--- 4. Where nothing is open
+-- 4. No unit is open
 
--- a duplicate has no payload
+-- A duplicate has no payload.
 not_twice : (m : Marked) (payload : List ℕ) (twice : Bool) → m.duplicate ≡ twice → role m ≡ Continuation payload → m.duplicate ≡ false
 unfolding role
 not_twice m payload true twice is = let no : NoPayload ≡ Continuation payload = rw twice at is in absurd (cc)
@@ -82,7 +82,7 @@ none_open : (packet : ℕ) (r : Role) (payload : List ℕ) (open_unit : Option O
 unfolding by_role found_appended
 none_open packet r payload open_unit is none = rw (is, none) refl
 
--- what is found at a packet that is no duplicate
+-- A packet with payload is not a duplicate, and its findings follow from its break and its role.
 at_broken : (m : Marked) (payload : List ℕ) (broken : Option (ℕ × ℕ)) (open_unit : Option OpenUnit) → role m ≡ Continuation payload → m.broken ≡ broken →
     found_at m open_unit ≡ by_break m.entry.index broken (role m) open_unit
 unfolding found_at
@@ -119,9 +119,9 @@ lost before m payload b is broken =
     ∙ ap (λ (found : List Found). plain (BreaksCounter b.0 b.1) ∷ cut_short (open_after before) ++ found)
     (none_open m.entry.index (role m) payload None is refl)
 
--- 5. All of it
+-- 5. All payload
 
--- with what is open
+-- Payload continues the open unit.
 goes_on : (before : List Marked) (m : Marked) (payload : List ℕ) (d : Marked) (unit : OpenUnit) → role m ≡ Continuation payload → m.broken ≡ None →
     divider before ≡ Some d → begins d.entry.index (role d) (joined before) ≡ Some unit → undecided unit ≡ Some unit → GoesOn before m payload
 unfolding open_after stretch divider joined

@@ -34,9 +34,9 @@ use Rattle.job_text.specs.Laws.{TextsAreRead, FitsHeading, FitsEvent, FitsNetwor
 use Rattle.job_text.specs.Texts.{event_text, heading_text, network_if_any, program_text, stream_text, table_text}
 use Rattle.laws_job.specs.DeclaredBuffers.{HasBuffersOf}
 
--- ---- the members of a stream
+-- The members of a stream
 
--- a number is looked for behind descriptors
+-- A search for the key `k` passes over a member with the key `key`.
 abbrev IsBehind : List ℕ → List ℕ → Type 0
 IsBehind key k = (d : Data) (ms : Members) → get_member k (member key d ms) ≡ get_member k ms
 
@@ -53,7 +53,7 @@ past_limit : (k : List ℕ) (l : Option ℕ) (more : Members) → IsBehind (code
 past_limit k None more behind = refl
 past_limit k (Some n) more behind = behind _ more
 
--- its leak
+-- The leak of a stream
 abbrev leak_value : Option MultiplexingBuffer → Option Data
 leak_value None = None
 leak_value (Some m) = Some (integer (pos m.rbx))
@@ -77,7 +77,7 @@ pub leak_at : (a : Allowance) (m : Option MultiplexingBuffer) (f : Option Framin
 leak_at (Groups u p) m f l s = past_hex (codes "descriptors") (codes "rbx") s.descriptors _ (λ d ms. refl) ∙ rest_leak (Groups u p) m f l s
 leak_at (Pace u p) m f l s = past_hex (codes "descriptors") (codes "rbx") s.descriptors _ (λ d ms. refl) ∙ rest_leak (Pace u p) m f l s
 
--- the size of its multiplexing buffer
+-- The size of the multiplexing buffer of a stream
 abbrev size_value : Option MultiplexingBuffer → Option Data
 size_value None = None
 size_value (Some m) = Some (integer (pos m.size))
@@ -100,7 +100,7 @@ pub size_at : (a : Allowance) (m : Option MultiplexingBuffer) (f : Option Framin
 size_at (Groups u p) m f l s = past_hex (codes "descriptors") (codes "mb") s.descriptors _ (λ d ms. refl) ∙ rest_size (Groups u p) m f l s
 size_at (Pace u p) m f l s = past_hex (codes "descriptors") (codes "mb") s.descriptors _ (λ d ms. refl) ∙ rest_size (Pace u p) m f l s
 
--- its access units: a key of theirs
+-- The number at a key of the access units of a stream
 abbrev frame_value : (Framing → ℕ) → Option Framing → Option Data
 frame_value of None = None
 frame_value of (Some f) = Some (integer (pos (of f)))
@@ -156,9 +156,9 @@ pub frame_size_at : (a : Allowance) (m : Option MultiplexingBuffer) (f : Option 
 frame_size_at (Groups u p) m f l s = past_hex (codes "descriptors") (codes "frame_size") s.descriptors _ (λ d ms. refl) ∙ rest_frame_size (Groups u p) m f l s
 frame_size_at (Pace u p) m f l s = past_hex (codes "descriptors") (codes "frame_size") s.descriptors _ (λ d ms. refl) ∙ rest_frame_size (Pace u p) m f l s
 
--- ---- what is read of them
+-- The numbers that are read
 
--- a number that is not refused is itself
+-- A number that is not refused is read unchanged.
 tested : (b : Bool) (n else_n : ℕ) → is_none (if b then Some n else None) ≡ false → unwrap_or (if b then Some n else None) else_n ≡ n
 tested true n m h = refl
 tested false n m h = absurd (cc)
@@ -166,7 +166,7 @@ tested false n m h = absurd (cc)
 itself : (low high : ℤ) (n else_n : ℕ) → is_none (integer_in low high (integer (pos n))) ≡ false → unwrap_or (integer_in low high (integer (pos n))) else_n ≡ n
 itself low high n m h = tested (int_le low (pos n) && int_le (pos n) high) n m h
 
--- what is read at a key
+-- The number that is read at a key
 abbrev reads : ℤ → ℤ → Option Data → Option ℕ
 reads low high o = elim o [ None ↦ None | Some value ↦ integer_in low high value ]
 
@@ -225,7 +225,7 @@ framing_same d f o p q =
     (subst (λ x. FramingIs (greatest_frame d) size f (frame_value (λ f. f.frames) f) (frame_value (λ f. f.frame) f) x) (sym q)
     (framing_value (greatest_frame d) size f)))
 
--- ---- the streams of a document
+-- The streams of a document
 
 past_tables : (key k : List ℕ) (ts : List Members) (more : Members) → IsBehind key k → get_member k (with_tables key ts more) ≡ get_member k more
 past_tables key k [] more behind = refl
@@ -266,7 +266,7 @@ elements_value (t ∷ ts) = listed (t ∷ ts)
 elements_is : (key : List ℕ) (d : Data) (ts : List Members) → get key d ≡ array_value ts → elements key d ≡ map table ts
 elements_is key d ts is = ap elements_at is ∙ elements_value ts
 
--- ---- a text that is read
+-- A text that is read
 
 read_ok : (d e : Described) (o : Option DescFault) → Ok d ≡ (elim o as (λ _. Result Described DescError) [ None ↦ Ok e | Some f ↦ Err (Refused f) ]) →
     (o ≡ None) × (d ≡ e)
@@ -280,7 +280,7 @@ accepted d h =
     all_accept (λ key. refuses_stream key d) stream_keys (streams_of d)
     (map_none (λ p. Stream p.0 p.1) (first_refused (λ key. refuses_stream key d) stream_keys (streams_of d)) arrays.1)
 
--- the keys of a buffer and of access units are not refused
+-- The keys of a buffer and of access units are not refused.
 record KeysTaken (ds : List Data) : Type 0 where
   rbx : All (λ d. refuses_rbx d ≡ false) ds
   mb : All (λ d. refuses_mb d ≡ false) ds

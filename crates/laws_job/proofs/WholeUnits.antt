@@ -28,7 +28,7 @@ use Rattle.es_moments.specs.WireUnits.{CarriedUnit}
 
 -- 1. One unit
 
--- a unit as it is found
+-- A unit as it is found
 abbrev found_unit : ℕ → ℕ → ℕ → AccessUnit → CarriedUnit
 found_unit i id base0 u = record { packet = i; stream_id = id; unit = later_by base0 u }
 
@@ -38,7 +38,7 @@ text_bytes id base0 u =
     let head = pes_header_bytes id (length u.bytes) u.marks (u.pts + base0) (u.dts + base0) in
     omega (arith, length-append head u.bytes, header_sizes id (length u.bytes) u.marks (u.pts + base0) (u.dts + base0))
 
--- the stamps of its header
+-- The role of a PES packet follows from the stamps of its header.
 by_stamps : (i id size : ℕ) (marks : Marks) (pts dts : ℕ) (bytes : List ℕ) →
     pes_role i (written_header id size marks pts dts).id marks (written_header id size marks pts dts).stamps bytes
     ≡ Start (record { packet = i; stream_id = id; unit = record { dts = on_wire dts; pts = on_wire pts; marks = marks; bytes = bytes } })
@@ -50,7 +50,7 @@ by_stamps i id size marks pts dts bytes = elim (cases_Bool (on_wire pts == on_wi
   | inr differ ↦ rw differ refl
 ]
 
--- and its marks
+-- The marks of a unit follow from the header of its PES packet.
 by_header : (i id size : ℕ) (marks : Marks) (pts dts : ℕ) (bytes : List ℕ) → HasSixteen marks →
     pes_role i (written_header id size marks pts dts).id (header_marks marks.random_access (written_header id size marks pts dts))
     (written_header id size marks pts dts).stamps bytes
@@ -81,16 +81,16 @@ begins pid id base0 e u i is whole sixteen =
       | inr n ↦ rw (n, le-leb (length (pes_packet_bytes id base0 u)) room fits) head
     ]
 
--- 2. All of them
+-- 2. All units
 
--- all of these are whole, none is empty, and PES_private_data has 16 bytes
+-- All packets of the unit are there, the unit is not empty, and its PES_private_data has 16 bytes.
 abbrev IsThere : ℕ → ℕ → Sending AccessUnit → Type 0
 IsThere id base0 x = (unit_packets id base0 x.item ≤ length x.packets) × (1 ≤ length x.item.bytes) × Sixteen x.item
 
 some_packet : (id base0 : ℕ) (u : AccessUnit) → 1 ≤ length u.bytes → 1 ≤ unit_packets id base0 u
 some_packet id base0 u some = omega (arith, text_bytes id base0 u, some)
 
--- whether or not units of the PID have several PES packets
+-- The units are found, whether or not units of the PID have several PES packets.
 record Found (split : Bool) (pid id base0 : ℕ) (fs : List FindingView) (us : List AccessUnit) : Type 0 where
   alone : continuation id pid fs ≡ []
   uncut : is_cut id pid fs ≡ false
@@ -132,7 +132,7 @@ all_found_again split pid id base0 n (x ∷ xs) all =
     one_sent split pid id base0 n x.item x.packets xs (map (λ y. y.item) xs) there.0 there.1 there.2
     (all_found_again split pid id base0 n xs (All-tail (IsThere id base0) x xs all))
 
--- 3. Of a lane
+-- 3. The units of a lane
 
 items : (l : OwnedStream) (free : ℕ) (us : List AccessUnit) (slots : List ℕ) → map (λ x. x.item) (units_placed l free us slots) ≡ us
 unfolding units_placed

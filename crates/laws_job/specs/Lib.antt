@@ -6,3 +6,4 @@ pub mod LeftOut
 pub mod JobLines
 pub mod FoundOrNamed
 pub mod StrayPayload
+pub mod WorkedJob

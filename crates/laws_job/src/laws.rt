@@ -7,6 +7,7 @@ ghost use Rattle.laws_job.specs.LeftOut.{NothingIsSilent};
 ghost use Rattle.laws_job.specs.JobLines.{JobLinesLaw};
 ghost use Rattle.laws_job.specs.FoundOrNamed.{FoundOrNamedLaw, JoinedOrNamedLaw};
 ghost use Rattle.laws_job.specs.StrayPayload.{LostPayloadLaw, StrayPayloadLaw};
+ghost use Rattle.laws_job.specs.WorkedJob.{WorkedJob};
 
 /// States that no unit of such a job is refused, in the job's order and before the first slot: each stream's units keep
 /// what its description declares, and have room.
@@ -117,4 +118,11 @@ pub fn found_or_named()
 pub fn stray_payload()
     ensures found { StrayPayloadLaw }
     ensures lost { LostPayloadLaw }
+{}
+
+/// States that a job is made of a small stream: a demultiplexer finds a PAT, a PMT and two units of sound in its four
+/// packets, and these findings give the input of a job, of which each value is known. So the laws above are about
+/// something.
+pub fn worked_job()
+    ensures { WorkedJob }
 {}

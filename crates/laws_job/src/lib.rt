@@ -6,8 +6,8 @@
 //!
 //! Definitions in `specs/`: `Laws` has the units accepted, carried and found again, `DeclaredBuffers` the buffers kept,
 //! `JoinedLaws` jobs of several streams, `FirstUnits` when the first units are due and the tables before them;
-//! `LeftOut`, `JobLines` and `FoundOrNamed` account for everything found, and `StrayPayload` says which payload is
-//! stray.
+//! `LeftOut`, `JobLines` and `FoundOrNamed` account for everything found, `StrayPayload` says which payload is stray, and
+//! `WorkedJob` has a stream and its job.
 #![tactic(auto)]
 
 pub mod laws;

@@ -1,4 +1,4 @@
--- The counter breaks that are found in a stream are the continuity errors of its packets.
+-- The counter breaks that the monitor finds in a stream are the continuity errors of its packets.
 use Rattle.std.proofs.Common.{◌≡◌, ◌∙◌, ℕ, ◌+◌, ◌-◌, ◌/◌, ◌^◌, ◌<◌, ◌==◌, Bool, true, false, cond, nat_eq, List, [], ◌∷◌, ◌++◌, length, map, filter}
 use Rattle.std.proofs.Common.{Option, Some, None, Result, Ok, Err, refl, sym, ap, ap₂, subst, arith, append_assoc}
 use Rattle.std.specs.Prelude.{not, option_map, unwrap_or}
@@ -35,7 +35,7 @@ use Rattle.laws_monitor.proofs.PidEntries.{kept, same_number, turned_test}
 use Rattle.laws_monitor.proofs.FaultGroups.{counter_group, findings_part}
 use Rattle.laws_monitor.proofs.CounterFindings.{break_fault, counter_at, ended_quiet, faults_at, quiet_faults}
 
--- 1. What both keep of the last packet of each PID
+-- 1. The last packet of each PID, as the findings and the continuity errors keep it
 
 last_kept : (pid q : ℕ) (x : Option LastView) (es : Lasts) (t : Bool) → (q == pid) ≡ t → last_of pid (insert_entry nat_eq es q x) ≡ cond t x (last_of pid es)
 last_kept pid q x es true e = ap (λ (o : Option (Option LastView)). unwrap_or o None) (kept pid q x es true e)
@@ -53,7 +53,7 @@ state_kept pid q state (y ∷ es) t e = by t e (q == y.0) refl (state_kept pid q
     by true e false f h = let g : (pid == y.0) ≡ false = subst (λ (n : ℕ). (n == y.0) ≡ false) (same_number q pid e) f in rw g h
     by false e false f h = ap (λ (s : PidState). cond (pid == y.0) y.1 s) h
 
--- both keep the same of each PID
+-- The findings and the continuity errors keep the same last packet of each PID.
 abbrev pub Agree : Lasts → States → Type 0
 Agree lasts states = (pid : ℕ) → last_of pid lasts ≡ (state_of pid states).last
 
@@ -80,7 +80,7 @@ agree_next lasts states entry q h pid = by (q == pid) refl
 
 -- 2. Packet by packet
 
--- of these packets, with their indices, those that count
+-- The packets that can be read and are not known to be wrong, with their indices.
 abbrev pub sound_in : List (ℕ × List ℕ) → List Entry
 sound_in packets = filter is_sound (filter_map (λ p. entry_of p.0 p.1 (packet_at p.1)) packets)
 
@@ -104,7 +104,7 @@ faults_append (x ∷ xs) ys =
     ∙ ap (λ (l : List StreamFault). l ++ filter (is_by 4) (faults_of_all ys))
     (sym (filter-append (is_by 4) (faults_on x.packet x.pid x.what) (faults_of_all xs)))
 
--- a null packet has no error, and a packet that counts has its break
+-- A null packet gives no error.
 null_packet : (lasts : Lasts) (entry : Entry) (rest : List Entry) → (entry.packet.header.pid == 8191) ≡ true →
     errors_at lasts (entry ∷ rest) ≡ errors_at lasts rest
 unfolding errors_from error_at after before_if
@@ -138,7 +138,7 @@ real_packet lasts states entry rest n h =
     next : Lasts
     next = next_lasts lasts entry
 
--- one packet
+-- The state and the errors after one packet.
 record Stepped (lasts : Lasts) (states : States) (index : ℕ) (bytes : List ℕ) (r : Result PacketView PacketError) (rest : List Entry) : Type 0 where
   next : Lasts
   agree : Agree next (states_by index bytes states r)

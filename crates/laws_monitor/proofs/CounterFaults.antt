@@ -1,4 +1,4 @@
--- The counter breaks at a packet, by the packets before it.
+-- The counter breaks at a packet, judged by the packets before it.
 use Rattle.std.proofs.Common.{◌≡◌, ◌∙◌, inl, inr, ℕ, ◌==◌, Bool, true, false, cond, List, [], ◌∷◌, map, filter, Option}
 use Rattle.std.proofs.Common.{Some, None, refl, sym, ap, subst, arith}
 use Rattle.std.specs.Prelude.{◌&&◌, ◌||◌, is_some, not}
@@ -23,7 +23,7 @@ use Rattle.laws_monitor.proofs.FaultLists.{has_filter}
 use Rattle.laws_monitor.proofs.References.{has_place}
 use Rattle.laws_monitor.proofs.TableFaults.{place_is}
 
--- 1. What is kept of packets, the last one first
+-- 1. The notes on earlier packets, given with the last packet first
 
 abbrev kept : List Entry → Option LastView
 kept [] = None
@@ -59,7 +59,7 @@ break_is (last ∷ before) entry =
     by false false true = refl
     by false false false = refl
 
--- 2. Where the packets of a list break
+-- 2. The packets of a list at which the counter breaks
 
 broken_in : (n : ℕ) (before entries : List Entry) → within n (broken_places (marked (kept before) entries)) → BreaksAt n (turned before entries)
 unfolding turned mark
@@ -105,7 +105,7 @@ in_broken n all h =
     by true e = inl (sym h.here)
     by false e = absurd (grind arith)
 
--- 3. In a report
+-- 3. The counter breaks in a report
 
 pub counter_fault_law : CounterFaultLaw
 unfolding stream_report rule_number is_pid turned

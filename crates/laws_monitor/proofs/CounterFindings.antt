@@ -1,4 +1,4 @@
--- Of what is found at a packet, what is no counter break.
+-- The findings at a packet that are no counter breaks.
 use Rattle.std.proofs.Common.{◌≡◌, ◌∙◌, ℕ, zero, suc, ◌+◌, ◌-◌, ◌==◌, Bool, true, false, cond, List, [], ◌∷◌, ◌++◌, length, take, drop, map, filter, Option}
 use Rattle.std.proofs.Common.{Some, None, Result, Ok, Err, refl, sym, ap}
 use Rattle.std.specs.Prelude.{nat_lt}
@@ -32,7 +32,7 @@ use Rattle.monitor.proofs.FindingSteps.{faults_of_all, faults_on}
 use Rattle.laws_monitor.specs.FaultsByRule.{is_by}
 use Rattle.laws_monitor.proofs.FaultLists.{right_alone}
 
--- 1. A finding that is no break
+-- 1. A finding that is no counter break
 
 abbrev pub quiet : WhatView → Type 0
 quiet what = (pid packet : ℕ) → filter (is_by 4) (failing (Some pid) packet (finding_rule what)) ≡ []
@@ -74,7 +74,7 @@ scrambled_quiet : quiet IsScrambled
 unfolding finding_rule failing
 scrambled_quiet pid packet = refl
 
--- what bytes decide
+-- Findings that the bytes of a PES packet decide.
 of_header_quiet : (bytes : List ℕ) (h : PesHeader × ℕ) → quiet_if (of_header bytes h)
 unfolding of_header
 of_header_quiet bytes h = by (h.0.len == 0) (nat_lt max_unbounded_pes (length bytes)) (nat_lt (length bytes) (6 + h.0.len))
@@ -120,7 +120,7 @@ end_quiet unended bytes unit_kinds.Pes (Err e) = truncated_quiet bytes
 end_quiet unended bytes unit_kinds.Section (Ok h) = truncated_quiet bytes
 end_quiet unended bytes unit_kinds.Section (Err e) = truncated_quiet bytes
 
--- 2. Of what is found at a packet all but a break
+-- 2. All findings at a packet except the counter break
 
 abbrev pub all_quiet : List Found → Type 0
 all_quiet [] = Unit {0}
@@ -204,9 +204,9 @@ role_quiet index (SectionStart before bytes) held =
 role_quiet index PointerPastEnd held = (bad_section_quiet section_errors.Body, cut_quiet held)
 role_quiet index (Continuation payload) held = appended_quiet payload held
 
--- 3. So the faults at a packet by the rule are its break
+-- 3. By the counter rule, the faults at a packet are its counter break
 
--- the faults of what is found of a PID at a packet
+-- The counter faults among the findings on a PID at a packet.
 abbrev pub faults_at : ℕ → ℕ → List Found → List StreamFault
 faults_at pid packet found = filter (is_by 4) (faults_of_all (map (with_pid pid packet) found))
 
@@ -230,7 +230,7 @@ break_faults pid packet (Some b) r held =
     (quiet_faults pid packet (cut_short held ++ by_role packet r None)
     (join (cut_short held) (by_role packet r None) (cut_quiet held) (role_quiet packet r None)))
 
--- a packet that repeats the one before it breaks nothing
+-- A packet that repeats the packet before it is no counter break.
 no_break_of : (last : Option LastView) (entry : Entry) → is_repeat last entry ≡ true → break_at last entry ≡ None
 unfolding is_repeat break_at
 no_break_of None entry e = refl

@@ -1,4 +1,4 @@
--- The faults of a PID's counter are those of its own packets.
+-- The counter faults of a PID depend on the packets of that PID only.
 use Rattle.std.proofs.Common.{◌≡◌, ◌∙◌, ℕ, ◌==◌, Bool, true, false, cond, List, [], ◌∷◌, map, filter, Option, Some, None}
 use Rattle.std.proofs.Common.{refl, ap}
 use Rattle.std.specs.Prelude.{◌&&◌, is_some, not, option_map}
@@ -19,7 +19,7 @@ use Rattle.laws_monitor.proofs.EachPid.{increasing_pid, places}
 use Rattle.laws_monitor.proofs.FaultLists.{filter_in_order}
 use Rattle.laws_monitor.proofs.Continuity.{counter_law}
 
--- 1. Errors of a PID
+-- 1. Counter errors of a PID
 
 abbrev of_pid : ℕ → ContinuityError → Bool
 of_pid pid e = e.pid == pid
@@ -35,7 +35,7 @@ faults_of_pid pid (e ∷ es) = by (e.pid == pid) (faults_of_pid pid es)
     by true h = ap (λ (l : List StreamFault). counter_fault e ∷ l) h
     by false h = h
 
--- null packets have none
+-- Null packets have no counter errors.
 no_error : (lasts : Lasts) (entry : Entry) (es : List ContinuityError) → filter (of_pid 8191) (before_if (error_at lasts entry) es) ≡ filter (of_pid 8191) es
 unfolding error_at before_if
 no_error lasts entry es = by (entry.packet.header.pid == 8191) refl (break_at (last_of entry.packet.header.pid lasts) entry)
@@ -85,7 +85,7 @@ unfolding breaks
 breaks_are pid [] = refl
 breaks_are pid (m ∷ ms) = break_is pid m m.broken (breaks pid ms) ms (breaks_are pid ms)
 
--- 3. Their order
+-- 3. The order of packets
 
 over_marked : (n : ℕ) (last : Option LastView) (entries : List Entry) → Over n (places entries) → Over n (broken_places (marked last entries))
 unfolding mark
@@ -113,7 +113,7 @@ increasing_marked last (x ∷ entries) h = by (is_some (break_at last x)) (incre
     by true k = (over_marked x.index (Some (seen (mark last x))) entries h.0, k)
     by false k = k
 
--- 4. The faults of a PID
+-- 4. The counter faults of a PID
 
 pub each_counter_law : EachCounterLaw
 unfolding in_order

@@ -1,4 +1,4 @@
--- Faults of one PID, and the packets of a PID in their order.
+-- Faults of one PID, and the packets of a PID in order.
 use Rattle.std.proofs.Common.{ℕ, ◌+◌, ◌<◌, Bool, true, false, cond, List, [], ◌∷◌, map, filter, Result}
 use Rattle.std.proofs.Common.{Ok, Err, arith}
 use Rattle.std.specs.List.{cons_option, enumerate_from, filter_map}
@@ -8,7 +8,7 @@ use Rattle.ts_packet.specs.Reading.{packet_at}
 use Rattle.ts_packet.specs.PidList.{Entry, cut_packets, entries_of, entry_of, is_of_pid, pid_list}
 use Rattle.laws_monitor.proofs.PlaceOrder.{Increasing, Over}
 
--- 1. Entries in order
+-- 1. Packets in order
 
 abbrev pub places : List Entry → List ℕ
 places entries = map (λ entry. entry.index) entries

@@ -1,4 +1,4 @@
--- The faults of a stream by one rule: those of its group.
+-- The faults of a stream by one rule are the faults of one group.
 use Rattle.std.proofs.Common.{◌≡◌, ◌∙◌, ℕ, ◌/◌, ◌%◌, ◌==◌, Bool, true, false, cond, List, [], ◌∷◌, ◌++◌, length, map, filter, Option, Some, None, Result, Ok}
 use Rattle.std.proofs.Common.{Err, refl}
 use Rattle.std.specs.List.{enumerate_from, flat_map}
@@ -23,9 +23,9 @@ use Rattle.monitor.specs.Rules.{failing, fault, finding_rule, packet_rule}
 use Rattle.laws_monitor.specs.FaultsByRule.{is_by}
 use Rattle.laws_monitor.proofs.FaultLists.{left_alone, none_at, none_on_each, right_alone}
 
--- 1. Groups in which the part has nothing
+-- 1. Groups without selected faults
 
--- the part has no fault of these rules
+-- The test selects no fault of a rule.
 abbrev pub Without : (StreamFault → Bool) → Rule → Type 0
 Without p rule = (pid : Option ℕ) (k : ℕ) → p (fault rule pid k) ≡ false
 
@@ -56,9 +56,9 @@ none_cut p bytes h = by (length bytes % 188 == 0)
     by true = refl
     by false = rw (h None (length bytes / 188)) refl
 
--- 2. The rules that are neither of findings nor of this part
+-- 2. Groups of other rules
 
--- what packets fail has nothing of the part
+-- If a test selects no rule of packets, it selects no fault of packets.
 pub none_by_packets : (p : StreamFault → Bool) (rate limit : ℕ) (bytes : List ℕ) → Without p rules.Sync → Without p rules.Packet → Without p rules.Error →
     Without p rules.Cut → Without p rules.Pcr → filter p (faults_of_packets rate limit bytes) ≡ []
 none_by_packets p rate limit bytes s q e c r =
@@ -67,7 +67,7 @@ none_by_packets p rate limit bytes s q e c r =
     ∙ none_cut p bytes c)
     ∙ none_on_each p rules.Pcr (pcr_late rate limit bytes) (packet_pids bytes) r
 
--- of what findings fail the part has only what they fail by themselves
+-- If a test selects no rule of tables and time stamps, it selects only the faults of the findings themselves.
 pub findings_alone : (p : StreamFault → Bool) (rate : ℕ) (bytes : List ℕ) → Without p rules.Pat → Without p rules.Pmt → Without p rules.Nit →
     Without p rules.Sdt → Without p rules.Eit → Without p rules.Tdt → Without p rules.Pts →
     filter p (faults_of_findings rate bytes) ≡ filter p (flat_map (λ pid. finding_faults pid (found_on pid bytes)) (packet_pids bytes))
@@ -80,12 +80,12 @@ findings_alone p rate bytes pat pmt nit sdt eit tdt pts =
     ∙ left_alone p _ _ (none_on_each p rules.Pmt (map_late rate bytes) (map (λ naming. naming.0) (namings (found_on 0 bytes))) pmt)
     ∙ left_alone p _ _ (none_at p rules.Pat (Some 0x00) (pat_late rate bytes) (pat (Some 0x00)))
 
--- 3. By rule
+-- 3. The group of each rule
 
 abbrev pub findings_part : List ℕ → List StreamFault
 findings_part bytes = flat_map (λ pid. finding_faults pid (found_on pid bytes)) (packet_pids bytes)
 
--- 4: continuity_counter
+-- Rule 4: continuity_counter
 pub counter_group : (rate limit : ℕ) (bytes : List ℕ) → filter (is_by 4) (faults_of rate limit bytes) ≡ filter (is_by 4) (findings_part bytes)
 unfolding faults_of rule_number
 counter_group rate limit bytes =
@@ -93,7 +93,7 @@ counter_group rate limit bytes =
     (none_by_packets (is_by 4) rate limit bytes (λ o k. refl) (λ o k. refl) (λ o k. refl) (λ o k. refl) (λ o k. refl))
     ∙ findings_alone (is_by 4) rate bytes (λ o k. refl) (λ o k. refl) (λ o k. refl) (λ o k. refl) (λ o k. refl) (λ o k. refl) (λ o k. refl)
 
--- 4. Rules of packets: findings have nothing of the part
+-- 4. If a test selects no rule of findings, it selects no finding
 
 none_finding : (p : StreamFault → Bool) (pid k : ℕ) (what : WhatView) → Without p rules.Counter → Without p rules.Crc → Without p rules.Section →
     filter p (failing (Some pid) k (finding_rule what)) ≡ []
@@ -128,7 +128,7 @@ none_of_pids p bytes [] n c s = refl
 none_of_pids p bytes (pid ∷ pids) n c s =
     right_alone p (finding_faults pid (found_on pid bytes)) _ (none_of_pid p pid (found_on pid bytes) n c s) ∙ none_of_pids p bytes pids n c s
 
--- a part without rules of findings
+-- A test that selects no rule of findings.
 pub record OfPackets (p : StreamFault → Bool) : Type 0 where
   pub counter : Without p rules.Counter
   pub crc : Without p rules.Crc
@@ -149,7 +149,7 @@ packets_alone p rate limit bytes h =
     left_alone p (faults_of_packets rate limit bytes) (faults_of_findings rate bytes)
     (findings_alone p rate bytes h.pat h.pmt h.nit h.sdt h.eit h.tdt h.pts ∙ none_of_pids p bytes (packet_pids bytes) h.counter h.crc h.section)
 
--- 1 to 3: packets that are refused, or say that they are wrong
+-- Rules 1 to 3: packets that are refused or have transport_error_indicator
 pub refusal_group : (p : StreamFault → Bool) (rate limit : ℕ) (bytes : List ℕ) → OfPackets p → Without p rules.Pcr →
     filter p (faults_of rate limit bytes) ≡ filter p (packet_faults (enumerate_from 0 (cut_packets bytes)))
 refusal_group p rate limit bytes h pcr =
@@ -159,7 +159,7 @@ refusal_group p rate limit bytes h pcr =
     (none_on_each p rules.Pcr (pcr_late rate limit bytes) (packet_pids bytes) pcr)
     ∙ left_alone p (packet_faults (enumerate_from 0 (cut_packets bytes))) (cut_faults bytes) (none_cut p bytes h.cut)
 
--- 13: clock references
+-- Rule 13: clock references
 pub pcr_group : (p : StreamFault → Bool) (rate limit : ℕ) (bytes : List ℕ) → OfPackets p → Without p rules.Sync → Without p rules.Packet →
     Without p rules.Error →
     filter p (faults_of rate limit bytes) ≡ filter p (on_each rules.Pcr (pcr_late rate limit bytes) (packet_pids bytes))
@@ -170,7 +170,7 @@ pcr_group p rate limit bytes h s q e =
     (right_alone p (packet_faults (enumerate_from 0 (cut_packets bytes))) (cut_faults bytes) (none_of_packets p (enumerate_from 0 (cut_packets bytes)) s q e)
     ∙ none_cut p bytes h.cut)
 
--- 15: the end
+-- Rule 15: the end of the stream
 pub cut_group : (rate limit : ℕ) (bytes : List ℕ) → filter (is_by 15) (faults_of rate limit bytes) ≡ cut_faults bytes
 unfolding faults_of rule_number
 cut_group rate limit bytes =

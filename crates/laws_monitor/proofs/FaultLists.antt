@@ -1,4 +1,4 @@
--- Lists of faults: some of them, in order.
+-- Lists of faults, and the faults that a test selects, in order.
 use Rattle.std.proofs.Common.{◌≡◌, ◌∙◌, ℕ, Bool, true, false, cond, List, [], ◌∷◌, ◌++◌, map, filter, Option, Some, refl, sym, ap}
 use Rattle.std.proofs.Common.{arith}
 use Rattle.std.specs.Prelude.{◌&&◌, ◌||◌}
@@ -18,7 +18,7 @@ and_false : (a : Bool) → false ≡ (a && false)
 and_false true = refl
 and_false false = refl
 
--- 1. Members of a part
+-- 1. Members of the selected faults
 
 pub has_filter : (p : StreamFault → Bool) (z : StreamFault) (xs : List StreamFault) → has z (filter p xs) ≡ (p z && has z xs)
 unfolding has
@@ -42,7 +42,7 @@ has_filter p z (x ∷ xs) = by (p x) refl (same z x) refl (p z) refl (has_filter
 pub alike_filter : (p : StreamFault → Bool) (xs ys : List StreamFault) → alike xs ys → alike (filter p xs) (filter p ys)
 alike_filter p xs ys h z = has_filter p z xs ∙ ap (λ (b : Bool). p z && b) (h z) ∙ sym (has_filter p z ys)
 
--- 2. A part in order
+-- 2. The selected faults in order
 
 of_both : (a b : Bool) → (a && b) ≡ true → b ≡ true
 of_both true b e = e
@@ -64,11 +64,11 @@ filter_in_order p xs =
     settled (filter p (in_order xs)) (in_order (filter p xs)) (rising_filter p (in_order xs) (rising_in_order xs)) (rising_in_order (filter p xs))
     (λ z. has_filter p z (in_order xs) ∙ ap (λ (b : Bool). p z && b) (has_in_order z xs) ∙ sym (has_filter p z xs) ∙ sym (has_in_order z (filter p xs)))
 
--- so the part of an ordered list, by any list with the same members in that part
+-- The selected faults of an ordered list are any list with the same members, in order.
 pub part_in_order : (p : StreamFault → Bool) (xs ys : List StreamFault) → alike (filter p xs) ys → filter p (in_order xs) ≡ in_order ys
 part_in_order p xs ys h = filter_in_order p xs ∙ in_order_same (filter p xs) ys h
 
--- 3. Lists of which no fault is in the part
+-- 3. Lists without selected faults
 
 pub right_alone : (p : StreamFault → Bool) (xs ys : List StreamFault) → filter p xs ≡ [] → filter p (xs ++ ys) ≡ filter p ys
 right_alone p xs ys e = filter-append p xs ys ∙ ap (λ (l : List StreamFault). l ++ filter p ys) e

@@ -1,4 +1,4 @@
--- Each fault of a report has the PID of its rule.
+-- Each fault of a report has the PID that its rule asks for.
 use Rattle.std.proofs.Common.{◌≡◌, ◌∙◌, ⊎_elim, ℕ, ◌/◌, ◌%◌, ◌==◌, Bool, true, false, cond, List, [], ◌∷◌, ◌++◌, length, map, Option, Some, None, Result, Ok}
 use Rattle.std.proofs.Common.{Err}
 use Rattle.std.proofs.Common.{refl, sym, ap, arith}
@@ -31,7 +31,7 @@ use Rattle.laws_monitor.proofs.References.{place_of}
 no_false : true ≡ false → ⊥
 no_false e = grind arith
 
--- 1. Lists of such faults
+-- 1. Lists of faults with the PIDs of their rules
 
 abbrev AllFit : List StreamFault → Type 0
 AllFit faults = (z : StreamFault) → has z faults ≡ true → has_its_pid z.rule z.pid ≡ true
@@ -105,7 +105,7 @@ of_findings pid (x ∷ found) =
 each_of_rule : (rule : Rule) (places : ℕ → List ℕ) (pids : List ℕ) → ((pid : ℕ) → has_its_pid rule (Some pid) ≡ true) → AllFit (on_each rule places pids)
 each_of_rule rule places pids h = of_each (λ pid. map (fault rule (Some pid)) (places pid)) pids (λ pid. of_rule rule (Some pid) (places pid) (h pid))
 
--- 3. All of them
+-- 3. All groups
 
 all_fit : (rate given : ℕ) (bytes : List ℕ) → AllFit (faults_of rate given bytes)
 unfolding faults_of has_its_pid is_pid

@@ -1,4 +1,4 @@
--- A packet comes late if and only if something comes at it, not for the first time, and none came within the limit before it.
+-- A packet is late if and only if its event is not the first and no earlier event is within the limit before it.
 use Rattle.std.proofs.Common.{◌≡◌, inl, inr, ⊎_elim, ℕ, zero, suc, ◌-◌, ◌*◌, ◌<◌, Bool, true, false, cond, List, [], ◌∷◌, ◌++◌, Some, None, refl, sym}
 use Rattle.std.proofs.Common.{subst, arith}
 use Rattle.std.specs.Prelude.{nat_lt}
@@ -13,7 +13,7 @@ use Rattle.laws_monitor.proofs.PlaceOrder.{Increasing, Over}
 no_false : true ≡ false → ⊥
 no_false e = grind arith
 
--- 1. Members
+-- 1. Members of a list
 
 pub within_of : (n : ℕ) (xs : List ℕ) → Contains xs n → within n xs
 within_of n [] c = absurd (omega (arith, c.1))
@@ -38,7 +38,7 @@ over_less : (a b : ℕ) (xs : List ℕ) → a < b → Over b xs → Over a xs
 over_less a b [] l h = tt
 over_less a b (x ∷ xs) l h = (omega (arith, l, h.0), over_less a b xs l h.1)
 
--- 2. After one
+-- 2. Late packets after an event
 
 longer : (l a b n : ℕ) → a < b → b < n → l < (n - b) * 1504000 → l < (n - a) * 1504000
 longer l a b n h k g = omega (arith, h, k, g)
@@ -47,7 +47,7 @@ record LateAfter (l b : ℕ) (xs : List ℕ) (n : ℕ) : Type 0 where
   comes : within n xs
   gap : (m : ℕ) → within m (b ∷ xs) → m < n → l < (n - m) * 1504000
 
--- what is late after one
+-- A late packet is over the limit after every event before it.
 late_after : (l b n : ℕ) (xs : List ℕ) → Over b xs → Increasing xs → within n (after l (Some b) xs) → LateAfter l b xs n
 late_after l b n [] o i w = absurd w
 late_after l b n (x ∷ xs) o i w = by (λ v. late_after l x n xs i.0 i.1 v) (is_long l (x - b)) refl w
@@ -79,7 +79,7 @@ late_after l b n (x ∷ xs) o i w = by (λ v. late_after l x n xs i.0 i.1 v) (is
     by later true e (inr v) = there (later v)
     by later false e v = there (later v)
 
--- and back
+-- A packet that is over the limit after every event before it is late.
 is_late : (l b n : ℕ) (xs : List ℕ) → Over b xs → Increasing xs → LateAfter l b xs n → within n (after l (Some b) xs)
 is_late l b n [] o i h = absurd h.comes
 is_late l b n (x ∷ xs) o i h =
@@ -98,7 +98,7 @@ is_late l b n (x ∷ xs) o i h =
             let same : l < (x - b) * 1504000 = subst (λ (q : ℕ). l < (q - b) * 1504000) s long in
             absurd (grind (arith, nat_tests))
 
--- 3. From the first on
+-- 3. Late packets of a whole list
 
 of_late : (l n : ℕ) (xs : List ℕ) → Increasing xs → within n (after l None xs) →
     within n xs × ((m : ℕ) × within m xs × (m < n)) × ((m : ℕ) → within m xs → m < n → l < (n - m) * 1504000)

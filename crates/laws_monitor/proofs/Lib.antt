@@ -26,3 +26,6 @@ pub mod SharedRules
 pub mod Tables
 pub mod TableErrors
 pub mod Limits
+pub mod GivenItems
+pub mod SectionHistories
+pub mod StampHistories

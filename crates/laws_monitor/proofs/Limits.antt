@@ -1,4 +1,4 @@
--- The limits that both programs keep.
+-- The limits that both programs use.
 use Rattle.std.proofs.Common.{refl}
 use Rattle.tr101290.specs.Limits.{milliseconds}
 use Rattle.laws_monitor.specs.Limits.{MonitorLimits, TsviewKeeps}

@@ -1,4 +1,4 @@
--- Faults that packets have by themselves: at which packets they are reported.
+-- Faults of single packets: the packets at which they are reported.
 use Rattle.std.proofs.Common.{◌≡◌, ◌∙◌, ℕ, ◌+◌, ◌/◌, ◌%◌, ◌<◌, ◌==◌, Bool, true, false, cond, List, [], ◌∷◌, ◌++◌, length, map, filter, Some, None}
 use Rattle.std.proofs.Common.{Result, Ok, Err, refl, ap, ap₂, arith}
 use Rattle.std.specs.Prelude.{◌&&◌, is_ok, not, slice_index}
@@ -50,7 +50,7 @@ increasing_places test i (bytes ∷ packets) = by (test bytes) (increasing_place
     by true k = (over_places test i (i + 1) packets (omega arith), k)
     by false k = k
 
--- a rule is one of packets that pass a test
+-- By a rule, exactly the packets that pass a test are faults.
 abbrev Tests : (StreamFault → Bool) → Rule → (List ℕ → Bool) → Type 0
 Tests p rule test = (k : ℕ) (bytes : List ℕ) →
     filter p (failing None k (packet_rule (packet_at bytes))) ≡ cond (test bytes) (fault rule None k ∷ []) []
@@ -77,7 +77,7 @@ named p rule test rate limit bytes h e =
     part_in_order p (faults_of rate limit bytes) places (λ z. ap (has z) (e ∙ tested p rule test 0 (cut_packets bytes) h))
     ∙ order_stays places (rising_places rule None (packets_where test bytes) (increasing_places test 0 (cut_packets bytes)))
 
--- 2. The rules of packets
+-- 2. The rules of single packets
 
 sync_tests : Tests (is_by 1) rules.Sync has_sync_byte_error
 unfolding packet_rule failing rule_number
@@ -200,7 +200,7 @@ error_law rate limit bytes = named (is_by 3) rules.Error has_transport_error rat
       cut = λ o k. refl;
     }) (λ o k. refl))
 
--- 3. The end
+-- 3. The end of the stream
 
 one_fault : (bytes : List ℕ) → in_order (cut_faults bytes) ≡ cut_faults bytes
 unfolding in_order placed

@@ -1,4 +1,4 @@
--- What reading makes of a packet: only its first byte is refused as such, and a packet that can be read has the fields of its header.
+-- How a packet is read: only a wrong first byte gives Sync, and a packet that can be read has the fields of its header.
 use Rattle.std.proofs.Common.{◌≡◌, ℕ, ◌/◌, ◌%◌, ◌==◌, Bool, true, false, cond, List, [], ◌∷◌, length, take, drop, Option, Some, None, Result, Ok, Err, refl}
 use Rattle.std.specs.Prelude.{nat_lt, slice_index}
 use Rattle.bit_fields.specs.Fields.{flag}
@@ -11,7 +11,7 @@ use Rattle.ts_packet.specs.Views.{AdaptationView, PacketView}
 use Rattle.ts_packet.specs.Reading.{adaptation_at, body_at, countdown_at, field_at, header_of, length_prefixed_at, packet_at, parts_at, reference_at}
 use Rattle.ts_packet.specs.Reading.{reference_of}
 
--- 1. No refusal of the first byte
+-- 1. A result that is not Sync
 
 abbrev Later : {A : Type 0} → Result A PacketError → Type 0
 Later (Ok x) = Unit {0}
@@ -115,7 +115,7 @@ body_is header control bytes =
     by false false true h k = h
     by false false false h k = k
 
--- what a packet is read as, by its first byte
+-- The result of reading a packet, by its first byte.
 pub read_as : (bytes : List ℕ) (t : Bool) → (slice_index bytes 0 == 0x47) ≡ t → (r : Result PacketView PacketError) × (packet_at bytes ≡ r)
     × (cond t (IsBody (header_of bytes) r) (r ≡ Err Sync))
 unfolding packet_at

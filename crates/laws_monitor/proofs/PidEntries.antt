@@ -1,4 +1,4 @@
--- What is kept of each PID: the last value that was inserted.
+-- The entry of each PID is the last value that was inserted.
 use Rattle.std.proofs.Common.{◌≡◌, ◌∙◌, ℕ, ◌==◌, Bool, true, false, cond, nat_eq, List, [], ◌∷◌, Some, refl, ap, subst, arith}
 use Rattle.std.specs.Map.{lookup}
 use Rattle.std.proofs.lemmas.Bool.Decides.{nat_tests}

@@ -1,4 +1,4 @@
--- Faults of one rule and one PID at packets in order are in order; so are those that come late.
+-- Faults of one rule and one PID, at packets in order, are in order; late packets are in order too.
 use Rattle.std.proofs.Common.{◌≡◌, ◌⊎◌, inl, inr, ⊎_elim, ℕ, ◌-◌, ◌*◌, ◌<◌, ◌==◌, Bool, true, false, cond, List, [], ◌∷◌, ◌++◌, map}
 use Rattle.std.proofs.Common.{Option, Some, None, refl, sym, subst, arith}
 use Rattle.std.specs.Prelude.{◌||◌, nat_lt}
@@ -20,7 +20,7 @@ either false b e = inr e
 
 -- 1. Faults at packets in order
 
--- each is greater than a number, and than those before it
+-- All numbers of a list are greater than n; a list is increasing if each number is less than all later numbers.
 abbrev pub Over : ℕ → List ℕ → Type 0
 Over n [] = Unit {0}
 Over n (x ∷ xs) = (n < x) × Over n xs
@@ -54,7 +54,7 @@ rising_places rule pid (x ∷ xs) h = (all_above rule pid x xs h.0, rising_place
 pub order_stays : (xs : List StreamFault) → rising xs → in_order xs ≡ xs
 order_stays xs h = settled (in_order xs) xs (rising_in_order xs) h (λ z. has_in_order z xs)
 
--- 2. What comes late
+-- 2. Late packets
 
 over_after : (l n : ℕ) (o : Option ℕ) (xs : List ℕ) → Over n xs → Over n (after l o xs)
 over_after l n o [] h = tt

@@ -1,14 +1,20 @@
--- Events of the end of a stream: the monitor has no rule of them.
-use Rattle.std.proofs.Common.{ℕ, Bool, List, [], ◌∷◌, Option, Some, None, refl}
+-- Events of the end of a stream: the monitor has no rule for them, except for tables that have stopped.
+use Rattle.std.proofs.Common.{◌≡◌, ◌∙◌, ℕ, Bool, true, false, List, [], ◌∷◌, ◌++◌, filter, Option, Some, None, refl, ap}
+use Rattle.std.specs.List.{filter_map}
 use Rattle.std.specs.Option.{option_to_list}
-use Rattle.std.specs.Prelude.{flat_map}
+use Rattle.std.specs.Prelude.{◌||◌, flat_map, is_some}
+use Rattle.pid_findings.specs.Views.{FindingView}
 use Rattle.pid_windows.specs.declared.pid_windows.PidCounts.{PidCounts}
+use Rattle.program_tables.specs.KnownTables.{known_in}
+use Rattle.program_tables.specs.ProgramMaps.{program_map}
+use Rattle.psi_tables.specs.declared.pat.programs.Program.{Program}
 use Rattle.arrival.specs.declared.arrival.Arrival.{Arrival}
 use Rattle.system_tables.specs.Programs.{ProgramState, known}
 use Rattle.tstd_rows.specs.Held.{Held, transport_busy_under_way, transport_under_way, unit_before}
 use Rattle.tstd_rows.specs.Limits.{tb_size}
 use Rattle.tstd_rows.specs.declared.busy_watch.Stay.{Stay}
 use Rattle.tr101290.specs.RateJudges.{last_errors}
+use Rattle.tr101290.specs.declared.intervals.TableError.{TableError}
 use Rattle.events.specs.declared.event.Event.TheVariants as found
 use Rattle.events.specs.declared.rule_event.BufferKind.{BufferKind}
 use Rattle.events.specs.declared.rule_event.BufferKind.TheVariants as buffers
@@ -32,22 +38,29 @@ use Rattle.es_view.specs.Entries.{EntryState, closed_seen, place_at, seen_held, 
 use Rattle.es_view.specs.Entries as entry_views
 use Rattle.ts_watch.specs.Choices.{ChoiceView, takes}
 use Rattle.ts_watch.specs.ClockEvents.{clock_event, clock_events, inaccuracy_events, variable_events}
-use Rattle.ts_watch.specs.ReferenceEvents.{events_by, missing_events, reference_events, unreferenced_events}
+use Rattle.ts_watch.specs.AbsentTables.{absent_events, absent_tables, absent_unless, association_events, map_events, maps_events}
+use Rattle.ts_watch.specs.ReferenceEvents.{events_by, missing_events, reference_events, unreferenced_event, unreferenced_events}
 use Rattle.ts_watch.specs.RuleEvents.{RuleState, cat_events, ends_varying}
 use Rattle.ts_watch.specs.RuleEvents as rule_views
+use Rattle.ts_watch.specs.StoppedEvents.{errors_events, stopped_by, stopped_errors, stopped_events}
 use Rattle.ts_watch.specs.SystemEvents.{event_if, system_event, system_events, under_way}
 use Rattle.ts_watch.specs.SystemEvents as systems
-use Rattle.ts_watch.specs.TableEvents.{has_table, table_event, table_events}
+use Rattle.stream_programs.specs.FreePids.{is_taken}
+use Rattle.ts_tables.specs.NamedStreams.{NamedView}
+use Rattle.ts_watch.specs.TableEvents.{TablesState, error_event, error_events, has_table, table_event, table_events}
 use Rattle.ts_watch.specs.WindowEvents.{pid_event, pid_events}
 use Rattle.tr101290.specs.Packets.{missing_pids, unreferenced_pids}
 use Rattle.tr101290.specs.References.{referenced_pids}
-use Rattle.ts_report.specs.Seen.{SeenState, arrival_events, end_event, pid_ends, unclocked, unclocked_event, window_ends}
+use Rattle.ts_report.specs.Seen.{SeenState, arrival_events, end_event, is_stream, pid_ends, rule_ends, unclocked, unclocked_event, window_ends}
 use Rattle.ts_report.specs.StreamTables.{TableState, table_end}
 use Rattle.ts_report.specs.Views.{ViewState, end_events}
-use Rattle.laws_monitor.specs.ViewedFaults.{fault_in}
-use Rattle.laws_monitor.proofs.QuietEvents.{Quiet, all_of, each, join, lates, of_both, one_if, one_unless, system, tallies}
+use Rattle.monitor.specs.declared.fault.StreamFault.{StreamFault}
+use Rattle.monitor.specs.declared.fault.Rule.TheVariants as rules
+use Rattle.laws_monitor.specs.ViewedFaults.{EndFaultLaw, fault_in}
+use Rattle.laws_monitor.proofs.FaultGroups.{Without}
+use Rattle.laws_monitor.proofs.QuietEvents.{Quiet, all_of, each, join, lates, of_both, one_if, one_unless, quiet_after, quiet_before, system, tallies}
 use Rattle.laws_monitor.proofs.QuietTraces.{entry_traces}
-use Rattle.laws_monitor.proofs.ViewedPackets.{inaccuracies, variables, window_end}
+use Rattle.laws_monitor.proofs.ViewedPackets.{both_none, inaccuracies, part, table_none, variables, window_end}
 
 -- 1. Packets that no longer wait
 
@@ -115,12 +128,16 @@ programs_end : (options : ViewOptions) (choice : ChoiceView) (packets : ℕ) (pr
     Quiet (system_events options choice packets programs)
 programs_end options choice packets programs = all_of (systems.events_of options choice packets) programs (one_program options choice packets)
 
-named_end : (entries : List (ℕ × PidCounts)) (o : Option (List ℕ)) → Quiet (events_by entries o)
+unnamed_end : (later : List ℕ) (pid : ℕ) → Quiet (unreferenced_event later pid)
+unfolding fault_in
+unnamed_end later pid = one_unless (is_taken pid later) (found.Unreferenced pid) refl
+
+named_end : (entries : List (ℕ × PidCounts)) (later : List ℕ) (o : Option (List ℕ)) → Quiet (events_by entries later o)
 unfolding events_by fault_in
-named_end entries None = refl
-named_end entries (Some referenced) =
-    join (unreferenced_events (unreferenced_pids referenced entries)) (missing_events (missing_pids entries [] referenced))
-    (each (λ pid. found.Unreferenced pid) (unreferenced_pids referenced entries) (λ x. refl))
+named_end entries later None = refl
+named_end entries later (Some referenced) =
+    join (unreferenced_events later (unreferenced_pids referenced entries)) (missing_events (missing_pids entries [] referenced))
+    (all_of (unreferenced_event later) (unreferenced_pids referenced entries) (unnamed_end later))
     (each (λ pid. found.Missing pid) (missing_pids entries [] referenced) (λ x. refl))
 
 access_table : (o : Option ScrambledPacket) (has_cat : Bool) → Quiet (cat_events o has_cat)
@@ -134,23 +151,96 @@ rules_end s packets has_cat =
     (join (variable_events (ends_varying s.judge) packets s.judge) (cat_events s.scrambled has_cat)
     (variables (ends_varying s.judge) packets s.judge) (access_table s.scrambled has_cat))
 
-pids_end : (s : SeenState) → Quiet (pid_ends s)
+absent : (has : Bool) (pid table : ℕ) → Quiet (absent_unless has pid table)
 unfolding fault_in
+absent has pid table = one_unless has (found.Rule (rule_events.NoTable (record { pid = pid; table = table }))) refl
+
+absent_map : (findings : List FindingView) (tables : TablesState) (program : Program) → Quiet (map_events findings tables program)
+absent_map findings tables program = absent (is_some (program_map program findings) || has_table tables program.pid 2) program.pid 2
+
+absent_maps : (findings : List FindingView) (tables : TablesState) (programs : List Program) → Quiet (maps_events findings tables programs)
+absent_maps findings tables programs = all_of (map_events findings tables) programs (absent_map findings tables)
+
+tables_absent : (findings : List FindingView) (tables : TablesState) → Quiet (absent_tables findings tables)
+tables_absent findings tables =
+    join (association_events (known_in findings) tables) (maps_events findings tables (known_in findings).programs)
+    (absent (is_some (known_in findings).version || has_table tables 0 0) 0 0) (absent_maps findings tables (known_in findings).programs)
+
+absent_end : (stream : Bool) (named : NamedView) (tables : TablesState) → Quiet (absent_events stream named tables)
+absent_end true named tables = tables_absent named.demux.found tables
+absent_end false named tables = refl
+
+-- The faults of tables that have stopped.
+abbrev pub stopped_of : SeenState → List StreamFault
+stopped_of s = filter_map fault_in (stopped_events s.options s.tables s.packets)
+
+rules_of : (s : SeenState) → filter_map fault_in (rule_ends s) ≡ stopped_of s
+unfolding rule_ends
+rules_of s =
+    quiet_before (absent_events (is_stream s) s.named s.tables) _ (absent_end (is_stream s) s.named s.tables)
+    ∙ quiet_after (stopped_events s.options s.tables s.packets) (rule_views.end_events s.rules s.packets (has_table s.tables 0x01 0x01))
+    (rules_end s.rules s.packets (has_table s.tables 0x01 0x01))
+
+tables_quiet : (t : TablesState) → Quiet (table_events t)
+unfolding fault_in
+tables_quiet t = each (table_event t.times.intervals.timing) t.times.intervals.entries (λ x. refl)
+
+clocks_quiet : (s : SeenState) → Quiet (clock_events s.watches)
+unfolding fault_in
+clocks_quiet s = each clock_event s.watches.watches (λ x. refl)
+
+totals_quiet : (s : SeenState) → Quiet (pid_events s.totals)
+unfolding fault_in
+totals_quiet s = each pid_event s.totals.counts (λ x. refl)
+
+pids_end : (s : SeenState) → filter_map fault_in (pid_ends s) ≡ stopped_of s
+unfolding pid_ends
 pids_end s =
-    join (clock_events s.watches) _ (each clock_event s.watches.watches (λ x. refl))
-    (join (table_events s.tables) _ (each (table_event s.tables.times.intervals.timing) s.tables.times.intervals.entries (λ x. refl))
-    (join (pid_events s.totals) _ (each pid_event s.totals.counts (λ x. refl))
-    (join (reference_events s.named s.totals) (rule_views.end_events s.rules s.packets (has_table s.tables 0x01 0x01))
-    (named_end s.totals.counts (referenced_pids s.named)) (rules_end s.rules s.packets (has_table s.tables 0x01 0x01)))))
+    quiet_before (clock_events s.watches) _ (clocks_quiet s)
+    ∙ quiet_before (table_events s.tables) _ (tables_quiet s.tables)
+    ∙ quiet_before (pid_events s.totals) _ (totals_quiet s)
+    ∙ quiet_before (reference_events s.named s.tables s.totals) (rule_ends s)
+    (named_end s.totals.counts s.tables.named (referenced_pids s.named))
+    ∙ rules_of s
 
--- 4. All of them
-
-pub ends : (s : ViewState) (left : ℕ) → Quiet (end_events s left)
+end_quiet : (s : SeenState) (left : ℕ) → Quiet (end_event s left ∷ [])
 unfolding fault_in
+end_quiet s left = refl
+
+-- 4. All events of the end: only tables that have stopped have a rule
+
+pub ends : EndFaultLaw
 ends s left =
-    join (window_ends s.seen) _ (window_end s.seen)
-    (join (table_end s.seen.options s.seen.packets s.seen.window.number s.table) _
+    quiet_before (window_ends s.seen) _ (window_end s.seen)
+    ∙ quiet_before (table_end s.seen.options s.seen.packets s.seen.window.number s.table) _
     (streams_end s.seen.options s.seen.packets s.seen.window.number s.table)
-    (join (system_events s.seen.options s.table.choice s.seen.packets (known s.seen.systems)) _
+    ∙ quiet_before (system_events s.seen.options s.table.choice s.seen.packets (known s.seen.systems)) _
     (programs_end s.seen.options s.table.choice s.seen.packets (known s.seen.systems))
-    (join (pid_ends s.seen) (end_event s.seen left ∷ []) (pids_end s.seen) refl)))
+    ∙ quiet_after (pid_ends s.seen) (end_event s.seen left ∷ []) (end_quiet s.seen left)
+    ∙ pids_end s.seen
+
+-- A test that selects none of the rules of tables that both programs judge.
+pub record OfNoTable (p : StreamFault → Bool) : Type 0 where
+  pub nit : Without p rules.Nit
+  pub sdt : Without p rules.Sdt
+  pub tdt : Without p rules.Tdt
+
+errors_none : (p : StreamFault → Bool) (errors : List TableError) → OfNoTable p → part p (errors_events errors) ≡ []
+unfolding error_events
+errors_none p [] h = refl
+errors_none p (e ∷ errors) h =
+    both_none p (error_event e ∷ []) (errors_events errors) (table_none p e h.nit h.sdt h.tdt) (errors_none p errors h)
+
+stopped_none : (p : StreamFault → Bool) (options : ViewOptions) (t : TablesState) (packets : ℕ) (place : Option ℕ) → OfNoTable p →
+    part p (stopped_by options t packets place) ≡ []
+unfolding stopped_by
+stopped_none p options t packets None h = refl
+stopped_none p options t packets (Some place) h = errors_none p (stopped_errors options t packets place) h
+
+-- It selects no fault at the end.
+abbrev pub Ends : (StreamFault → Bool) → Type 0
+Ends p = (s : ViewState) (left : ℕ) → part p (end_events s left) ≡ []
+
+pub of_no_table : (p : StreamFault → Bool) → OfNoTable p → Ends p
+of_no_table p h = λ s left. ap (filter p) (ends s left)
+    ∙ stopped_none p s.seen.options s.seen.tables s.seen.packets (rule_views.place_at s.seen.options.arrival s.seen.packets) h

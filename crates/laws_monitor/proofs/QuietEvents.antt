@@ -1,5 +1,5 @@
--- Events of which the monitor has no rule: those of windows, of buffers, and of other checks.
-use Rattle.std.proofs.Common.{◌≡◌, ◌∙◌, ℕ, ◌==◌, Bool, true, false, cond, nat_eq, List, [], ◌∷◌, ◌++◌, map, Option, Some, None, refl, ap₂}
+-- Events for which the monitor has no rule: events of windows, of buffers, and of further checks.
+use Rattle.std.proofs.Common.{◌≡◌, ◌∙◌, ℕ, ◌==◌, Bool, true, false, cond, nat_eq, List, [], ◌∷◌, ◌++◌, map, Option, Some, None, refl, ap, ap₂, append-nil}
 use Rattle.std.specs.Prelude.{◌&&◌, min, nat_lt, slice_get}
 use Rattle.std.specs.List.{filter_map, flat_map}
 use Rattle.std.specs.Map.{lookup}
@@ -60,13 +60,21 @@ use Rattle.ts_report.specs.StreamTables.{TableState, begin_events, begin_events_
 use Rattle.monitor.specs.declared.fault.StreamFault.{StreamFault}
 use Rattle.laws_monitor.specs.ViewedFaults.{fault_in}
 
--- 1. Lists of such events
+-- 1. Lists of events without a rule
 
 abbrev pub Quiet : List Event → Type 0
 Quiet events = filter_map fault_in events ≡ []
 
 pub join : (xs ys : List Event) → Quiet xs → Quiet ys → Quiet (xs ++ ys)
 join xs ys h k = filter_map-append fault_in xs ys ∙ ap₂ (λ (a b : List StreamFault). a ++ b) h k
+
+-- Events without a rule, before other events or after them, change no fault.
+pub quiet_before : (xs ys : List Event) → Quiet xs → filter_map fault_in (xs ++ ys) ≡ filter_map fault_in ys
+quiet_before xs ys h = filter_map-append fault_in xs ys ∙ ap (λ (a : List StreamFault). a ++ filter_map fault_in ys) h
+
+pub quiet_after : (xs ys : List Event) → Quiet ys → filter_map fault_in (xs ++ ys) ≡ filter_map fault_in xs
+quiet_after xs ys h =
+    filter_map-append fault_in xs ys ∙ ap (λ (b : List StreamFault). filter_map fault_in xs ++ b) h ∙ append-nil (filter_map fault_in xs)
 
 pub each : {X : Type 0} (f : X → Event) (xs : List X) → ((x : X) → fault_in (f x) ≡ None) → Quiet (map f xs)
 each f [] h = refl
@@ -91,7 +99,7 @@ pub windows : (options : ViewOptions) (named : NamedView) (names : Option (List 
 unfolding fault_in
 windows options named names window = each (window_event options named names window.number) window.counts (λ x. refl)
 
--- clock references by window
+-- Clock references, window by window.
 clocks_of : (s : ClocksState) → Quiet (clock_windows.all_events s)
 unfolding fault_in
 clocks_of s = each (clock_windows.window_event s.number s.drifts) s.counts (λ x. refl)

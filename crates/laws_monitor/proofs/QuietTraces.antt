@@ -1,4 +1,4 @@
--- Events of what buffers held near their greatest excesses: the monitor has no rule of them.
+-- Events about buffer contents near their greatest excess: the monitor has no rule for them.
 use Rattle.std.proofs.Common.{ℕ, ◌==◌, Bool, true, false, List, [], cond, Option, Some, None, refl}
 use Rattle.std.specs.Prelude.{if◌then◌else◌}
 use Rattle.std.specs.Option.{option_to_list}

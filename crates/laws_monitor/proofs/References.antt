@@ -1,4 +1,4 @@
--- Packets at which clock references come late, PID by PID.
+-- Packets with late clock references, PID by PID.
 use Rattle.std.proofs.Common.{◌≡◌, ◌∙◌, inl, inr, ⊎_elim, ℕ, ◌==◌, Bool, true, false, List, [], ◌∷◌, ◌++◌, map, filter, Option, Some, refl}
 use Rattle.std.proofs.Common.{sym, ap, ap₂, subst, arith}
 use Rattle.std.specs.Prelude.{◌&&◌, ◌||◌}
@@ -47,7 +47,7 @@ right_of : (a b : Bool) → (a && b) ≡ true → b ≡ true
 right_of true b e = e
 right_of false b e = absurd (no_false (sym e))
 
--- a fault that is in a list of one rule and one PID
+-- A fault in the list of one rule and one PID has a packet of that list.
 pub place_of : (rule : Rule) (pid : Option ℕ) (z : StreamFault) (xs : List ℕ) → has z (map (fault rule pid) xs) ≡ true →
     (x : ℕ) × within x xs × (z ≡ fault rule pid x)
 unfolding has
@@ -71,7 +71,7 @@ has_place rule pid x (y ∷ ys) (inr w) = by (same (fault rule pid x) (fault rul
     by true h = refl
     by false h = h
 
--- of a PID
+-- The faults of one PID.
 module _ (rule : Rule) (lates : ℕ → List ℕ) (pids : List ℕ) (covers : (pid x : ℕ) → within x (lates pid) → within pid pids) (pid : ℕ) where
   one : (z : StreamFault) → is_on pid z ≡ true → (q : ℕ) → has z (map (fault rule (Some q)) (lates q)) ≡ true →
       has z (map (fault rule (Some pid)) (lates pid)) ≡ true

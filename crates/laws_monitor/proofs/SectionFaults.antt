@@ -1,4 +1,4 @@
--- Sections that are refused: which packets are reported.
+-- Refused sections: the packets at which they are reported.
 use Rattle.std.proofs.Common.{◌≡◌, ◌∙◌, ⊎_elim, ◌↔◌, ℕ, zero, suc, Bool, true, false, List, [], ◌∷◌, Option, Some, None, refl, sym, ap}
 use Rattle.std.proofs.Common.{subst, arith}
 use Rattle.std.specs.Prelude.{◌||◌}
@@ -71,7 +71,7 @@ fails_in rule pid at (x ∷ found) (suc i, k, s) e =
     in_right (fault rule (Some pid) at.packet) (failing (Some pid) x.packet (finding_rule x.found.what)) (finding_faults pid found)
     (fails_in rule pid at found (i, omega (arith, k), s) e)
 
--- 2. In a report
+-- 2. A fault in a report
 
 found_of_pid : (rule : Rule) (pid n : ℕ) (bytes : List ℕ) → has (fault rule (Some pid) n) (findings_part bytes) ≡ true → IsFound rule pid bytes n
 found_of_pid rule pid n bytes e =

@@ -1,4 +1,4 @@
--- Rules with one meaning.
+-- Rules that have one meaning in both programs.
 use Rattle.std.proofs.Common.{◌≡◌, ◌∙◌, ℕ, ◌-◌, ◌*◌, ◌/◌, ◌^◌, ◌<◌, Bool, List, [], ◌∷◌, length, map, filter, refl, sym, ap}
 use Rattle.std.specs.List.{enumerate_from}
 use Rattle.ts_packet.specs.PidList.{cut_packets}

@@ -1,4 +1,4 @@
--- Tables, time stamps and sections: which packets are reported.
+-- Tables, time stamps and sections: the packets at which they are reported.
 use Rattle.std.proofs.Common.{◌≡◌, ◌∙◌, inl, inr, ⊎_elim, ◌↔◌, ℕ, zero, suc, ◌-◌, ◌*◌, ◌/◌, ◌<◌, ◌==◌, Bool, true, false, cond, nat_eq, List, [], ◌∷◌, ◌++◌}
 use Rattle.std.proofs.Common.{length}
 use Rattle.std.proofs.Common.{map, filter, Option, Some, None, refl, sym, ap, subst, arith}
@@ -37,7 +37,7 @@ no_false e = grind arith
 itself : (a : ℕ) → (a == a) ≡ true
 itself a = grind (arith, nat_tests)
 
--- 1. A fault in a report is one of its group
+-- 1. A fault in a report is a fault of its group
 
 in_part : (p : StreamFault → Bool) (z : StreamFault) (xs : List StreamFault) → p z ≡ true → has z (filter p xs) ≡ has z xs
 in_part p z xs h = has_filter p z xs ∙ ap (λ (b : Bool). b && has z xs) h
@@ -87,7 +87,7 @@ late_if rate limit n xs h =
     let test : nat_lt (limit * rate) ((n - h.before) * 1504000) ≡ true = grind (arith, nat_tests) in
     gap_in (λ p. is_long (limit * rate) (p.1 - p.0)) h.before n (successive xs) h.next test
 
--- faults of a rule on a PID, by what is late there
+-- A fault of a rule on a PID lies at a late packet of the PID.
 pub place_is : (rule : Rule) (pid : Option ℕ) (n : ℕ) (xs : List ℕ) → has (fault rule pid n) (map (fault rule pid) xs) ≡ true → within n xs
 place_is rule pid n xs e =
     let p = place_of rule pid (fault rule pid n) xs e in
@@ -139,7 +139,7 @@ tdt_law rate given n bytes =
     (map (fault rules.Tdt (Some 0x14)) (table_late rate 30000 0x14 0x70 bytes))
     refl (tdt_group rate given bytes))
 
--- 4. Rules of each PID
+-- 4. Rules that apply to each PID
 
 on_own : (rule : Rule) (lates : ℕ → List ℕ) (pids : List ℕ) → ((pid x : ℕ) → within x (lates pid) → within pid pids) → (pid n : ℕ) →
     has (fault rule (Some pid) n) (on_each rule lates pids) ≡ has (fault rule (Some pid) n) (map (fault rule (Some pid)) (lates pid))
@@ -170,7 +170,7 @@ pts_law rate given pid n bytes =
     (pts_group rate given bytes)
     ∙ on_own rules.Pts (pts_late rate bytes) (packet_pids bytes) (stamps_covered rate bytes) pid n)
 
--- program maps
+-- Program maps.
 is_named : (pid since : ℕ) (es : List (ℕ × ℕ)) → lookup (nat_eq pid) es ≡ Some since → within pid (map (λ naming. naming.0) es)
 is_named pid since [] e = absurd cc
 is_named pid since (x ∷ es) e = by (λ h. is_named pid since es h) (pid == x.0) refl e

@@ -1,4 +1,4 @@
--- The faults of a stream by a rule of tables or time stamps: those of its group.
+-- The faults of a stream by a rule of tables or time stamps are the faults of one group.
 use Rattle.std.proofs.Common.{◌≡◌, ◌∙◌, ℕ, Bool, List, [], ◌++◌, map, filter, Some, refl}
 use Rattle.monitor.specs.declared.fault.StreamFault.{StreamFault}
 use Rattle.monitor.specs.declared.fault.Rule.TheVariants as rules
@@ -11,7 +11,7 @@ use Rattle.laws_monitor.specs.FaultsByRule.{is_by}
 use Rattle.laws_monitor.proofs.FaultGroups.{Without, findings_alone, findings_part, none_by_packets, none_of_pids}
 use Rattle.laws_monitor.proofs.FaultLists.{left_alone, none_at, none_on_each, right_alone}
 
--- 1. The groups of findings, in their order
+-- 1. The groups of findings, in order
 
 abbrev pats : ℕ → List ℕ → List StreamFault
 pats rate bytes = map (fault rules.Pat (Some 0x00)) (pat_late rate bytes)
@@ -34,7 +34,7 @@ tdts rate bytes = map (fault rules.Tdt (Some 0x14)) (table_late rate 30000 0x14 
 abbrev ptss : ℕ → List ℕ → List StreamFault
 ptss rate bytes = on_each rules.Pts (pts_late rate bytes) (packet_pids bytes)
 
--- with those before
+-- Each group, joined to the groups before it.
 abbrev to_pat : ℕ → List ℕ → List StreamFault
 to_pat rate bytes = findings_part bytes ++ pats rate bytes
 
@@ -53,7 +53,7 @@ to_eit rate bytes = to_sdt rate bytes ++ eits rate bytes
 abbrev to_tdt : ℕ → List ℕ → List StreamFault
 to_tdt rate bytes = to_eit rate bytes ++ tdts rate bytes
 
--- 2. Groups before that of a rule
+-- 2. The groups before the group of a rule
 
 module _ (p : StreamFault → Bool) (rate : ℕ) (bytes : List ℕ) where
   no_finding : Without p rules.Counter → Without p rules.Crc → Without p rules.Section → filter p (findings_part bytes) ≡ []
@@ -82,7 +82,7 @@ module _ (p : StreamFault → Bool) (rate : ℕ) (bytes : List ℕ) where
   no_tdt before tdt = right_alone p (to_eit rate bytes) (tdts rate bytes) before
       ∙ none_at p rules.Tdt (Some 0x14) (table_late rate 30000 0x14 0x70 bytes) (tdt (Some 0x14))
 
-  -- 3. Groups after that of a rule
+  -- 3. The groups after the group of a rule
 
   but_pmt : Without p rules.Pmt → filter p (to_pat rate bytes ++ pmts rate bytes) ≡ filter p (to_pat rate bytes)
   but_pmt pmt =
@@ -104,7 +104,7 @@ module _ (p : StreamFault → Bool) (rate : ℕ) (bytes : List ℕ) where
   but_pts : Without p rules.Pts → filter p (to_tdt rate bytes ++ ptss rate bytes) ≡ filter p (to_tdt rate bytes)
   but_pts pts = left_alone p (to_tdt rate bytes) (ptss rate bytes) (none_on_each p rules.Pts (pts_late rate bytes) (packet_pids bytes) pts)
 
--- 4. By rule
+-- 4. The group of each rule
 
 by_findings : (p : StreamFault → Bool) (rate limit : ℕ) (bytes : List ℕ) → Without p rules.Sync → Without p rules.Packet → Without p rules.Error →
     Without p rules.Cut → Without p rules.Pcr → filter p (faults_of rate limit bytes) ≡ filter p (faults_of_findings rate bytes)
@@ -112,21 +112,21 @@ unfolding faults_of
 by_findings p rate limit bytes s q e c r =
     right_alone p (faults_of_packets rate limit bytes) (faults_of_findings rate bytes) (none_by_packets p rate limit bytes s q e c r)
 
--- 5
+-- Rule 5: refused check words
 pub crc_group : (rate limit : ℕ) (bytes : List ℕ) → filter (is_by 5) (faults_of rate limit bytes) ≡ filter (is_by 5) (findings_part bytes)
 unfolding rule_number
 crc_group rate limit bytes =
     by_findings (is_by 5) rate limit bytes (λ o k. refl) (λ o k. refl) (λ o k. refl) (λ o k. refl) (λ o k. refl)
     ∙ findings_alone (is_by 5) rate bytes (λ o k. refl) (λ o k. refl) (λ o k. refl) (λ o k. refl) (λ o k. refl) (λ o k. refl) (λ o k. refl)
 
--- 6
+-- Rule 6: sections that are refused for another reason
 pub section_group : (rate limit : ℕ) (bytes : List ℕ) → filter (is_by 6) (faults_of rate limit bytes) ≡ filter (is_by 6) (findings_part bytes)
 unfolding rule_number
 section_group rate limit bytes =
     by_findings (is_by 6) rate limit bytes (λ o k. refl) (λ o k. refl) (λ o k. refl) (λ o k. refl) (λ o k. refl)
     ∙ findings_alone (is_by 6) rate bytes (λ o k. refl) (λ o k. refl) (λ o k. refl) (λ o k. refl) (λ o k. refl) (λ o k. refl) (λ o k. refl)
 
--- 7
+-- Rule 7: PAT
 pub pat_group : (rate limit : ℕ) (bytes : List ℕ) → filter (is_by 7) (faults_of rate limit bytes) ≡ filter (is_by 7) (pats rate bytes)
 unfolding rule_number
 pat_group rate limit bytes =
@@ -139,7 +139,7 @@ pat_group rate limit bytes =
     ∙ but_pmt (is_by 7) rate bytes (λ o k. refl)
     ∙ right_alone (is_by 7) (findings_part bytes) (pats rate bytes) (no_finding (is_by 7) rate bytes (λ o k. refl) (λ o k. refl) (λ o k. refl))
 
--- 8
+-- Rule 8: PMT
 pub pmt_group : (rate limit : ℕ) (bytes : List ℕ) → filter (is_by 8) (faults_of rate limit bytes) ≡ filter (is_by 8) (pmts rate bytes)
 unfolding rule_number
 pmt_group rate limit bytes =
@@ -152,7 +152,7 @@ pmt_group rate limit bytes =
     ∙ right_alone (is_by 8) (to_pat rate bytes) (pmts rate bytes) (no_pat (is_by 8) rate bytes
     (no_finding (is_by 8) rate bytes (λ o k. refl) (λ o k. refl) (λ o k. refl)) (λ o k. refl))
 
--- 9
+-- Rule 9: NIT
 pub nit_group : (rate limit : ℕ) (bytes : List ℕ) → filter (is_by 9) (faults_of rate limit bytes) ≡ filter (is_by 9) (nits rate bytes)
 unfolding rule_number
 nit_group rate limit bytes =
@@ -165,7 +165,7 @@ nit_group rate limit bytes =
     (no_pat (is_by 9) rate bytes
     (no_finding (is_by 9) rate bytes (λ o k. refl) (λ o k. refl) (λ o k. refl)) (λ o k. refl)) (λ o k. refl))
 
--- 10
+-- Rule 10: SDT
 pub sdt_group : (rate limit : ℕ) (bytes : List ℕ) → filter (is_by 10) (faults_of rate limit bytes) ≡ filter (is_by 10) (sdts rate bytes)
 unfolding rule_number
 sdt_group rate limit bytes =
@@ -178,7 +178,7 @@ sdt_group rate limit bytes =
     (no_pat (is_by 10) rate bytes
     (no_finding (is_by 10) rate bytes (λ o k. refl) (λ o k. refl) (λ o k. refl)) (λ o k. refl)) (λ o k. refl)) (λ o k. refl))
 
--- 11
+-- Rule 11: EIT
 pub eit_group : (rate limit : ℕ) (bytes : List ℕ) → filter (is_by 11) (faults_of rate limit bytes) ≡ filter (is_by 11) (eits rate bytes)
 unfolding rule_number
 eit_group rate limit bytes =
@@ -191,7 +191,7 @@ eit_group rate limit bytes =
     (no_pat (is_by 11) rate bytes
     (no_finding (is_by 11) rate bytes (λ o k. refl) (λ o k. refl) (λ o k. refl)) (λ o k. refl)) (λ o k. refl)) (λ o k. refl)) (λ o k. refl))
 
--- 12
+-- Rule 12: TDT
 pub tdt_group : (rate limit : ℕ) (bytes : List ℕ) → filter (is_by 12) (faults_of rate limit bytes) ≡ filter (is_by 12) (tdts rate bytes)
 unfolding rule_number
 tdt_group rate limit bytes =
@@ -204,7 +204,7 @@ tdt_group rate limit bytes =
     (no_pat (is_by 12) rate bytes
     (no_finding (is_by 12) rate bytes (λ o k. refl) (λ o k. refl) (λ o k. refl)) (λ o k. refl)) (λ o k. refl)) (λ o k. refl)) (λ o k. refl)) (λ o k. refl))
 
--- 14
+-- Rule 14: PTS
 pub pts_group : (rate limit : ℕ) (bytes : List ℕ) → filter (is_by 14) (faults_of rate limit bytes) ≡ filter (is_by 14) (ptss rate bytes)
 unfolding rule_number
 pts_group rate limit bytes =

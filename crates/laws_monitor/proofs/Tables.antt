@@ -131,7 +131,7 @@ module _ (rate limit pid table_id : ℕ) (some : 0 < rate) (m : milliseconds pid
       (along (taken s section) sections t h.1
       ∙ ap (λ (o : Option ℕ). places.after (limit * rate) o (map (λ (s : SectionBegin). s.packet) sections)) (next_is s section h.0))
 
--- 3. Where they begin, by what is found
+-- 3. The packets at which sections begin, by the findings
 
 one_begin : (pid table_id packet : ℕ) (begun : Option (ℕ × Kind)) (what : WhatView) (rest : List SectionBegin) →
     map (λ (s : SectionBegin). s.packet) (filter (λ (s : SectionBegin). s.table_id == table_id) (cons_option (section_by (Some pid) begun what) rest))

@@ -1,4 +1,4 @@
--- The clock references of each PID that come late, at a constant rate, packet by packet of a report.
+-- The late clock references of each PID, at a constant rate, packet by packet of a report.
 use Rattle.std.proofs.Common.{◌≡◌, ◌∙◌, ℕ, ◌+◌, ◌-◌, ◌*◌, ◌/◌, ◌^◌, ◌<◌, ◌≤◌, ◌==◌, Bool, true, false, cond, nat_eq, List, [], ◌∷◌, ◌++◌, length, map, filter}
 use Rattle.std.proofs.Common.{Option, Some, None, Result, Ok, Err, true≢false, refl, sym, ap, arith, append_assoc}
 use Rattle.std.specs.Prelude.{is_some, nat_lt, option_map, unwrap_or}
@@ -35,6 +35,7 @@ use Rattle.ts_report.specs.Views.{ViewState, after_packet, after_read, events_al
 use Rattle.monitor.specs.declared.fault.StreamFault.{StreamFault}
 use Rattle.monitor.specs.declared.fault.Rule.TheVariants as rules
 use Rattle.monitor.specs.Gaps.{is_long}
+use Rattle.monitor.specs.InOrder.{rule_number}
 use Rattle.monitor.specs.Recurrences.{RecurrenceState, late_at, marked_all, no_marks}
 use Rattle.monitor.specs.Reports.{late_fault}
 use Rattle.monitor.specs.Rules.{fault}
@@ -43,11 +44,12 @@ use Rattle.monitor.proofs.FoundWhole.{packet_count}
 use Rattle.laws_monitor.specs.FaultsByRule.{is_by}
 use Rattle.laws_monitor.specs.ViewedFaults.{viewed_faults}
 use Rattle.laws_monitor.proofs.PidEntries.{kept}
+use Rattle.laws_monitor.proofs.QuietEnds.{Ends, of_no_table}
 use Rattle.laws_monitor.proofs.ViewedPackets.{late_if, late_reference, part, part_append, repetition_of}
 use Rattle.laws_monitor.proofs.WaitingPackets.{at_one_rate}
 use Rattle.laws_monitor.proofs.ViewedRules.{clock_at_packet, next_count, seen_after, seen_by}
 
--- 1. One reference after another of its PID
+-- 1. One clock reference after another on its PID
 
 abbrev byte_at : ℕ → ℕ
 byte_at index = 188 * index + 10
@@ -55,7 +57,7 @@ byte_at index = 188 * index + 10
 abbrev last_byte : Option TimedSample → Option ℕ
 last_byte o = option_map (λ t. t.sample.byte) o
 
--- 100 ms in ticks of 27 MHz, of bytes, and in milliseconds, of packets
+-- Comparing 100 ms in ticks of 27 MHz and in milliseconds gives the same result.
 long_alike : (rate index before : ℕ) → 0 < rate → nat_lt 2700000 (time_of_bytes rate (byte_at index - byte_at before)) ≡ is_long (100 * rate) (index - before)
 long_alike rate index before some = by (nat_lt 2700000 (time_of_bytes rate n)) (is_long (100 * rate) (index - before)) refl refl
   where
@@ -107,7 +109,7 @@ gap rate index pid timing (Some last) (Some before) sample line some t h b =
     by true = ap (λ (k : ℕ). fault rules.Pcr (Some pid) k ∷ []) place
     by false = refl
 
--- 2. What both keep of each PID
+-- 2. The notes on each PID in both programs
 
 pub record Same (rate : ℕ) (last : List (ℕ × ℕ)) (w : WatchesState) : Type 0 where
   pub timing : (pid : ℕ) → (watch_of w pid).timing ≡ ConstantRate rate
@@ -138,9 +140,9 @@ same_next rate last w q index sample h b = record { timing = λ pid. timing_by p
         ∙ h.places pid
         ∙ ap (option_map byte_at) (sym (kept pid q index last false e))
 
--- 3. A packet
+-- 3. One packet
 
--- what the monitor marks of a packet that counts
+-- What the monitor notes of a packet that it takes.
 abbrev pair_of : ℕ → ℕ → Bool → List (ℕ × ℕ)
 pair_of pid index has = cond has ((pid, index) ∷ []) []
 
@@ -168,7 +170,7 @@ one_taken rate m w pid index sample some l h b = record {
       ∙ sym (map-append (late_fault rules.Pcr) m.late (late_at m.limit_times_rate pid (lookup (nat_eq pid) m.last) index));
 }
 
--- by its reference
+-- A packet's effect on both notes, by its clock reference.
 by_sample : (rate : ℕ) (m : RecurrenceState) (w : WatchesState) (pid index : ℕ) (adaptation : Option AdaptationView) → 0 < rate →
     m.limit_times_rate ≡ 100 * rate →
     Same rate m.last w → is_near index ≡ true →
@@ -185,7 +187,7 @@ by_sample rate m w pid index (Some (WithFlags parts)) some l h near = by parts.p
     by None e = none_taken rate m w l h
     by (Some pcr) e = rw near (one_taken rate m w pid index (sample_of index parts.discontinuity_indicator pcr) some l h refl)
 
--- 188 bytes that say this
+-- A packet's effect on both notes, by the result of reading it.
 of_read : (rate : ℕ) (m : RecurrenceState) (s : ViewState) (bytes : List ℕ) (r : Result PacketView PacketError) → 0 < rate → m.limit_times_rate ≡ 100 * rate →
     Same rate m.last s.seen.watches → is_near s.seen.packets ≡ true →
     Taken rate m s.seen.watches (pcr_pair s.seen.packets r) (late_if s.seen r) (seen_after s bytes r).watches
@@ -239,8 +241,12 @@ clocks_of_packets rate request bytes at some short =
     clocks_along rate (no_marks (100 * rate)) (start request) (cut_packets bytes) some refl
     (same_first rate (timing_for request.stamps request.options.arrival) (timing_at rate request.stamps request.options.arrival at)) (omega arith)
 
+ends_clocked : Ends (is_by 13)
+unfolding rule_number
+ends_clocked = of_no_table (is_by 13) (record { nit = λ o k. refl; sdt = λ o k. refl; tdt = λ o k. refl })
+
 pub viewed_clocks : (rate : ℕ) (request : RequestView) (bytes : List ℕ) → request.options.arrival ≡ AtRate rate → 0 < rate → length bytes ≤ 2 ^ 40 →
     filter (is_by 13) (viewed_faults request bytes) ≡ map (late_fault rules.Pcr)
     (marked_all (no_marks (100 * rate)) (pcr_pairs (enumerate_from 0 (cut_packets bytes)))).late
 viewed_clocks rate request bytes at some short =
-    at_one_rate (is_by 13) rate request bytes at ∙ clocks_of_packets rate request bytes at some short
+    at_one_rate (is_by 13) rate request bytes ends_clocked at ∙ clocks_of_packets rate request bytes at some short

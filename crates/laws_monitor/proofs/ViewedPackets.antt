@@ -59,7 +59,7 @@ use Rattle.laws_monitor.specs.ViewedFaults.{cause_rule, fault_in}
 use Rattle.laws_monitor.proofs.FaultGroups.{Without}
 use Rattle.laws_monitor.proofs.QuietEvents.{Quiet, begins, clocks as quiet_clocks, each, join, one_if, one_unless, streams, system, units, windows}
 
--- 1. The part of a list of events
+-- 1. The selected faults in a list of events
 
 abbrev pub part : (StreamFault → Bool) → List Event → List StreamFault
 part p events = filter p (filter_map fault_in events)
@@ -70,12 +70,12 @@ part_append p xs ys = ap (filter p) (filter_map-append fault_in xs ys) ∙ filte
 pub of_quiet : (p : StreamFault → Bool) (events : List Event) → Quiet events → part p events ≡ []
 of_quiet p events h = ap (filter p) h
 
-both_none : (p : StreamFault → Bool) (xs ys : List Event) → part p xs ≡ [] → part p ys ≡ [] → part p (xs ++ ys) ≡ []
+pub both_none : (p : StreamFault → Bool) (xs ys : List Event) → part p xs ≡ [] → part p ys ≡ [] → part p (xs ++ ys) ≡ []
 both_none p xs ys h k = part_append p xs ys ∙ ap₂ (λ (a b : List StreamFault). a ++ b) h k
 
 -- 2. Sections
 
-table_none : (p : StreamFault → Bool) (e : TableError) → Without p rules.Nit → Without p rules.Sdt → Without p rules.Tdt →
+pub table_none : (p : StreamFault → Bool) (e : TableError) → Without p rules.Nit → Without p rules.Sdt → Without p rules.Tdt →
     part p (table_error_events (Some e)) ≡ []
 unfolding table_error_events fault_in
 table_none p e n s t =
@@ -141,7 +141,7 @@ sections_none p options s (f ∷ found) c n d t =
     (begin_none p s (section_in options f) n d t))))
     (sections_none p options (with_finding options s f) found c n d t)
 
--- 3. Clock references: of their errors the monitor has a rule for repetition alone
+-- 3. Clock references: the monitor's only rule for their errors is repetition
 
 abbrev pub repetition_of : ℕ → Option PcrError → List StreamFault
 repetition_of pid None = []
@@ -219,7 +219,7 @@ clocks s packet =
     (rules_quiet s.rules s.options.arrival s.packets s.named packet))
     ∙ append-nil (late_reference packet.header.pid (report_on s packet))
 
--- 4. A packet as it is read
+-- 4. Reading a packet
 
 pub window_end : (s : SeenState) → Quiet (window_ends s)
 window_end s =
@@ -237,7 +237,7 @@ window_quiet s = by (s.seen.window.number == next_window s.seen)
     by true = refl
     by false = all
 
--- what stands before and after the errors of its clock reference
+-- Except for the errors of its clock reference, a packet that is read has no events with a rule.
 packet_read : (s : ViewState) (packet : PacketView) →
     filter_map fault_in (view_packet_events s packet) ≡ late_reference packet.header.pid (report_on s.seen packet)
 packet_read s packet =
@@ -251,7 +251,7 @@ packet_read s packet =
     (system (clocked s packet).seen.options (with_buffers (clocked s packet) packet).table.choice (clocked s packet).seen.packets _))
     ∙ append-nil (late_reference packet.header.pid (report_on s.seen packet)))
 
--- the error of a clock reference, if the packet counts
+-- The error of a packet's clock reference, unless the packet has transport_error_indicator.
 unfoldable pub late_if : SeenState → Result PacketView PacketError → List StreamFault
 late_if s (Err error) = []
 late_if s (Ok packet) = cond packet.header.transport_error_indicator [] (late_reference packet.header.pid (report_on s packet))

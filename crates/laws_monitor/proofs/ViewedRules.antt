@@ -1,4 +1,4 @@
--- Packet by packet of a report, the faults by each rule.
+-- The faults of a report by each rule, packet by packet.
 use Rattle.std.proofs.Common.{◌≡◌, ◌∙◌, ℕ, ◌+◌, ◌-◌, ◌/◌, ◌^◌, ◌<◌, Bool, true, false, cond, List, [], ◌∷◌, ◌++◌, length, map, filter, Option, Some, None}
 use Rattle.std.proofs.Common.{Result, Ok, Err, refl, sym, ap, ap₂, arith}
 use Rattle.std.specs.Prelude.{not}
@@ -32,13 +32,13 @@ use Rattle.laws_monitor.proofs.Continuity.{sound_in}
 use Rattle.laws_monitor.proofs.ViewedPackets.{counter_if, counter_read, counters, late_if, late_reference, part, part_append, reads, repetition_of}
 use Rattle.laws_monitor.proofs.ViewedPackets.{sections_none}
 
--- 1. What a packet leaves
+-- 1. The state after a packet
 
--- after 188 bytes that say this
+-- The state after 188 bytes with this result of reading.
 abbrev pub seen_after : ViewState → List ℕ → Result PacketView PacketError → SeenState
 seen_after s bytes r = with_counter_read (with_tables (after_read s r) bytes).seen bytes r
 
--- what is seen after a packet that is refused by its transport_error_indicator or not
+-- The state after a packet with or without transport_error_indicator, before its counter is judged.
 abbrev pub seen_before : ViewState → List ℕ → PacketView → Bool → SeenState
 seen_before s bytes packet wrong = (with_tables (cond wrong (without s) (with_packet s packet)) bytes).seen
 
@@ -56,7 +56,7 @@ packets_after s bytes (Ok packet) = by packet.header.transport_error_indicator
     by true = refl
     by false = refl
 
--- 2. What it finds
+-- 2. The findings at a packet
 
 abbrev pub With : (StreamFault → Bool) → Rule → Type 0
 With p rule = (pid : Option ℕ) (k : ℕ) → p (fault rule pid k) ≡ true
@@ -134,7 +134,7 @@ counter_kept p s bytes (Ok packet) h = by packet.header.transport_error_indicato
     by true = refl
     by false = counter_one_kept p o h
 
--- the events of a packet, by a part without sections
+-- The faults at a packet that a test without sections selects.
 abbrev pub before_counter : ViewState → List ℕ → SeenState
 before_counter s bytes = (with_tables (after_read s (packet_at bytes)) bytes).seen
 
@@ -158,7 +158,7 @@ at_packet p s bytes c n d t =
 
 -- 3. Refusals
 
--- the rules of refusals alone
+-- A test that selects rules of refusals only.
 pub record Refuses (p : StreamFault → Bool) : Type 0 where
   pub crc : Without p rules.Crc
   pub nit : Without p rules.Nit

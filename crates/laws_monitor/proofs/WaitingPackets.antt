@@ -1,4 +1,4 @@
--- Packets that wait until it is known when they arrive: by rules that do not depend on this, what is found in them is the same.
+-- Packets that wait for their arrival times: rules that do not depend on arrival find the same faults in them.
 use Rattle.std.proofs.Common.{◌≡◌, ◌∙◌, ℕ, ◌+◌, ◌-◌, ◌/◌, ◌^◌, ◌%◌, ◌<◌, List, [], ◌∷◌, ◌++◌, length, map, filter, Option, Some, None, Bool, refl, sym, ap, ap₂}
 use Rattle.std.proofs.Common.{append_assoc, arith}
 use Rattle.std.specs.List.{enumerate_from}
@@ -16,15 +16,16 @@ use Rattle.ts_report.specs.Seen.{arrival_events}
 use Rattle.ts_report.specs.Views.{ViewState, after_all, after_packet, arriving, end_events, events_all, events_at, start}
 use Rattle.monitor.specs.declared.fault.StreamFault.{StreamFault}
 use Rattle.monitor.specs.Faults.{packet_faults}
+use Rattle.monitor.specs.InOrder.{rule_number}
 use Rattle.monitor.proofs.FoundWhole.{packet_count}
 use Rattle.laws_monitor.specs.Continuity.{counter_fault, sound_packets}
 use Rattle.laws_monitor.specs.FaultsByRule.{is_by}
 use Rattle.laws_monitor.specs.ViewedFaults.{events_to_end, viewed_faults}
-use Rattle.laws_monitor.proofs.QuietEnds.{arrivals, ends}
+use Rattle.laws_monitor.proofs.QuietEnds.{Ends, arrivals, of_no_table}
 use Rattle.laws_monitor.proofs.ViewedPackets.{of_quiet, part, part_append}
 use Rattle.laws_monitor.proofs.ViewedRules.{Refuses, counters_along, next_count, refused_along}
 
--- 1. Packets after others
+-- 1. Packets after other packets
 
 all_append : (v : ViewState) (xs ys : List (List ℕ)) → events_all v (xs ++ ys) ≡ events_all v xs ++ events_all (after_all v xs) ys
 unfolding events_all after_all
@@ -41,7 +42,7 @@ count_after v (x ∷ xs) n =
     let k : (after_all (after_packet v x) xs).seen.packets ≡ (after_packet v x).seen.packets + length xs = count_after (after_packet v x) xs (omega arith) in
     omega (arith, e, k)
 
--- 2. A part that does not depend on when packets arrive
+-- 2. Faults that do not depend on arrival times
 
 abbrev pub Still : (StreamFault → Bool) → Type 0
 Still p = (v : ViewState) (arrival : Arrival) (count : ℕ) (packets : List (List ℕ)) → v.seen.packets + length packets < 2 ^ 64 →
@@ -50,7 +51,7 @@ Still p = (v : ViewState) (arrival : Arrival) (count : ℕ) (packets : List (Lis
 abbrev with_queue : ViewState → Option QueueState → ClockedState
 with_queue v queue = record { view = v; queue = queue }
 
--- those that waited, and then others
+-- The packets that waited give the faults that they would have given at once.
 released_part : (p : StreamFault → Bool) (v : ViewState) (q : QueueState) (arrival : Arrival) → Still p → v.seen.packets + length q.held < 2 ^ 64 →
     part p (events_with v q arrival) ≡ part p (events_all v q.held)
 released_part p v q arrival still n =
@@ -58,18 +59,17 @@ released_part p v q arrival still n =
     ∙ ap₂ (λ (a b : List StreamFault). a ++ b) (of_quiet p (arrival_events v.seen arrival (length q.held)) (arrivals v.seen arrival (length q.held)))
     (still v arrival (length q.held) q.held n)
 
-waiting : (p : StreamFault → Bool) (v : ViewState) (q : QueueState) (packets : List (List ℕ)) (left : ℕ) → Still p →
+waiting : (p : StreamFault → Bool) (v : ViewState) (q : QueueState) (packets : List (List ℕ)) (left : ℕ) → Still p → Ends p →
     v.seen.packets + length q.held + length packets < 2 ^ 64 →
     part p (events_to_end (with_queue v (Some q)) packets left) ≡ part p (events_all v (q.held ++ packets))
 unfolding clocked_events clocked_after after_in events_in last_events last_view view_after events_after held_after
-waiting p v q [] left still n =
+waiting p v q [] left still ends n =
     part_append p (events_with v q (last_arrival q)) (end_events (after_all (arriving v (last_arrival q) (length q.held)) q.held) left)
     ∙ ap₂ (λ (a b : List StreamFault). a ++ b) (released_part p v q (last_arrival q) still (omega arith))
-    (of_quiet p (end_events (after_all (arriving v (last_arrival q) (length q.held)) q.held) left)
-    (ends (after_all (arriving v (last_arrival q) (length q.held)) q.held) left))
+    (ends (after_all (arriving v (last_arrival q) (length q.held)) q.held) left)
     ∙ append-nil (part p (events_all v q.held))
     ∙ ap (λ (l : List (List ℕ)). part p (events_all v l)) (sym (append-nil q.held))
-waiting p v q (bytes ∷ packets) left still n = by (released q bytes) (λ w r k. waiting p w r packets left still k)
+waiting p v q (bytes ∷ packets) left still ends n = by (released q bytes) (λ w r k. waiting p w r packets left still ends k)
   where
     next : List (List ℕ) → QueueState
     next held = with_held (stepped q bytes) held
@@ -102,55 +102,63 @@ waiting p v q (bytes ∷ packets) left still n = by (released q bytes) (λ w r k
         ∙ ap (part p) (sym (all_append before q.held (bytes ∷ packets)))
         ∙ still v arrival (length q.held) (q.held ++ bytes ∷ packets) (omega (arith, n, all))
 
--- 3. Packets of which none waits
+-- 3. Packets that do not wait
 
-pub at_once : (p : StreamFault → Bool) (v : ViewState) (packets : List (List ℕ)) (left : ℕ) →
+pub at_once : (p : StreamFault → Bool) (v : ViewState) (packets : List (List ℕ)) (left : ℕ) → Ends p →
     part p (events_to_end (with_queue v None) packets left) ≡ part p (events_all v packets)
 unfolding clocked_events clocked_after after_in events_in last_events last_view events_all
-at_once p v [] left = of_quiet p (end_events v left) (ends v left)
-at_once p v (bytes ∷ packets) left =
+at_once p v [] left ends = ends v left
+at_once p v (bytes ∷ packets) left ends =
     ap (part p) (append_assoc (events_at v bytes) (clocked_events (with_queue (after_packet v bytes) None) packets)
     (clocked_end (clocked_after (with_queue (after_packet v bytes) None) packets) left))
     ∙ part_append p (events_at v bytes) (events_to_end (with_queue (after_packet v bytes) None) packets left)
-    ∙ ap (λ (l : List StreamFault). part p (events_at v bytes) ++ l) (at_once p (after_packet v bytes) packets left)
+    ∙ ap (λ (l : List StreamFault). part p (events_at v bytes) ++ l) (at_once p (after_packet v bytes) packets left ends)
     ∙ sym (part_append p (events_at v bytes) (events_all (after_packet v bytes) packets))
 
-from_start : (p : StreamFault → Bool) (v : ViewState) (arrival : Arrival) (programs : List ℕ) (packets : List (List ℕ)) (left : ℕ) → Still p →
+from_start : (p : StreamFault → Bool) (v : ViewState) (arrival : Arrival) (programs : List ℕ) (packets : List (List ℕ)) (left : ℕ) → Still p → Ends p →
     v.seen.packets + length packets < 2 ^ 64 → part p (events_to_end (with_queue v (queue_of arrival programs)) packets left) ≡ part p (events_all v packets)
 unfolding queue_of
-from_start p v Unknown programs packets left still n = waiting p v _ packets left still (omega (arith, n))
-from_start p v (AtRate rate) programs packets left still n = at_once p v packets left
-from_start p v (OnLines lines) programs packets left still n = at_once p v packets left
+from_start p v Unknown programs packets left still ends n = waiting p v _ packets left still ends (omega (arith, n))
+from_start p v (AtRate rate) programs packets left still ends n = at_once p v packets left ends
+from_start p v (OnLines lines) programs packets left still ends n = at_once p v packets left ends
 
-pub at_one_rate : (p : StreamFault → Bool) (rate : ℕ) (request : RequestView) (bytes : List ℕ) → request.options.arrival ≡ AtRate rate →
+pub at_one_rate : (p : StreamFault → Bool) (rate : ℕ) (request : RequestView) (bytes : List ℕ) → Ends p → request.options.arrival ≡ AtRate rate →
     filter p (viewed_faults request bytes) ≡ part p (events_all (start request) (cut_packets bytes))
 unfolding queue_of
-at_one_rate p rate request bytes at =
+at_one_rate p rate request bytes ends at =
     ap (λ (o : Option QueueState). part p (events_to_end (with_queue (start request) o) (cut_packets bytes) (length bytes % 188)))
     (ap (λ (a : Arrival). queue_of a request.choice.programs) at)
-    ∙ at_once p (start request) (cut_packets bytes) (length bytes % 188)
+    ∙ at_once p (start request) (cut_packets bytes) (length bytes % 188) ends
 
 -- 4. A whole report
 
 still_refused : (p : StreamFault → Bool) → Refuses p → Still p
 still_refused p h v arrival count packets n = refused_along p (arriving v arrival count) packets h n ∙ sym (refused_along p v packets h n)
 
+ends_refused : (p : StreamFault → Bool) → Refuses p → Ends p
+ends_refused p h = of_no_table p (record { nit = h.nit; sdt = h.sdt; tdt = h.tdt })
+
+ends_counted : Ends (is_by 4)
+unfolding rule_number
+ends_counted = of_no_table (is_by 4) (record { nit = λ o k. refl; sdt = λ o k. refl; tdt = λ o k. refl })
+
 still_counted : Still (is_by 4)
 still_counted v arrival count packets n = counters_along (arriving v arrival count) packets n ∙ sym (counters_along v packets n)
 
-whole : (p : StreamFault → Bool) (request : RequestView) (bytes : List ℕ) → Still p → length (cut_packets bytes) < 2 ^ 64 →
+whole : (p : StreamFault → Bool) (request : RequestView) (bytes : List ℕ) → Still p → Ends p → length (cut_packets bytes) < 2 ^ 64 →
     filter p (viewed_faults request bytes) ≡ part p (events_all (start request) (cut_packets bytes))
-whole p request bytes still n = from_start p (start request) request.options.arrival request.choice.programs (cut_packets bytes) (length bytes % 188) still
+whole p request bytes still ends n =
+    from_start p (start request) request.options.arrival request.choice.programs (cut_packets bytes) (length bytes % 188) still ends
     (omega (arith, n))
 
 pub viewed_counters : (request : RequestView) (bytes : List ℕ) → length bytes / 188 < 2 ^ 64 - 1 →
     filter (is_by 4) (viewed_faults request bytes) ≡ map counter_fault (errors_from [] (sound_packets bytes))
 viewed_counters request bytes n =
     let k : length (cut_packets bytes) ≡ length bytes / 188 = packet_count (length bytes / 188) bytes in
-    whole (is_by 4) request bytes still_counted (omega (arith, n, k)) ∙ counters_along (start request) (cut_packets bytes) (omega (arith, n, k))
+    whole (is_by 4) request bytes still_counted ends_counted (omega (arith, n, k)) ∙ counters_along (start request) (cut_packets bytes) (omega (arith, n, k))
 
 pub viewed_refusals : (p : StreamFault → Bool) (request : RequestView) (bytes : List ℕ) → Refuses p → length bytes / 188 < 2 ^ 64 - 1 →
     filter p (viewed_faults request bytes) ≡ filter p (packet_faults (enumerate_from 0 (cut_packets bytes)))
 viewed_refusals p request bytes h n =
     let k : length (cut_packets bytes) ≡ length bytes / 188 = packet_count (length bytes / 188) bytes in
-    whole p request bytes (still_refused p h) (omega (arith, n, k)) ∙ refused_along p (start request) (cut_packets bytes) h (omega (arith, n, k))
+    whole p request bytes (still_refused p h) (ends_refused p h) (omega (arith, n, k)) ∙ refused_along p (start request) (cut_packets bytes) h (omega (arith, n, k))

@@ -9,3 +9,6 @@ pub mod References
 pub mod Tables
 pub mod Limits
 pub mod TableFaults
+pub mod Histories
+pub mod SectionHistories
+pub mod StampHistories

@@ -1,5 +1,5 @@
 -- What the report of `tsview` finds, as faults of the monitor.
-use Rattle.std.specs.Prelude.{ℕ, ◌%◌, ◌==◌, ◌&&◌, if◌then◌else◌, List, ◌++◌, length, option_map, Option, Some, None}
+use Rattle.std.specs.Prelude.{◌≡◌, ℕ, ◌%◌, ◌==◌, ◌&&◌, if◌then◌else◌, List, ◌++◌, length, option_map, Option, Some, None}
 use Rattle.std.specs.List.{filter_map}
 use Rattle.ts_packet.specs.PidList.{cut_packets}
 use Rattle.events.specs.declared.event.Event.{Event}
@@ -7,6 +7,9 @@ use Rattle.events.specs.declared.event.Event.TheVariants as found
 use Rattle.events.specs.declared.packet_fault.RefusalCause.{RefusalCause}
 use Rattle.events.specs.declared.packet_fault.RefusalCause.TheVariants as causes
 use Rattle.ts_watch.specs.Choices.{RequestView}
+use Rattle.ts_watch.specs.StoppedEvents.{stopped_events}
+use Rattle.ts_report.specs.Views.{ViewState}
+use Rattle.ts_report.specs.Views as views
 use Rattle.ts_report.specs.ClockedViews.{ClockedState, after_all, end_events, events_all, start}
 use Rattle.monitor.specs.declared.fault.StreamFault.{StreamFault}
 use Rattle.monitor.specs.declared.fault.Rule.{Rule}
@@ -47,3 +50,8 @@ viewed_faults request bytes = filter_map fault_in (events_to_end (start request)
 -- by one rule
 abbrev pub viewed : Rule → RequestView → List ℕ → List StreamFault
 viewed rule request bytes = faults_by rule (viewed_faults request bytes)
+
+-- the faults of the end are those of tables that have stopped
+abbrev pub EndFaultLaw : Type 0
+EndFaultLaw = (s : ViewState) (left : ℕ) →
+    filter_map fault_in (views.end_events s left) ≡ filter_map fault_in (stopped_events s.seen.options s.seen.tables s.seen.packets)

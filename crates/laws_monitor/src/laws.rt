@@ -10,6 +10,7 @@ ghost use Rattle.laws_monitor.specs.References.{ReferenceLaw, ReferencesInOrder}
 ghost use Rattle.laws_monitor.specs.SharedRules.{IsShared, PcrLaw};
 ghost use Rattle.laws_monitor.specs.TableFaults.{FindingFaultLaw, MapFaultLaw, PatFaultLaw, StampFaultLaw, TableErrorLaw, TableFaultLaw};
 ghost use Rattle.laws_monitor.specs.Tables.{GapLaw, TableLaw};
+ghost use Rattle.laws_monitor.specs.ViewedFaults.{EndFaultLaw};
 
 /// States that each fault of a report has the PID of its rule: no PID by rules 1 to 3 and 15, the PID of the table by
 /// rules 7 and 9 to 12, some PID by each further rule. So the laws of the rules describe a whole report.
@@ -55,7 +56,8 @@ pub fn clock_references()
 
 /// States that the monitor reports a section of a table if and only if it begins later after the one before than ETSI
 /// TR 101 290 allows: NIT, SDT and EIT of the actual stream and TDT (5.2.3, 3.1.a, 3.5.a, 3.6.a and 3.8); the PAT from
-/// the beginning to the end of the stream (5.2.1, 1.3.a), and program maps from where they are named to the end (1.5.a).
+/// the beginning to the end of the stream (5.2.1, 1.3.a), and program maps from where they are named to the end
+/// (1.5.a).
 pub fn late_tables()
     ensures pat { PatFaultLaw }
     ensures pmt { MapFaultLaw }
@@ -72,18 +74,20 @@ pub fn sections()
     ensures section { FindingFaultLaw rules.Section }
 {}
 
-/// States that the monitor reports a PES packet with a PTS if and only if it begins more than 700 ms after the one before
-/// on its PID (5.2.2, 2.5).
+/// States that the monitor reports a PES packet with a PTS if and only if it begins more than 700 ms after the one
+/// before on its PID (5.2.2, 2.5).
 pub fn late_stamps()
     ensures { StampFaultLaw }
 {}
 
 /// States that a gap of packets is too long for both programs or for neither, whatever the limit, and that among the
 /// findings on a PID the same sections of a table begin late for both, if the table has no parts that have to recur by
-/// themselves (5.2.1, 1.3; 5.2.3, 3.1, 3.5 and 3.8). The monitor reports these errors of NIT, SDT and TDT.
+/// themselves (5.2.1, 1.3; 5.2.3, 3.1, 3.5 and 3.8). The monitor reports these errors of NIT, SDT and TDT. At the end
+/// `tsview` has only faults of tables that have stopped, among the faults for which the monitor has a rule.
 pub fn tables()
     ensures gaps { GapLaw }
     ensures tables { TableLaw }
+    ensures ends { EndFaultLaw }
     ensures nit { TableErrorLaw nit_limit 0x10 0x40 }
     ensures sdt { TableErrorLaw sdt_limit 0x11 0x42 }
     ensures tdt { TableErrorLaw tdt_limit 0x14 0x70 }

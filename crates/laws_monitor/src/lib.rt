@@ -6,6 +6,8 @@
 //! table of the limits of both.
 //!
 //! - [`laws`]: the packets of each rule, errors that both find, and the limits.
+//! - [`histories`]: sections that come too soon, and time stamps that come too late, by all that came before them.
 #![tactic(auto)]
 
+pub mod histories;
 pub mod laws;

@@ -1,4 +1,4 @@
--- From what one thing that is sent gives to what all of them give.
+-- From the finding of each sending to the findings of all sendings.
 use Rattle.std.proofs.Common.{◌≡◌, ℕ, true, List, [], ◌∷◌, ◌++◌, map, All, Option, sym, ap, ap₂, ◌∙◌, append_assoc, append-nil}
 use Rattle.std.proofs.lemmas.List.Elements.{All-head, All-tail}
 use Rattle.ts_packet.specs.declared.start.Start.{Start}
@@ -9,16 +9,16 @@ use Rattle.pid_findings.specs.Findings.{at_packet, ended}
 use Rattle.laws_pid.specs.Sent.{cut, Sending, Ending, begin_or, next_of, if_sent, each_found}
 use Rattle.laws_pid.proofs.PidSteps.{finds, leaves, finds_append, leaves_append, Waits, leaves_waits}
 
--- the payloads of all that is sent
+-- The payloads of all sendings
 unfoldable pub sent_payloads : {X : Type 0} → (X → Start) → (X → List ℕ) → List (Sending X) → List Payload
 sent_payloads start text [] = []
 sent_payloads start text (x ∷ xs) = cut (start x.item) (text x.item) x.packets ++ sent_payloads start text xs
 
--- how what is open ends there
+-- The findings if the open unit ends at this packet
 abbrev pub ends_at : Ending → Option OpenUnit → List PidFinding
 ends_at e held = map (at_packet e.packet) (ended e.open_ended held)
 
--- one thing finds what is said of it, wherever it ends, and whatever is open before it ends where it begins
+-- A sending gives its one finding, whatever follows it; a unit that is open before it ends in its first packet.
 abbrev pub Gives : {X : Type 0} → (X → Start) → (X → List ℕ) → (Ending → X → ℕ → List ℕ → PidFinding) → Sending X → Type 0
 Gives start text found x = (e : Ending) (held : Option OpenUnit) → Waits held →
     finds (cut (start x.item) (text x.item) x.packets) held ++ ends_at e (leaves (cut (start x.item) (text x.item) x.packets) held)

@@ -1,4 +1,4 @@
--- Nothing is wrong with the packets of units and of sections.
+-- The packets of units and of sections show no fault.
 use Rattle.std.proofs.Common.{◌≡◌, ℕ, ◌+◌, ◌*◌, ◌<◌, ◌≤◌, ◌==◌, nat_le, Bool, true, false, cond, List, [], ◌∷◌, ◌++◌, length, map, take, drop, All, Option}
 use Rattle.std.proofs.Common.{Some, None, Result, Ok, Err, refl, sym, ap, subst, ◌∙◌, inl, inr, arith, eq-eqb, append-nil}
 use Rattle.std.specs.Prelude.{option_map}
@@ -38,7 +38,7 @@ use Rattle.pes_packet.specs.Encoding.{pes_packet_bytes}
 use Rattle.laws_pid.proofs.SectionPrefixes.{filled_to, read_fits, fill_same, pes_same}
 use Rattle.laws_pid.proofs.SectionFindings.{section_gives, pointing, first_found, first_left}
 
--- ---- what is no fault
+-- Findings that are no fault
 
 abbrev pub Fine : Found → Type 0
 Fine f = is_fault f.what ≡ false
@@ -70,7 +70,7 @@ nothing_fine : (text : List ℕ) (held : Option OpenUnit) → All FineAt (finds 
 unfolding finds cut
 nothing_fine text held = All-nil FineAt
 
--- how what is open ends is no fault
+-- The end of an open unit is no fault.
 whole_or_cut : (b open_ended : Bool) (h : PesHeader) (body bytes : List ℕ) → is_fault (cond b (IsPes h open_ended body) (IsTruncated bytes)) ≡ false
 whole_or_cut true open_ended h body bytes = refl
 whole_or_cut false open_ended h body bytes = refl
@@ -88,7 +88,7 @@ ended_fine open_ended (Some part) =
     All-cons Fine (about part (end_of open_ended part.bytes part.kind (header_at part.bytes))) []
     (end_fine open_ended part.bytes part.kind (header_at part.bytes)) (All-nil Fine)
 
--- ---- what the bytes of a PES packet decide is no fault
+-- A finding that the bytes of a PES packet decide is no fault.
 
 abbrev FineIf : Option WhatView → Type 0
 FineIf None = Unit {0}
@@ -131,7 +131,7 @@ unfolding found_within
 within_fine part None h = All-nil Fine
 within_fine part (Some w) h = let n = past_end (length part.bytes) w in All-cons Fine (about_within part w) (stray_bytes n) h (stray_fine n (n == 0))
 
--- ---- packets that go on with a PES packet, or with nothing
+-- Packets that continue a PES packet, or nothing
 
 abbrev PesOrNone : Option OpenUnit → Type 0
 PesOrNone None = Unit {0}
@@ -167,9 +167,9 @@ rest_fine text (i ∷ is) held h =
     (finds (cut Continues (drop 184 text) is) (next_open i (does (later i front)) held))
     (at_fine i (by_role i (does (later i front)) held) one.0) (rest_fine (drop 184 text) is (next_open i (does (later i front)) held) one.1)
 
--- ---- sections
+-- Sections
 
--- one that is taken for a PES packet
+-- A section that is taken for a PES packet shows no fault.
 taken_for_pes : (i : ℕ) (bytes : List ℕ) (held : Option OpenUnit) → may_begin_pes (0 ∷ bytes) ≡ true →
     All Fine (by_role i (does (pointing i bytes)) held) × PesOrNone (next_open i (does (pointing i bytes)) held)
 unfolding by_role role_by next_open undecided
@@ -181,7 +181,7 @@ taken_for_pes i bytes held e =
       open_pes i false (0 ∷ bytes) (decided unit_kinds.Pes (0 ∷ bytes)),
     )
 
--- one that is taken for stuffing
+-- A section that is taken for stuffing shows no fault.
 taken_for_fill : (i : ℕ) (bytes : List ℕ) (held : Option OpenUnit) → may_begin_pes (0 ∷ bytes) ≡ false → is_stuffing bytes ≡ true → Waits held →
     All Fine (by_role i (does (pointing i bytes)) held) × PesOrNone (next_open i (does (pointing i bytes)) held)
 taken_for_fill i bytes held e f w =
@@ -191,7 +191,7 @@ taken_for_fill i bytes held e f w =
     first_left i bytes held e ∙ ap (λ (o : Option (List ℕ)). option_map (section i) o) (fill_last bytes f) in
     (subst (All Fine) (sym found) (ended_fine false held), subst PesOrNone (sym left) tt)
 
--- the packets of either
+-- The packets of a section that is taken for a PES packet or for stuffing show no fault.
 odd_fine : (text : List ℕ) (i : ℕ) (is : List ℕ) (held : Option OpenUnit) →
     All Fine (by_role i (does (pointing i (filled_to 183 text))) held) × PesOrNone (next_open i (does (pointing i (filled_to 183 text))) held) →
     All FineAt (finds (cut Begins (filled_section text) (i ∷ is)) held)
@@ -208,7 +208,7 @@ found_section : (e : Ending) (text : List ℕ) (i : ℕ) (is : List ℕ) → Fin
 unfolding section_found
 found_section e text i is = section_fine (nat_le (1 + length text) (184 * length (i ∷ is))) _ _ refl refl
 
--- a section that is taken for one
+-- The packets of a section that is taken for a section show no fault.
 given_fine : (text : List ℕ) (i : ℕ) (is : List ℕ) (held : Option OpenUnit) → IsRecognized text → 184 * length (i ∷ is) < 1 + length text + 184 → Waits held →
     All FineAt (finds (cut Begins (filled_section text) (i ∷ is)) held)
 unfolding if_sent begin_or
@@ -221,7 +221,7 @@ given_fine text i is held g few w =
     front_fine (finds (cut Begins (filled_section text) (i ∷ is)) held) (ends_at e (leaves (cut Begins (filled_section text) (i ∷ is)) held))
     (subst (All FineAt) (sym gives) fine)
 
--- any whole section
+-- The packets of any whole section show no fault.
 one_fine : (text is : List ℕ) (held : Option OpenUnit) → IsWhole text → 184 * length is < 1 + length text + 184 → Waits held →
     All FineAt (finds (cut Begins (filled_section text) is) held)
 one_fine text [] held whole few w = nothing_fine text held
@@ -255,7 +255,7 @@ all_fine (x ∷ xs) held h w =
     (All-append FineAt (finds one held) (finds more (leaves one held)) (one_fine x.item x.packets held first.0 first.1 w)
     (all_fine xs (leaves one held) (All-tail SentWhole x xs h) (leaves_waits one held w)))
 
--- ---- the laws
+-- The laws
 
 found_clean : (pid : ℕ) (xs : List PidFinding) → All FineAt xs → All IsClean (map (with_pid_at pid) xs)
 found_clean pid [] h = All-nil IsClean
@@ -299,7 +299,7 @@ units_are_clean pid n id base0 content us run not_null c fits =
     subst (All IsClean) (sym (units_come_back pid n id base0 content us run not_null c fits))
     (found_clean pid (each_found (unit_found id base0) n sent) (units_fine id base0 n sent))
 
--- ---- all that is found, by PIDs
+-- All findings, PID by PID
 
 abbrev Passes : (FindingView → Bool) → FindingView → Type 0
 Passes test f = test f ≡ true

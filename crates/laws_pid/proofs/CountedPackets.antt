@@ -1,4 +1,4 @@
--- Payload packets with numbers that count on are neither duplicates nor breaks.
+-- Payload packets with consecutive counters are neither duplicates nor breaks.
 use Rattle.std.proofs.Common.{◌≡◌, ℕ, ◌+◌, ◌%◌, ◌==◌, ◌&&◌, ◌||◌, not, Bool, true, false, cond, Option, Some, None, refl, sym, ap, ◌∙◌, arith, eq-eqb, ne_eqb}
 use Rattle.ts_packet.specs.declared.start.Start.{Start}
 use Rattle.ts_packet.specs.PidList.{Entry}
@@ -9,12 +9,12 @@ use Rattle.pid_findings.specs.Roles.{Role, role_by, role_of, role}
 use Rattle.pid_findings.specs.Findings.{by_role, by_break, found_at}
 use Rattle.pid_findings.specs.Machine.{PidState, found_by, next_open, step, step_marked, unbroken}
 
--- a payload packet of this number follows the last one
+-- A payload packet with this number follows the last packet.
 abbrev pub Follows : ℕ → Option LastView → Type 0
 Follows number None = Unit {0}
 Follows number (Some last) = (last.counter + 1) % 16 ≡ number % 16
 
--- what a payload does
+-- The role of a payload
 abbrev pub does : Payload → Role
 does p = role_by p.start (Some p.bytes)
 
@@ -41,7 +41,7 @@ no_break : (last : LastView) (pid number : ℕ) (p : Payload) → (last.counter 
 unfolding break_after view_of
 no_break last pid number p h = unbroken_by _ (number % 16 == (last.counter + 1) % 16) _ (eq-eqb (number % 16) ((last.counter + 1) % 16) (sym h))
 
--- a packet without mark
+-- A packet without a mark
 abbrev plain_mark : Entry → Marked
 plain_mark entry = record { entry = entry; duplicate = false; broken = None }
 
@@ -51,7 +51,7 @@ unfolding mark is_repeat break_at
 mark_plain None pid number p f = refl
 mark_plain (Some last) pid number p f = rw (no_repeat last pid number p f, no_break last pid number p f) refl
 
--- it is read again from the packet
+-- The packet of a payload has the role of the payload.
 does_again : (pid number : ℕ) (p : Payload) → role (plain_mark (payload_entry pid number p)) ≡ does p
 unfolding role role_of view_of
 does_again pid number p = ap (λ (start : Start). role_by start (Some p.bytes)) (start_again pid p.start (number % 16) p.bytes)

@@ -11,7 +11,7 @@ use Rattle.laws_pid.specs.Sent.{sendings, each_found, next_of, if_sent, begin_or
 use Rattle.laws_pid.specs.Units.{unit_packets, unit_found}
 use Rattle.laws_pid.specs.Sections.{section_packets, section_found}
 
--- a unit of three bytes, one second after the start of the run, and one with a later PTS
+-- A unit of three bytes, one second after the start of the run, and a unit with a later PTS
 abbrev three : AccessUnit
 three = record { dts = 90000; pts = 90000; marks = no_marks; bytes = 1 ∷ 2 ∷ 3 ∷ [] }
 
@@ -23,7 +23,7 @@ two = record {
   bytes = 4 ∷ 5 ∷ [];
 }
 
--- in packet 7 of 10: whole there, its PES_packet_length 11; the second unit, in packet 9, has a DTS too, and is aligned
+-- In packet 7 of 10 the first unit is whole, with PES_packet_length 11; the unit in packet 9 also has a DTS, and is aligned.
 units_row : each_found (unit_found 192 0) 10 (sendings (unit_packets 192 0) (three ∷ two ∷ []) (7 ∷ 9 ∷ []))
     ≡ record {
       packet = 7;
@@ -60,7 +60,7 @@ unfolding each_found sendings next_of if_sent begin_or unit_found pes_packet_byt
     packet_length stamp_bytes written_header
 units_row = refl
 
--- stamps come back modulo 2^33: the clock begins one unit before it comes round
+-- Time stamps wrap modulo 2^33: the clock begins one unit before it wraps.
 wrapped_row : each_found (unit_found 192 8_589_934_591) 1
     (sendings (unit_packets 192 8_589_934_591) (record { dts = 1; pts = 1; marks = no_marks; bytes = 6 ∷ [] } ∷ []) (0 ∷ []))
     ≡ record {
@@ -77,7 +77,7 @@ unfolding each_found sendings next_of if_sent begin_or unit_found pes_packet_byt
     packet_length stamp_bytes written_header
 wrapped_row = refl
 
--- a section of 3 bytes (table_id 0x70, section_length 0) in packet 2, and one of 200 bytes of which one packet was sent, in a stream of 5
+-- A section of 3 bytes (table_id 0x70, section_length 0) in packet 2, and one packet of a section of 200 bytes, in a stream of 5 packets
 abbrev long_text : List ℕ
 long_text = 0x4A ∷ 0x70 ∷ 197 ∷ replicate 197 9
 
@@ -88,7 +88,7 @@ sections_row : each_found section_found 5 (sendings section_packets ((0x70 ∷ 0
 unfolding each_found sendings next_of if_sent begin_or section_found
 sections_row = refl
 
--- the same section in two packets is whole in the second
+-- The same section in two packets is whole in the second packet.
 whole_row : each_found section_found 5 (sendings section_packets (long_text ∷ []) (2 ∷ 4 ∷ []))
     ≡ record { packet = 4; found = record { begun = Some (2, Table 0x4A); what = IsSection long_text; within = false } } ∷ []
 unfolding each_found sendings next_of if_sent begin_or section_found

@@ -1,4 +1,4 @@
--- From the payloads of a PID to what is found in the finished bytes.
+-- From the payloads of a PID to the findings in the finished bytes.
 use Rattle.std.proofs.Common.{◌≡◌, ℕ, suc, ◌+◌, ◌*◌, ◌/◌, ◌<◌, ◌≤◌, ◌==◌, Bool, true, false, IsTrue, List, [], ◌∷◌, ◌++◌, length, map, take, All, None, refl}
 use Rattle.std.proofs.Common.{ap, ◌∙◌, arith, length-append}
 use Rattle.std.specs.Prelude.{replicate}
@@ -33,7 +33,7 @@ use Rattle.laws_pid.proofs.PesPrefixes.{unit_is_pes}
 use Rattle.laws_pid.proofs.UnitFindings.{unit_gives}
 use Rattle.laws_pid.proofs.SectionFindings.{section_gives}
 
--- what is found of a PID, by its packets
+-- The findings of a PID follow from its packets.
 on_pid : (pid n : ℕ) (content : ℕ → Content) → IsRun n content → (pid == 8191) ≡ false →
     found_on pid (run_bytes content 0 n) ≡ map (with_pid_at pid) (findings_to_end n (pid_list pid (run_bytes content 0 n)))
 on_pid pid n content run not_null =
@@ -59,7 +59,7 @@ pub same_length : (es : List Entry) → length es ≡ length (map payload_at es)
 same_length [] = refl
 same_length (e ∷ es) = ap suc (same_length es)
 
--- what is found of a PID, by what is sent on it
+-- The findings of a PID follow from its sendings.
 pub sent_found : {X : Type 0} (start : X → Start) (text : X → List ℕ) (count : X → ℕ) (P : X → Type 0) →
     ((x : X) → P x → NeedsAll (start x) (count x) (text x)) →
     (pid n : ℕ) (content : ℕ → Content) (xs : List X) → IsRun n content → (pid == 8191) ≡ false →
@@ -81,7 +81,7 @@ sent_found {X} start text count P fits pid n content xs run not_null c all =
     let end : List Payload → List PidFinding = λ qs. finds qs None ++ map (at_packet n) (ended true (leaves qs None)) in
     on_pid pid n content run not_null ∙ ap (map (with_pid_at pid)) (ap (findings_to_end n) list ∙ found_to_end pid n ps ∙ ap end same_sent)
 
--- what each thing that is sent gives is all that is found
+-- The sendings of a PID give all its findings.
 come_back : {X : Type 0} (start : X → Start) (text : X → List ℕ) (count : X → ℕ) (found : Ending → X → ℕ → List ℕ → PidFinding) (P : X → Type 0) →
     ((x : X) → P x → NeedsAll (start x) (count x) (text x)) →
     ((x : X) (js : List ℕ) → P x → length js ≤ count x → Gives start text found (record { item = x; packets = js })) →

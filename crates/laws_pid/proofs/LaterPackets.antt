@@ -1,4 +1,4 @@
--- The packets of a PES packet or a section after its first one.
+-- The packets of a PES packet or a section after its first packet.
 use Rattle.std.proofs.Common.{◌≡◌, ℕ, suc, ◌+◌, ◌-◌, ◌*◌, ◌<◌, List, [], ◌∷◌, ◌++◌, length, take, drop, Some, None, refl, sym, ap, subst, ◌∙◌, arith}
 use Rattle.std.proofs.Common.{append_assoc, append-nil, mul-suc, take-add}
 use Rattle.ts_packet.specs.declared.start.Start.TheVariants.{Continues}
@@ -13,7 +13,7 @@ use Rattle.laws_pid.specs.Sent.{cut, last_of}
 use Rattle.laws_pid.proofs.CountedPackets.{does}
 use Rattle.laws_pid.proofs.PidSteps.{finds, leaves}
 
--- a payload that goes on
+-- A payload that continues a unit
 abbrev pub later : ℕ → List ℕ → Payload
 later i front = record { index = i; start = Continues; bytes = front }
 
@@ -40,7 +40,7 @@ last_left : (i : ℕ) (front : List ℕ) (b : OpenUnit) (w : WhatView) → decid
 unfolding next_open role_by undecided unless_decided
 last_left i front b w e = ap (unless_decided (appended b front)) e
 
--- a number of packets and one more
+-- The text in one packet and n more is the text in the first packet, and the text in the n packets after it.
 pub covered_from : (room n : ℕ) (before text : List ℕ) → before ++ take (room + 184 * n) text ≡ (before ++ take room text) ++ take (184 * n) (drop room text)
 covered_from room n before text =
     ap (λ (t : List ℕ). before ++ t) (take-add room (184 * n) text) ∙ sym (append_assoc before (take room text) (take (184 * n) (drop room text)))
@@ -50,7 +50,7 @@ covered n before text =
     let more : 184 * suc n ≡ 184 + 184 * n = omega (arith, mul-suc 184 n) in
     ap (λ (k : ℕ). before ++ take k text) more ∙ covered_from 184 n before text
 
--- packets that leave it undecided find nothing, and their bytes are put to it
+-- Packets that leave a unit undecided find nothing, and append their bytes to it.
 pub rest_quiet : (text is : List ℕ) (b : OpenUnit) → decided b.kind (b.bytes ++ take (184 * length is) text) ≡ None →
     (finds (cut Continues text is) (Some b) ≡ []) × (leaves (cut Continues text is) (Some b) ≡ Some (appended b (take (184 * length is) text)))
 unfolding finds leaves cut
@@ -66,7 +66,7 @@ rest_quiet text (i ∷ is) b e =
           ∙ ap (λ (t : List ℕ). Some (record b { bytes = t })) (sym (covered (length is) b.bytes text)),
     )
 
--- the packets that first have this number of bytes find what these decide, if none comes past its end
+-- The packets that first reach the decisive number of bytes find what these bytes decide, if no byte lies past its end.
 pub rest_decided : (text : List ℕ) (i : ℕ) (is : List ℕ) (b : OpenUnit) (size : ℕ) (w : WhatView) → 184 * length is < size →
     ((n : ℕ) → n < size → decided b.kind (b.bytes ++ take n text) ≡ None) → decided b.kind (b.bytes ++ take (184 * suc (length is)) text) ≡ Some w →
     past_end (length (b.bytes ++ take (184 * suc (length is)) text)) w ≡ 0 →

@@ -1,4 +1,4 @@
--- All that is found in the finished bytes is of a PID.
+-- Each finding in the finished bytes has a PID.
 use Rattle.std.proofs.Common.{◌≡◌, ℕ, zero, suc, ◌+◌, ◌-◌, ◌^◌, ◌<◌, ◌≤◌, arith, ◌==◌, Bool, true, false, cond, List, [], ◌∷◌, ◌++◌, length, map, All, Ok, refl}
 use Rattle.std.proofs.Common.{sym, ap, subst, ◌∙◌, append-nil}
 use Rattle.std.specs.List.{concat}
@@ -18,7 +18,7 @@ use Rattle.demux.specs.FoundSoFar.{FoundSoFar, taken_all, found_in_all}
 use Rattle.demux.proofs.FoundSoFar.{nothing_at_first, packets_add, all_are_found}
 use Rattle.laws_pid.specs.Laws.{IsRun, IsOfPid, all_found, AllIsOfPids, InOrder, FoundInOrder}
 
--- ---- lists of findings
+-- Lists of findings
 
 both : (xs ys : List FindingView) → All IsOfPid xs → All IsOfPid ys → All IsOfPid (xs ++ ys)
 both [] ys h k = k
@@ -29,7 +29,7 @@ found_is pid packet [] e = All-nil IsOfPid
 found_is pid packet (f ∷ found) e =
     All-cons IsOfPid (with_pid pid packet f) (map (with_pid pid packet) found) (pid, refl, e) (found_is pid packet found e)
 
--- ---- states of PIDs that are not that of null packets
+-- States of PIDs other than the null PID
 
 abbrev NoNull : ℕ × PidState → Type 0
 NoNull entry = (entry.0 == 8191) ≡ false
@@ -50,9 +50,9 @@ ended_is packet (x ∷ states) h =
     (found_is x.0 packet (ended true x.1.open_unit) (All-head NoNull x states h))
     (ended_is packet states (All-tail NoNull x states h))
 
--- ---- one packet
+-- One packet
 
--- a packet that can be read and is not flagged in error
+-- A packet that is readable and not flagged in error
 abbrev IsPlain : List ℕ → Type 0
 IsPlain bytes = (view : PacketView) × (packet_at bytes ≡ Ok view) × (view.header.transport_error_indicator ≡ false)
 
@@ -86,7 +86,7 @@ states_one index bytes states (view, read, clear) h =
     rw read (plain_states view.header.pid (step (state_of view.header.pid states) (entry_of index bytes view)) states view.header.transport_error_indicator
     (view.header.pid == 8191) refl h)
 
--- ---- the packets of a run
+-- The packets of a run
 
 unfoldable run_packets : (ℕ → Content) → ℕ → ℕ → List (List ℕ)
 run_packets content s zero = []
@@ -120,7 +120,7 @@ found_all s (packet ∷ packets) h =
     both (found_in s packet) (found_in_all (taken s packet) packets) (found_one s.packets packet s.states (All-head IsPlain packet packets h))
     (found_all (taken s packet) packets (All-tail IsPlain packet packets h))
 
--- what is left after packets: the states, no part of a packet, no findings, and not ended
+-- After packets the states remain: no part of a packet, no findings, and the stream has not ended.
 record Left (s : StreamState) : Type 0 where
   states : All NoNull s.states
   held : s.held ≡ []
@@ -137,7 +137,7 @@ left_all s (packet ∷ packets) h l =
 finished_is : (s : StreamState) → Left s → All IsOfPid (finished s).found
 finished_is s l = rw (l.ended, l.found, l.held) (ended_is s.packets s.states l.states)
 
--- what is found in the bytes of a run, packet by packet, and at the end
+-- The findings in the bytes of a run are the findings of its packets and of its end.
 run_found : (n : ℕ) (content : ℕ → Content) → IsRun n content →
     all_found (run_bytes content 0 n) ≡ found_in_all start (run_packets content 0 n) ++ (finished (taken_all start (run_packets content 0 n))).found
 run_found n content run =
@@ -162,7 +162,7 @@ all_is_of_pids n content run =
     (both (found_in_all start packets) (finished s).found (found_all start packets (run_plain content 0 n run.fits))
     (finished_is s (left_at_end n content run)))
 
--- ---- in the order of the packets
+-- Findings in the order of the packets
 
 later : (a b last : ℕ) (xs : List FindingView) → a ≤ b → InOrder b last xs → InOrder a last xs
 unfolding InOrder

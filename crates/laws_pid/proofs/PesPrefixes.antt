@@ -23,7 +23,7 @@ use Rattle.pid_findings.specs.OpenUnits.{decided, of_header, of_pes, max_unbound
 use Rattle.pid_findings.specs.Findings.{end_of}
 use Rattle.laws_pid.specs.Units.{unit_header, unit_header_size}
 
--- a PES packet whose header, of n bytes, is read as h, and its data
+-- A PES packet whose header of n bytes is read as h, with its data
 pub record PesText (text : List ℕ) (h : PesHeader) (n : ℕ) (body : List ℕ) : Type 0 where
   pub begins : (access : Bool) → may_begin_pes (take (room_of (start_by true access)) text) ≡ true
   pub stamped : is_stamped h.stamps ≡ true
@@ -35,7 +35,7 @@ pub record PesText (text : List ℕ) (h : PesHeader) (n : ℕ) (body : List ℕ)
   pub bounded : length text ≤ max_unbounded_pes
   pub counted : (h.len == 0) ≡ false → 6 + h.len ≡ n + length body
 
--- ---- the PES packet of a unit is one
+-- The PES packet of a unit can be read as a PES packet
 
 begins_pes : (id size : ℕ) (marks : Marks) (pts dts : ℕ) (body : List ℕ) (access : Bool) →
     may_begin_pes (take (room_of (start_by true access)) (pes_header_bytes id size marks pts dts ++ body)) ≡ true
@@ -47,7 +47,7 @@ has_stamps : (id size : ℕ) (marks : Marks) (pts dts : ℕ) → is_stamped (wri
 unfolding written_header
 has_stamps id size marks pts dts = elim (cases_Bool (on_wire pts == on_wire dts)) [ inl y ↦ rw y refl | inr k ↦ rw k refl ]
 
--- a PES_packet_length that is not 0 counts the bytes after it
+-- A PES_packet_length other than 0 counts the bytes after it.
 counts : (c : ℕ) → (packet_length c == 0) ≡ false → packet_length c ≡ c
 unfolding packet_length
 counts c e = elim (cases_Bool (nat_le c 65_535)) [ inl y ↦ rw y refl | inr k ↦ absurd (by (nat_le c 65_535) k e) ]
@@ -110,13 +110,13 @@ some_by false false more = omega arith
 size_some : (marks : Marks) (pts dts : ℕ) → 0 < header_size marks pts dts
 size_some marks pts dts = some_by marks.long (on_wire pts == on_wire dts) (extension_size marks)
 
--- a beginning with at least the header, and what of the data is in it
+-- A beginning with at least the header is the header and a beginning of the data.
 front_of : (m n : ℕ) (head body : List ℕ) → length head ≡ n → n ≤ m → take m (head ++ body) ≡ head ++ take (m - n) body
 front_of m n head body e h =
     let k : m ≡ length head + (m - n) = omega (arith, e) in
     ap (λ (i : ℕ). take i (head ++ body)) k ∙ take-append-add head body (m - n)
 
--- the greatest unit with its header is not too long
+-- The largest unit with its header is not too long.
 unit_bounded : (id size : ℕ) → IsTrue (fits_packet id size) → size ≤ 4_000_000
 unit_bounded id size fits = grind arith
 
@@ -144,9 +144,9 @@ unit_is_pes id base0 u fits =
       counted = header_counts id size u.marks pts dts;
     }
 
--- ---- what its beginnings decide
+-- What the beginnings of a PES packet decide
 
--- with a length it is undecided up to its last byte
+-- A PES packet with a length is undecided before its last byte.
 pub open_before : (text : List ℕ) (h : PesHeader) (n : ℕ) (body : List ℕ) (m : ℕ) → PesText text h n body → n ≤ m → (h.len == 0) ≡ false → m < length text →
     decided unit_kinds.Pes (take m text) ≡ None
 unfolding decided of_pes of_header
@@ -154,7 +154,7 @@ open_before text h n body m t le len less =
     let size : length (take m text) < 6 + h.len = omega (arith, length-take m text, t.counted len, t.size) in
     rw (t.header m le, len, lt-ltb (length (take m text)) (6 + h.len) size) refl
 
--- without one it stays undecided
+-- A PES packet without a length stays undecided.
 pub open_without : (text : List ℕ) (h : PesHeader) (n : ℕ) (body : List ℕ) (m : ℕ) → PesText text h n body → n ≤ m → (h.len == 0) ≡ true →
     decided unit_kinds.Pes (take m text) ≡ None
 unfolding decided of_pes of_header
@@ -162,7 +162,7 @@ open_without text h n body m t le len =
     let size : length (take m text) ≤ max_unbounded_pes = omega (arith, length-take m text, t.bounded) in
     rw (t.header m le, len, le-ltb max_unbounded_pes (length (take m text)) size) refl
 
--- with a length it is whole with its last byte
+-- A PES packet with a length is whole at its last byte.
 pub whole_at : (text : List ℕ) (h : PesHeader) (n : ℕ) (body : List ℕ) (m : ℕ) → PesText text h n body → (h.len == 0) ≡ false → length text ≤ m →
     decided unit_kinds.Pes (take m text) ≡ Some (IsPes h false body)
 unfolding decided of_pes of_header
@@ -173,12 +173,12 @@ whole_at text h n body m t len less =
     ap (take (6 + h.len - n)) (t.parted m le ∙ take_all (m - n) body (omega (arith, t.size))) ∙ take_all (6 + h.len - n) body (omega (arith, t.counted len)) in
     rw (t.header m le, len, le-ltb (length (take m text)) (6 + h.len) size, rest) refl
 
--- and no byte comes past its end
+-- No byte lies past the end of a PES packet with a length.
 pub none_past : (text : List ℕ) (h : PesHeader) (n : ℕ) (body : List ℕ) (m : ℕ) → PesText text h n body → (h.len == 0) ≡ false →
     length (take m text) - (6 + h.len) ≡ 0
 none_past text h n body m t len = omega (arith, length-take m text, t.counted len, t.size)
 
--- its kind, and how it ends where nothing more comes
+-- The kind of a PES packet, and how it ends if nothing follows
 pub kind_at : (access : Bool) (text : List ℕ) (h : PesHeader) (n : ℕ) (body : List ℕ) (m : ℕ) → PesText text h n body → n ≤ m →
     begun_kind unit_kinds.Pes access (take m text) ≡ Pes true access
 unfolding begun_kind

@@ -22,14 +22,14 @@ use Rattle.laws_pid.proofs.SendingPackets.{chunks_more, chunks_none}
 use Rattle.laws_pid.specs.Laws.{CarriesPieces, NumberedPayloads}
 use Rattle.table_rounds.proofs.CarriedBytes.{counters as counters_follow}
 
--- the piece that a packet carries
+-- The piece that a packet carries
 abbrev pub piece_of : Entry → Piece
 piece_of e = piece_in (payload_at e)
 
 abbrev pub HasBytes : Piece → Type 0
 HasBytes x = 0 < length x.bytes
 
--- counters go up from this number
+-- Counters increase from this number.
 abbrev Counts : ℕ → List Entry → Type 0
 Counts k es = (j : ℕ) (e : Entry) → slice_get es j ≡ Some e → e.packet.header.continuity_counter ≡ (k + j) % 16
 
@@ -40,7 +40,7 @@ and_left false e = absurd cc
 null_no : (pid : ℕ) → (pid == 8191) ≡ false → (8191 == pid) ≡ true → ⊥
 null_no pid not_null y = false≢true (sym not_null ∙ eq-eqb pid 8191 (sym (eqb-true 8191 pid y)))
 
--- a packet with bytes on the PID is the one that carries its payload, by the number modulo 16
+-- A packet on the PID with bytes carries its payload, with the number modulo 16 as counter.
 entry_is : (pid s k : ℕ) (c : Content) → (pid == 8191) ≡ false → is_of_pid pid (view_of c) ≡ true → (view_of c).header.continuity_counter ≡ k % 16 →
     HasBytes (piece_of (entry_at s c)) → entry_at s c ≡ payload_entry pid k (payload_at (entry_at s c))
 unfolding view_of packet_of
@@ -75,7 +75,7 @@ listed pid content s (suc n) k not_null counts some =
     listed_one pid s k (content s) (entries_in pid content (suc s) n) not_null (λ m c h. listed pid content (suc s) n m not_null c h)
     (is_of_pid pid (view_of (content s))) refl counts some
 
--- the packets of a PID that carry pieces with bytes carry their payloads, numbered from 0 on
+-- The packets of a PID that carry pieces with bytes carry their payloads, numbered from 0.
 pub carries_payloads : (pid n : ℕ) (content : ℕ → Content) (pieces : List Piece) → Fits content → (pid == 8191) ≡ false → All HasBytes pieces →
     CarriesPieces pid (run_bytes content 0 n) pieces →
     pid_list pid (run_bytes content 0 n) ≡ payload_entries pid 0 (map payload_at (pid_list pid (run_bytes content 0 n)))
@@ -88,7 +88,7 @@ carries_payloads pid n content pieces fits not_null some c =
     subst (λ (es : List Entry). Counts 0 es → All HasBytes (map piece_of es) → es ≡ payload_entries pid 0 (map payload_at es)) (sym is)
     (λ a b. listed pid content 0 n 0 not_null a b) counts each
 
--- the payloads of a text that needs them all have bytes
+-- Each payload has bytes if the text needs all its payloads.
 later_some : (k : ℕ) (text : List ℕ) → 184 * k < length text + 184 → All HasBytes (marked Continues (first_chunks 184 k text))
 unfolding marked
 later_some zero text h = All-nil HasBytes
@@ -96,7 +96,7 @@ later_some (suc k) text h =
     All-cons HasBytes (record { start = Continues; bytes = take 184 text }) (marked Continues (first_chunks 184 k (drop 184 text)))
     (omega (arith, h, length-take 184 text, mul-suc 184 k)) (later_some k (drop 184 text) (omega (arith, h, mul-suc 184 k, length-drop 184 text)))
 
--- a text has bytes, and needs all payloads
+-- A text has bytes, and needs all its payloads.
 abbrev pub NeedsAll : Start → ℕ → List ℕ → Type 0
 NeedsAll start k text = (0 < length text) × (184 * k + room_of start < length text + 368)
 
@@ -123,7 +123,7 @@ all_some {X} start text count P (x ∷ xs) fits h =
     (All-append HasBytes (f x) (flat_map f xs) (pieces_some (count x) (start x) (text x) (fits x (All-head P x xs h)))
     (all_some start text count P xs fits (All-tail P x xs h)))
 
--- ---- payloads that are numbered slot by slot
+-- Payloads that are numbered slot by slot
 
 carried_pieces : (pid k : ℕ) (ps : List Payload) → (map piece_of (payload_entries pid k ps) ≡ map piece_in ps) × (length (payload_entries pid k ps) ≡ length ps)
 unfolding payload_entries view_of

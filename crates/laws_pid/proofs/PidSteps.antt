@@ -1,4 +1,4 @@
--- A PID's packets as a fold over its payloads: what they find and what they leave open.
+-- The packets of a PID as a fold over its payloads: what they find and what they leave open.
 use Rattle.std.proofs.Common.{◌≡◌, ℕ, ◌+◌, true, List, [], ◌∷◌, ◌++◌, map, Option, Some, None, refl, sym, ap, ap₂, ◌∙◌, append_assoc}
 use Rattle.slot_contents.specs.Contents.{Payload, payload_entry, payload_entries}
 use Rattle.pid_findings.specs.Views.{WhatView, PidFinding}
@@ -11,7 +11,7 @@ use Rattle.pid_findings.proofs.DecidedBytes.{last_undecided}
 use Rattle.pid_findings.proofs.MachineRun.{run_finds_all}
 use Rattle.laws_pid.proofs.CountedPackets.{Follows, does, found_plain, part_plain, last_plain}
 
--- what payloads find, and what they leave open, with what is open before them
+-- What payloads find, and what they leave open, after the unit that is open before them
 unfoldable pub finds : List Payload → Option OpenUnit → List PidFinding
 finds [] held = []
 finds (p ∷ ps) held = map (at_packet p.index) (by_role p.index (does p) held) ++ finds ps (next_open p.index (does p) held)
@@ -37,7 +37,7 @@ run_leaves pid number [] s f = refl
 run_leaves pid number (p ∷ ps) s f =
     run_leaves pid (number + 1) ps (step s (payload_entry pid number p)) (last_plain pid number p s) ∙ ap (leaves ps) (part_plain pid number p s f)
 
--- all that is found in the packets of payloads, with the end after `count` packets
+-- All findings in the packets of payloads, and of the end after `count` packets
 pub found_to_end : (pid count : ℕ) (ps : List Payload) →
     findings_to_end count (payload_entries pid 0 ps) ≡ finds ps None ++ map (at_packet count) (ended true (leaves ps None))
 found_to_end pid count ps =
@@ -58,7 +58,7 @@ unfolding leaves
 leaves_append [] b held = refl
 leaves_append (p ∷ a) b held = leaves_append a b (next_open p.index (does p) held)
 
--- what is open is undecided
+-- An open unit is undecided.
 abbrev pub Waits : Option OpenUnit → Type 0
 Waits None = Unit {0}
 Waits (Some b) = decided b.kind b.bytes ≡ None

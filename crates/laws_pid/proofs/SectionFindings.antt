@@ -1,4 +1,4 @@
--- What the packets of a section find: one finding.
+-- The packets of a section give one finding.
 use Rattle.std.proofs.Common.{◌≡◌, ℕ, suc, ◌+◌, ◌-◌, ◌*◌, ◌<◌, ◌≤◌, nat_le, Bool, true, false, List, [], ◌∷◌, ◌++◌, length, map, take, drop, replicate}
 use Rattle.std.proofs.Common.{slice_index, Option, Some, None, refl, sym, ap, ap₂, subst, ◌∙◌, inl, inr, arith, mul-suc, take-add, append-nil, le-leb, le-ltb}
 use Rattle.std.specs.Prelude.{option_map}
@@ -24,11 +24,11 @@ use Rattle.laws_pid.proofs.LaterPackets.{rest_quiet, rest_decided}
 use Rattle.laws_pid.proofs.AllSendings.{Gives, ends_at}
 use Rattle.laws_pid.proofs.SectionPrefixes.{filled_to, given_size, open_before, whole_at, kind_at, no_fill_at, no_pes_at, fill_after, filled_less}
 
--- the first payload of a section: pointer_field 0, and bytes
+-- The first payload of a section: pointer_field 0, and bytes
 abbrev pub pointing : ℕ → List ℕ → Payload
 pointing i bytes = record { index = i; start = Begins; bytes = 0 ∷ bytes }
 
--- what is open before it gets no byte
+-- The unit that is open before a section gets no byte.
 no_last_by : (f : UnitKind) (packet : ℕ) (access : Bool) (bytes : List ℕ) → decided f bytes ≡ None →
     last_bytes_by [] (record { packet = packet; kind = f; access = access; bytes = bytes }) f ≡ ended false
     (Some (record { packet = packet; kind = f; access = access; bytes = bytes }))
@@ -56,7 +56,7 @@ pub first_left : (i : ℕ) (bytes : List ℕ) (held : Option OpenUnit) → may_b
 unfolding next_open
 first_left i bytes held e = ap (λ (r : Role). next_open i r held) (does_point i bytes e)
 
--- a first packet that leaves the section undecided
+-- A first packet that leaves the section undecided ends only the unit before it.
 open_found : (text : List ℕ) (i : ℕ) (held : Option OpenUnit) → IsRecognized text → Waits held → 183 < length text →
     by_role i (does (pointing i (filled_to 183 text))) held ≡ ended false held
 open_found text i held g w less =
@@ -71,7 +71,7 @@ open_left text i held g less =
     ∙ ap (λ (o : Option (List ℕ)). option_map (section i) o)
     (cut_last (filled_to 183 text) (no_fill_at text 183 g (omega arith)) (open_before text 183 g less))
 
--- a first packet in which it is whole
+-- A first packet with the whole section gives the section.
 within_found : (text : List ℕ) (i : ℕ) (held : Option OpenUnit) → IsRecognized text → Waits held → length text ≤ 183 →
     by_role i (does (pointing i (filled_to 183 text))) held ≡ ended false held ++ begun_table i text (IsSection text) true ∷ []
 within_found text i held g w le =
@@ -95,17 +95,17 @@ within_left text i held g le =
     ∙ ap (λ (o : Option (List ℕ)). option_map (section i) o)
     (more_last bytes (IsSection text) (no_fill_at text 183 g (omega arith)) is ∙ fill_last rest (fill_after text 183 g le))
 
--- a number of bytes of the section after those of the first packet
+-- The bytes of the first packet, and n bytes of the section after them
 after_first : (n : ℕ) (text : List ℕ) → filled_to (183 + n) text ≡ filled_to 183 text ++ take n (drop 183 (text ++ replicate 184 0xFF))
 after_first n text = take-add 183 n (text ++ replicate 184 0xFF)
 
--- what the packets i and `is` of a section are to find
+-- What the packets i and `is` of a section have to find
 abbrev SectionGives : Ending → List ℕ → ℕ → List ℕ → Option OpenUnit → Type 0
 SectionGives e text i is held =
     finds (cut Begins (filled_section text) (i ∷ is)) held ++ ends_at e (leaves (cut Begins (filled_section text) (i ∷ is)) held)
     ≡ map (at_packet i) (ended false held) ++ section_found e text i is ∷ []
 
--- the packets of one that is cut short
+-- The packets of a section that is cut short find only the end of the unit before it.
 cut_packets : (text : List ℕ) (i : ℕ) (is : List ℕ) → IsRecognized text → (held : Option OpenUnit) → Waits held → 183 + 184 * length is < length text →
     (finds (cut Begins (filled_section text) (i ∷ is)) held ≡ map (at_packet i) (ended false held))
     × (leaves (cut Begins (filled_section text) (i ∷ is)) held ≡ Some (section i (filled_to (183 + 184 * length is) text)))
@@ -122,7 +122,7 @@ cut_packets text i is g held w less =
       ap (leaves (cut Continues (drop 183 body) is)) left ∙ rest.1 ∙ ap (λ (t : List ℕ). Some (section i t)) (sym (after_first n text)),
     )
 
--- how it ends
+-- A section that is cut short ends truncated.
 cut_ends : (e : Ending) (i m : ℕ) (text : List ℕ) → IsRecognized text → 0 < m → m < length text →
     ends_at e (Some (section i (filled_to m text))) ≡ record { packet = e.packet; found = begun_table i text (IsTruncated (take m text)) false } ∷ []
 unfolding ended
@@ -146,7 +146,7 @@ section_cut text i is g e held w less =
     ∙ ap (λ (xs : List PidFinding). map (at_packet i) (ended false held) ++ xs)
     (cut_ends e i m text g (omega arith) short ∙ ap (λ (x : PidFinding). x ∷ []) (sym is_found))
 
--- whole in the first packet
+-- A section that is whole in its first packet
 section_within : (text : List ℕ) (i : ℕ) → IsRecognized text → (e : Ending) (held : Option OpenUnit) → Waits held → length text ≤ 183 →
     SectionGives e text i [] held
 unfolding finds leaves cut filled_section section_found ended
@@ -159,7 +159,7 @@ section_within text i g e held w le =
     (append-nil (map (at_packet i) (ended false held ++ one ∷ []) ++ []) ∙ append-nil (map (at_packet i) (ended false held ++ one ∷ []))
     ∙ map-append (at_packet i) (ended false held) (one ∷ []))
 
--- whole in a later one
+-- A section that is whole in a later packet
 later_packets : (text : List ℕ) (i j : ℕ) (is : List ℕ) → IsRecognized text → (held : Option OpenUnit) → Waits held → 184 * suc (length is) < 1 + length text →
     1 + length text ≤ 184 * suc (suc (length is)) →
     (finds (cut Begins (filled_section text) (i ∷ j ∷ is)) held
@@ -207,7 +207,7 @@ by_packets text i [] g e held w few whole = section_within text i g e held w (om
 by_packets text i (j ∷ is) g e held w few whole =
     section_whole text i j is g e held w (omega (arith, few, mul-suc 184 (suc (length is)))) whole
 
--- a section in some packets: its one finding
+-- A section in some packets gives one finding.
 pub section_gives : (text is : List ℕ) → IsRecognized text → 184 * length is < 1 + length text + 184 →
     Gives (λ _. Begins) filled_section section_found (record { item = text; packets = is })
 unfolding begin_or if_sent cut finds leaves

@@ -17,9 +17,9 @@ use Rattle.pid_findings.specs.Roles.{may_begin_pes}
 use Rattle.pid_findings.specs.OpenUnits.{decided, of_section, is_stuffing, begun_kind, declared_size, taken_by}
 use Rattle.laws_pid.specs.Sections.{IsRecognized}
 
--- ---- a section has the bytes that it says, and its beginnings are too short
+-- A section has the size that it states, and its beginnings are too short
 
--- what a section that was read says of its size, and that it has it
+-- What a readable section states of its size, and that its bytes are there
 pub record ReadFits (bytes : List ℕ) (size : ℕ) : Type 0 where
   pub some : 3 ≤ length bytes
   pub said : size ≡ declared_size bytes
@@ -55,7 +55,7 @@ ok_no_err p x e = cc
 same_read : (p q : SectionView × ℕ) → ◌≡◌ {A = Read} (Ok p) (Ok q) → p.1 ≡ q.1
 same_read p q e = let h : p ≡ q = cc in ap (λ (x : SectionView × ℕ). x.1) h
 
--- a beginning of a whole section is Short
+-- A beginning of a whole section is `Short`.
 opens : (text : List ℕ) (n : ℕ) (view : SectionView) → section_at text ≡ Ok (view, length text) → n < length text →
     section_at (take n text) ≡ Err section_errors.Short
 opens text n view read less = by (section_at (take n text)) refl
@@ -73,9 +73,9 @@ opens text n view read less = by (section_at (take n text)) refl
     by (Err section_errors.Short) e = e
     by (Err x) e = absurd (ok_no_err (view, length text) x (sym read ∙ keep (Err x) (λ y. absurd cc) e))
 
--- ---- the section with what fills it up
+-- The section and its filling
 
--- so much of it
+-- The first m bytes of the filled section
 abbrev pub filled_to : ℕ → List ℕ → List ℕ
 filled_to m text = take m (text ++ replicate 184 0xFF)
 
@@ -158,7 +158,7 @@ only_fill zero n = refl
 only_fill (suc k) zero = refl
 only_fill (suc k) (suc n) = refl
 
--- after a whole section there is only stuffing
+-- Only stuffing follows a whole section.
 pub fill_after : (text : List ℕ) (m : ℕ) → IsRecognized text → length text ≤ m →
     is_stuffing (drop (taken_by (filled_to m text) (IsSection text)) (filled_to m text)) ≡ true
 unfolding taken_by

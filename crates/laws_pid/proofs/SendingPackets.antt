@@ -1,4 +1,4 @@
--- Payloads that are the first of those of PES packets or sections, as these in their packets.
+-- Payloads that are the first payloads of PES packets or sections, as sendings.
 use Rattle.std.proofs.Common.{◌≡◌, ℕ, zero, suc, ◌≤◌, All, arith, length-take, List, [], ◌∷◌, ◌++◌, length, map, take, drop, refl, sym, ap, ap₂, ◌∙◌}
 use Rattle.std.proofs.Common.{take-append-drop}
 use Rattle.std.proofs.lemmas.List.Elements.{All-nil, All-cons, All-head, All-tail}
@@ -22,11 +22,11 @@ same_head x y xs ys e = cc
 same_tail : (x y : Piece) (xs ys : List Piece) → x ∷ xs ≡ y ∷ ys → xs ≡ ys
 same_tail x y xs ys e = cc
 
--- a piece in a packet
-abbrev standing : ℕ → Piece → Payload
-standing i x = record { index = i; start = x.start; bytes = x.bytes }
+-- A piece in a packet
+abbrev payload_of_piece : ℕ → Piece → Payload
+payload_of_piece i x = record { index = i; start = x.start; bytes = x.bytes }
 
--- the first payload and those after it
+-- The first payload of a text and its later payloads
 pub chunks_more : (start : Start) (k : ℕ) (text : List ℕ) →
     start_chunks start (suc k) text ≡ take (room_of start) text ∷ first_chunks 184 k (drop (room_of start) text)
 unfolding access_chunks
@@ -40,7 +40,7 @@ chunks_none Continues text = refl
 chunks_none Begins text = refl
 chunks_none Access text = refl
 
--- the first k payloads are those of the first in their packets, and the others are the first of what follows
+-- The first k payloads carry the first text in their packets; the payloads after them begin the rest.
 split_text : (k : ℕ) (start : Start) (text : List ℕ) (rest : List Piece) (ps : List Payload) →
     map piece_in ps ≡ take (length ps) (marked start (start_chunks start k text) ++ rest) →
     (take k ps ≡ cut start text (take k (indices ps))) × (map piece_in (drop k ps) ≡ take (length (drop k ps)) rest) ×
@@ -55,13 +55,13 @@ split_text (suc k) start text rest (p ∷ ps) e =
     e ∙ ap (λ (c : List (List ℕ)). take (suc (length ps)) (marked start c ++ rest)) (chunks_more start k text) in
     let first : piece_in p ≡ y = same_head (piece_in p) y (map piece_in ps) ys more in
     let others = split_text k Continues (drop (room_of start) text) rest ps (same_tail (piece_in p) y (map piece_in ps) ys more) in
-    let one : p ≡ standing p.index y = ap (standing p.index) first in
+    let one : p ≡ payload_of_piece p.index y = ap (payload_of_piece p.index) first in
     (ap₂ (λ (q : Payload) (qs : List Payload). q ∷ qs) one others.0, others.1, others.2)
 
 none_left : (p : Payload) (ps : List Payload) → map piece_in (p ∷ ps) ≡ [] → ⊥
 none_left p ps e = cc
 
--- payloads that are the first of those of PES packets or sections are these in their packets
+-- Payloads that begin the payloads of PES packets or sections are the payloads of their sendings.
 pub parted : {X : Type 0} (start : X → Start) (text : X → List ℕ) (count : X → ℕ) (xs : List X) (ps : List Payload) →
     map piece_in ps ≡ take (length ps) (flat_map (λ x. first_pieces (start x) (count x) (text x)) xs) →
     ps ≡ sent_payloads start text (sendings count xs (indices ps))
@@ -76,7 +76,7 @@ parted {X} start text count (x ∷ xs) ps e =
     sym (take-append-drop (count x) ps)
     ∙ ap₂ (λ (a b : List Payload). a ++ b) s.0 (rest ∙ ap (λ (is : List ℕ). sent_payloads start text (sendings count xs is)) s.2)
 
--- what holds of each in no more packets than it needs
+-- Each sending has a property if its item has it in any number of packets up to its need.
 pub all_sendings : {X : Type 0} (P : X → Type 0) (Q : Sending X → Type 0) (count : X → ℕ) (xs : List X) (is : List ℕ) →
     ((x : X) (js : List ℕ) → P x → length js ≤ count x → Q (record { item = x; packets = js })) → All P xs → All Q (sendings count xs is)
 unfolding sendings

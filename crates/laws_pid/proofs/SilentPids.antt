@@ -13,7 +13,7 @@ use Rattle.pid_findings.specs.Machine.{PidState, fresh, found_by, next_open, run
 use Rattle.pid_findings.proofs.MachineRun.{run_finds_all}
 use Rattle.slot_contents.proofs.Counts.{null_other}
 
--- after clock references alone the last packet, if there was one, had counter 15
+-- After clock references alone, the last packet, if any, has counter 15.
 abbrev LastClock : Option LastView → Type 0
 LastClock None = Unit {0}
 LastClock (Some last) = last.counter ≡ 15
@@ -21,7 +21,7 @@ LastClock (Some last) = last.counter ≡ 15
 abbrev clock_entry : ℕ → ℕ → Reference → Entry
 clock_entry s pid pcr = entry_at s (PcrContent pid pcr)
 
--- a packet without mark
+-- A packet without a mark
 abbrev plain_mark : Entry → Marked
 plain_mark entry = record { entry = entry; duplicate = false; broken = None }
 
@@ -59,7 +59,7 @@ clock_last i pid pcr s = refl
 some_left : (p : Payload) → ◌≡◌ {A = List Payload} (p ∷ []) [] → ⊥
 some_left p e = cc
 
--- packets that find nothing and leave what was open
+-- Packets that find nothing and leave the open unit as it is
 abbrev Quiet : PidState → List Entry → Type 0
 Quiet s es = (run s es ≡ []) × ((run_to s es).open_unit ≡ s.open_unit)
 
@@ -88,7 +88,7 @@ quiet pid content i (suc n) not_null none s h =
     quiet_one pid i (content i) s (entries_in pid content (suc i) n) not_null (none i (omega arith)) h
     (λ t k. quiet pid content (suc i) n not_null (λ u less. none u (omega (arith, less))) t k)
 
--- the packets of a PID without payloads find nothing, with the end of the stream
+-- The packets of a PID without payloads, and the end of the stream, find nothing.
 pub silent : (pid n count : ℕ) (content : ℕ → Content) → (pid == 8191) ≡ false → ((t : ℕ) → t < n → payload_in pid t (content t) ≡ []) →
     findings_to_end count (entries_in pid content 0 n) ≡ []
 unfolding ended

@@ -1,4 +1,4 @@
--- The payloads of a table, place by place, as those of its sections.
+-- The payloads of a table, place by place, as the payloads of its sections.
 use Rattle.std.proofs.Common.{◌≡◌, ℕ, zero, suc, ◌+◌, ◌-◌, ◌*◌, ◌%◌, ◌<◌, ◌≤◌, ◌==◌, Bool, true, false, cond, List, [], ◌∷◌, ◌++◌, length, map, take, drop}
 use Rattle.std.proofs.Common.{slice_index_or, Option, Some, None, refl, sym, ap, ap₂, subst, ◌∙◌, inl, inr, arith, lt-ltb, le-ltb, eqb-true, ne_eqb, append-nil}
 use Rattle.std.proofs.Common.{append_assoc, drop-drop, mul-suc}
@@ -25,17 +25,17 @@ use Rattle.unit_queue.specs.Payloads.{marked, piece_in}
 use Rattle.laws_pid.specs.Sections.{section_packets, section_pieces, filled_section}
 use Rattle.laws_pid.specs.Rounds.{sections_from, round_sections, sections_of_rounds, RoundsAreSections}
 
--- ---- the places of a round
+-- The places of a round
 
 abbrev listed : Option Piece → List Piece
 listed None = []
 listed (Some piece) = piece ∷ []
 
--- what a place carries of these texts
+-- The piece of these texts that a place carries
 abbrev place_part : (ℕ → List ℕ) → SectionPlace → Option Piece
 place_part text p = part_of (text p.section) p.part
 
--- the payloads of d places from place i on
+-- The payloads of d places from place i on
 unfoldable places_pieces : (ℕ → List ℕ) → ℕ → List ℕ → ℕ → ℕ → List Piece
 places_pieces text j ls i zero = []
 places_pieces text j ls i (suc d) = listed (place_part text (place_in j ls i)) ++ places_pieces text j ls (suc i) d
@@ -55,7 +55,7 @@ places_split text j ls i (suc a) d =
     ∙ sym (append_assoc one (places_pieces text j ls (suc i) a) (places_pieces text j ls (suc i + a) d))
     ∙ ap (λ (x : ℕ). (one ++ places_pieces text j ls (suc i) a) ++ places_pieces text j ls x d) k
 
--- after the places of the first section
+-- The places after the places of the first section
 places_shift : (text : ℕ → List ℕ) (j l : ℕ) (ls : List ℕ) (n i d : ℕ) → n ≡ places_of l + i →
     places_pieces text j (l ∷ ls) n d ≡ places_pieces text (suc j) ls i d
 unfolding places_pieces
@@ -64,7 +64,7 @@ places_shift text j l ls n i (suc d) e =
     ap₂ (λ (p : SectionPlace) (xs : List Piece). listed (place_part text p) ++ xs) (place_after j l ls n i e)
     (places_shift text j l ls (suc n) (suc i) d (omega (arith, e)))
 
--- the places of one section carry its payloads, from payload q on
+-- The places of one section carry its payloads from payload q on.
 section_places : (text : ℕ → List ℕ) (j l : ℕ) (ls : List ℕ) (q d : ℕ) → q + d ≡ places_of l → section_packets (text j) ≤ places_of l →
     places_pieces text j (l ∷ ls) q d ≡ marked (start_by (q == 0) false) (first_chunks 184 (section_packets (text j) - q) (drop (184 * q) (filled (text j))))
 unfolding places_pieces marked part_of
@@ -94,7 +94,7 @@ from_start text =
     let b : 184 * 0 ≡ 0 = omega arith in
     rw (a, b) refl
 
--- those of a round carry its sections' payloads
+-- The places of a round carry the payloads of its sections.
 round_is_sections : (text : ℕ → List ℕ) (j : ℕ) (ls : List ℕ) → ((i : ℕ) → i < length ls → length (text (j + i)) ≤ slice_index_or ls i 0) →
     places_pieces text j ls 0 (round_places ls) ≡ flat_map section_pieces (sections_from text j ls)
 unfolding places_pieces sections_from
@@ -116,7 +116,7 @@ round_is_sections text j (l ∷ ls) room =
     ∙ round_is_sections text (suc j) ls others)
     ∙ sym (flat_map-cons section_pieces (text j) (sections_from text (suc j) ls))
 
--- ---- slot by slot
+-- Slot by slot
 
 slots_more : (own : ℕ → Bool) (s n : ℕ) → own_slots own s (suc n) ≡ own_slots own s n ++ cond (own (s + n)) ((s + n) ∷ []) []
 unfolding own_slots
@@ -131,7 +131,7 @@ slots_more own s (suc n) =
 slot_more : (own : ℕ → Bool) (n : ℕ) → own_slots own 0 (suc n) ≡ own_slots own 0 n ++ cond (own n) (n ∷ []) []
 slot_more own n = let e : 0 + n ≡ n = omega arith in slots_more own 0 n ∙ ap (λ (k : ℕ). own_slots own 0 n ++ cond (own k) (k ∷ []) []) e
 
--- the payloads of the table before slot n, and those of the sections of all rounds that began
+-- The payloads of the table before slot n, and the payloads of the sections of all rounds that have begun
 abbrev sent : Table → ℕ → List Piece
 sent table n = map piece_in (table_payloads table n)
 
@@ -178,18 +178,18 @@ all_same table n k =
     ap (λ (xs : List ℕ). flat_map section_pieces (flat_map (round_sections table) xs))
     (slot_more (begins table) n ∙ ap (λ (b : Bool). old ++ cond b (n ∷ []) []) k ∙ append-nil old)
 
--- the places of the round of slot b that are still to come, from place i on
+-- The payloads that remain of the round of slot b, from place i on
 abbrev to_come : Table → ℕ → ℕ → List Piece
 to_come table b i = places_pieces (λ j. table.bytes j (moment_of table b)) 0 table.lengths i (round_places table.lengths - i)
 
--- none where no round is under way
+-- The payloads that remain: none between rounds
 unfoldable left : Table → ℕ → ℕ → List Piece
 left table b i = cond (i == 0) [] (to_come table b i)
 
 abbrev left_at : Table → ℕ → List Piece
 left_at table n = left table (round_before table.own (round_places table.lengths) n) (own_before table.own n % round_places table.lengths)
 
--- after the place of an own slot
+-- What remains after the place of an own slot
 left_next : (table : Table) (b m : ℕ) → 0 < round_places table.lengths →
     left table b ((m + 1) % round_places table.lengths) ≡ to_come table b (suc (m % round_places table.lengths))
 unfolding left places_pieces
@@ -209,7 +209,7 @@ left_next table b m some =
           rw (on, none) refl
     ]
 
--- the place of an own slot is the next of those to come
+-- The place of an own slot is the first place that remains.
 next_place : (table : Table) (b m : ℕ) (o : Option Piece) → 0 < round_places table.lengths →
     o ≡ place_part (λ j. table.bytes j (moment_of table b)) (place_in 0 table.lengths (m % round_places table.lengths)) →
     listed o ++ left table b ((m + 1) % round_places table.lengths) ≡ to_come table b (m % round_places table.lengths)
@@ -220,7 +220,7 @@ next_place table b m o some is =
     let more : k - m % k ≡ suc (k - suc (m % k)) = omega (arith, below) in
     rw (is, left_next table b m some, more) refl
 
--- the own slot's part is that of the last round
+-- The part of an own slot belongs to the latest round.
 part_is : (table : Table) (n : ℕ) → part_at table n
     ≡ place_part (λ j. table.bytes j (moment_of table (round_before table.own (round_places table.lengths) (suc n))))
     (place_in 0 table.lengths (own_before table.own n % round_places table.lengths))
@@ -255,7 +255,7 @@ own_sent table n some whole mine before =
           ∙ before ∙ sym (all_same table n going)
     ]
 
--- what was sent and what is still to come of the round are the rounds that began
+-- The payloads sent and the payloads that remain make up the rounds that have begun.
 all_sent : (table : Table) (n : ℕ) → 0 < round_places table.lengths →
     ((b : ℕ) → to_come table b 0 ≡ flat_map section_pieces (round_sections table b)) → sent table n ++ left_at table n ≡ all_of table n
 unfolding left round_before own_before own_slots

@@ -38,7 +38,7 @@ pub tables_come_back : TablesComeBack
 tables_come_back table n content run alone some room given =
     sections_come_back table.pid n content (sections_of_rounds table n) run alone.no_null (tables_carry table n content alone some room) given
 
--- the payloads of a unit, by their number
+-- The payloads of a unit, by their number
 pub same_chunks : (access : Bool) (pes : List ℕ) → cut_into access pes ≡ start_chunks (start_by true access) (piece_count (field_size access + length pes)) pes
 unfolding cut_into pieces access_chunks
 same_chunks true pes =

@@ -1,4 +1,4 @@
--- What the packets of a unit find: one finding.
+-- The packets of a unit give one finding.
 use Rattle.std.proofs.Common.{◌≡◌, ℕ, suc, ◌+◌, ◌-◌, ◌*◌, ◌<◌, ◌≤◌, ◌==◌, nat_le, Bool, true, false, IsTrue, List, [], ◌∷◌, ◌++◌, length, map, take, drop}
 use Rattle.std.proofs.Common.{Option, Some, None, refl, sym, ap, ap₂, subst, ◌∙◌, inl, inr, arith, mul-suc, take-add, append-nil, le-leb}
 use Rattle.std.proofs.lemmas.List.{map-append}
@@ -31,11 +31,11 @@ use Rattle.laws_pid.proofs.LaterPackets.{covered_from, rest_quiet, rest_decided}
 use Rattle.laws_pid.proofs.AllSendings.{Gives, ends_at}
 use Rattle.laws_pid.proofs.PesPrefixes.{PesText, none_past, unit_is_pes, open_before, open_without, whole_at, kind_at, end_without, end_within}
 
--- the first payload of a PES packet
+-- The first payload of a PES packet
 abbrev opening : ℕ → Bool → List ℕ → Payload
 opening i access front = record { index = i; start = start_by true access; bytes = front }
 
--- a PES packet from packet i on, with these bytes
+-- A PES packet from packet i on, with these bytes
 abbrev pes_at : ℕ → Bool → List ℕ → OpenUnit
 pes_at i access bytes = record { packet = i; kind = unit_kinds.Pes; access = access; bytes = bytes }
 
@@ -51,11 +51,11 @@ unfolding next_open role_by
 first_left i true front held e = rw e refl
 first_left i false front held e = rw e refl
 
--- the room of the first packet
+-- The room of the first packet
 abbrev room : Bool → ℕ
 room access = room_of (start_by true access)
 
--- packets whose bytes leave it undecided find only what is open before them
+-- Packets whose bytes leave a PES packet undecided find only the end of the unit before it.
 text_open : (access : Bool) (text : List ℕ) (i : ℕ) (is : List ℕ) (held : Option OpenUnit) → may_begin_pes (take (room access) text) ≡ true →
     decided unit_kinds.Pes (take (room access + 184 * length is) text) ≡ None →
     (finds (cut (start_by true access) text (i ∷ is)) held ≡ map (at_packet i) (ended false held))
@@ -81,7 +81,7 @@ room_least : (access : Bool) → 182 ≤ room access
 room_least true = omega arith
 room_least false = omega arith
 
--- those of which the last one decides it, with no byte past its end, find that
+-- Packets find the PES packet if only the last packet decides it and no byte lies past its end.
 text_decided : (access : Bool) (text : List ℕ) (i : ℕ) (is : List ℕ) (held : Option OpenUnit) (w : WhatView) → may_begin_pes (take (room access) text) ≡ true →
     is_whole w ≡ true →
     ((m : ℕ) → 182 ≤ m → begun_kind unit_kinds.Pes access (take m text) ≡ Pes true access) → room access + 184 * length is < length text + 184 →
@@ -135,21 +135,21 @@ text_decided access text i (j ∷ is) held w begins whole kind h u e past =
       ap (leaves (cut Continues (drop (room access) text) (j ∷ is))) left ∙ rest.1,
     )
 
--- how what is left open ends
+-- The end of a PES packet that is left open
 open_ends : (e : Ending) (i : ℕ) (access : Bool) (bytes : List ℕ) (w : WhatView) → begun_kind unit_kinds.Pes access bytes ≡ Pes true access →
     end_of e.open_ended bytes unit_kinds.Pes (header_at bytes) ≡ w →
     ends_at e (Some (pes_at i access bytes)) ≡ record { packet = e.packet; found = begun_pes i access w false } ∷ []
 unfolding ended
 open_ends e i access bytes w k f = rw (k, f) refl
 
--- what the packets i and `is` of a unit are to find
+-- What the packets i and `is` of a unit have to find
 abbrev UnitGives : ℕ → ℕ → Ending → AccessUnit → ℕ → List ℕ → Option OpenUnit → Type 0
 UnitGives id base0 e u i is held =
     finds (cut (unit_start u) (pes_packet_bytes id base0 u) (i ∷ is)) held
     ++ ends_at e (leaves (cut (unit_start u) (pes_packet_bytes id base0 u) (i ∷ is)) held)
     ≡ map (at_packet i) (ended false held) ++ unit_found id base0 e u i is ∷ []
 
--- the bytes of a unit that packets i and `is` have room for
+-- The number of bytes of a unit for which packets i and `is` have room
 abbrev reach : AccessUnit → List ℕ → ℕ
 reach u is = room (has_access u) + 184 * length is
 
@@ -157,7 +157,7 @@ reach_is : (access : Bool) (n : ℕ) → 184 * suc n - field_size access ≡ roo
 reach_is true n = omega (arith, mul-suc 184 n)
 reach_is false n = omega (arith, mul-suc 184 n)
 
--- the beginning of a unit that stays open, and how it ends
+-- The beginning of a unit that stays open, and its end
 unit_open : (id base0 : ℕ) (e : Ending) (u : AccessUnit) (i : ℕ) (is : List ℕ) (held : Option OpenUnit) (w : WhatView) →
     PesText (pes_packet_bytes id base0 u) (unit_header id base0 u) (unit_header_size base0 u) u.bytes →
     decided unit_kinds.Pes (take (reach u is) (pes_packet_bytes id base0 u)) ≡ None →
@@ -227,7 +227,7 @@ unit_whole id base0 u i is fits few e held len whole =
     ++ record { packet = last_of i is; found = begun_pes i (has_access u) (IsPes h false u.bytes) (is_none is) } ∷ [])
     ∙ ap (λ (x : PidFinding). map (at_packet i) (ended false held) ++ x ∷ []) (sym found)
 
--- a unit in some packets: its one finding, by cases on its length and on the bytes that came
+-- A unit in some packets gives one finding, by cases on its length and on the bytes in them.
 pub unit_gives : (id base0 : ℕ) (u : AccessUnit) (is : List ℕ) → IsTrue (fits_packet id (length u.bytes)) →
     184 * length is < field_size (has_access u) + length (pes_packet_bytes id base0 u) + 184 →
     Gives unit_start (pes_packet_bytes id base0) (unit_found id base0) (record { item = u; packets = is })

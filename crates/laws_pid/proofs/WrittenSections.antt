@@ -1,4 +1,4 @@
--- Sections that are written are taken for sections.
+-- Written sections are taken for sections.
 use Rattle.std.proofs.Common.{◌≡◌, ℕ, ◌+◌, ◌*◌, ◌/◌, ◌==◌, ◌&&◌, Bool, true, false, List, [], ◌∷◌, ◌++◌, length, Option, Some, None, refl, sym, ap, ◌∙◌, arith}
 use Rattle.std.proofs.Common.{ne_eqb, append-nil}
 use Rattle.bit_fields.specs.Fields.{bit}
@@ -14,7 +14,7 @@ no_both : (a b : Bool) → b ≡ false → (a && (b && true)) ≡ false
 no_both true b e = rw e refl
 no_both false b e = refl
 
--- the second byte has the reserved bits 11, and so is not 01
+-- The second byte has reserved bits 11, and so is not 01.
 second_byte : (long private high : ℕ) → (1 == long * 128 + (private * 64 + (0x30 + high))) ≡ false
 second_byte long private high = ne_eqb 1 (long * 128 + (private * 64 + (0x30 + high))) (λ e. omega (arith, e))
 

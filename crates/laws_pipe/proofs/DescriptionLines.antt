@@ -1,4 +1,4 @@
--- The text of a description that `tsjob` writes: no line of it is the first of a plan's text.
+-- No line of a description that `tsjob` writes is the first line of a plan.
 use Rattle.std.proofs.Common.{◌≡◌, ℕ, pos, ◌==◌, Bool, true, false, if◌then◌else◌, decimal, List, [], ◌∷◌, ◌++◌, length, map, zip, flat_map, refl, ap, ◌∙◌}
 use Rattle.std.proofs.Common.{subst, append_assoc, codes, Option, Some, None}
 use Rattle.std.specs.Prelude.{nat_eq}
@@ -38,11 +38,11 @@ use Rattle.laws_pipe.proofs.PlainTexts.{decimal_flat, hex_flat, string_flat}
 
 -- 1. The line of a key
 
--- what begins with it is no plan's text
+-- Text that begins with this key does not begin a plan.
 abbrev IsOther : List ℕ → Type 0
 IsOther key = (rest : List ℕ) → starts_with nat_eq (key ++ rest) first_plan_line ≡ false
 
--- what stands beside a value has no end of a line
+-- The note beside a value contains no newline.
 note_flat : (key : List ℕ) (value : Data) → is_flat (note_of key value) ≡ true
 note_flat key value = flat_if is_shown (note_of key value) refl (notes_are_shown.0 key value)
 
@@ -65,11 +65,11 @@ key_passes key value other plain flat =
     (λ rest. ap (λ (t : List ℕ). starts_with nat_eq t first_plan_line) (append_assoc key (codes " = " ++ said) (10 ∷ rest))
     ∙ other ((codes " = " ++ said) ++ 10 ∷ rest)))
 
--- of a number
+-- The line of a number passes.
 number_passes : (key : List ℕ) (n : ℕ) → IsOther key → is_flat key ≡ true → Passes (number_line (key, n))
 number_passes key n other plain = key_passes key (integer (pos n)) other plain (decimal_flat n)
 
--- of a stream_type
+-- The line of a stream_type passes.
 type_passes : (s : StreamPartView) → Passes (type_line s)
 unfolding noted_line
 type_passes s =
@@ -88,7 +88,7 @@ numbers_pass : (fields : List (List ℕ × ℕ)) → AreOther fields → Passes 
 numbers_pass [] h = none_passes
 numbers_pass (field ∷ fields) h = both_pass (number_line field) (number_lines fields) (number_passes field.0 field.1 h.0 h.1.0) (numbers_pass fields h.1.1)
 
--- of a text, of bytes
+-- Lines of a text and of bytes pass.
 text_passes : (key s : List ℕ) → IsOther key → is_flat key ≡ true → is_flat s ≡ true → Passes (key_line key (string s))
 text_passes key s other plain flat = key_passes key (string s) other plain (string_flat s flat)
 
@@ -98,7 +98,7 @@ bytes_pass bytes =
     cond_both (length bytes == 0) [] (key_line (codes "descriptors") (string (encode_lower bytes))) Passes (λ _. none_passes)
     (λ _. text_passes (codes "descriptors") (encode_lower bytes) (λ rest. refl) refl (hex_flat bytes))
 
--- of an array of numbers
+-- The line of an array of numbers passes.
 comma_flat : (is_first : Bool) → is_flat (if is_first then [] else codes ", ") ≡ true
 comma_flat true = refl
 comma_flat false = refl
@@ -116,7 +116,7 @@ list_passes ns =
     (λ _. key_passes (codes "shared_with") (array (items_of ns)) (λ rest. refl) refl
     (flat_both (codes "[") (items_text true (items_of ns)) refl (items_flat true ns)))
 
--- of an array of strings of digits
+-- The line of an array of strings of digits passes.
 digits_flat : (is_first : Bool) (bs : List (List ℕ)) → is_flat (items_text is_first (digits_of bs)) ≡ true
 digits_flat is_first [] = refl
 digits_flat is_first (b ∷ bs) =
@@ -181,7 +181,7 @@ event_header : Passes (header (codes "event"))
 unfolding header
 event_header = both_pass (codes "\n") (codes "[[event]]\n") empty_line (line_passes (codes "[[event]]") refl (λ rest. refl))
 
--- the texts of an event
+-- The texts of an event contain no newline.
 pub record PlainEvent (e : EventPartView) : Type 0 where
   pub start : is_flat e.start ≡ true
   pub language : is_flat e.language ≡ true
@@ -269,13 +269,13 @@ private_passes t =
     (sections_pass t.sections) (number_passes (codes "stream_type") t.stream_type (λ rest. refl) refl) in
     both_pass (table_front t) (table_back t) front back
 
--- 3. The whole
+-- 3. The whole description
 
 all_pass : {X : Type 0} (f : X → List ℕ) (xs : List X) → ((x : X) → Passes (f x)) → Passes (flat_map f xs)
 all_pass f [] each = none_passes
 all_pass f (x ∷ xs) each = both_pass (f x) (flat_map f xs) (each x) (all_pass f xs each)
 
--- of a list each
+-- Each element of a list has this property.
 abbrev pub Each : {X : Type 0} → (X → Type 0) → List X → Type 0
 Each P [] = Unit {0}
 Each P (x ∷ xs) = P x × Each P xs
@@ -284,7 +284,7 @@ each_mapped : {X Y : Type 0} (f : X → Y) (P : Y → Type 0) (xs : List X) → 
 each_mapped f P [] all = tt
 each_mapped f P (x ∷ xs) all = (all x, each_mapped f P xs all)
 
--- what is said of the transport stream as a whole has no end of a line in its texts
+-- The texts about the transport stream as a whole contain no newline.
 pub record PlainInformation (i : JobInformationView) : Type 0 where
   pub start : is_flat i.start ≡ true
   pub network : PlainPart i.network

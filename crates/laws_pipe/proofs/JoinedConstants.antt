@@ -1,4 +1,4 @@
--- Each clock of each input has one constant, and keeps it where inputs are joined.
+-- Each clock of each input has one constant, and keeps it when inputs are joined.
 use Rattle.std.proofs.Common.{◌≡◌, ◌≤◌, ℕ, ◌+◌, ◌==◌, Bool, if◌then◌else◌, List, [], ◌∷◌, ◌++◌, length, All, refl, sym, ap, subst, ◌∙◌, arith, append_assoc}
 use Rattle.std.specs.List.{AllZip}
 use Rattle.std.proofs.lemmas.Bool.{eq-eqb, ne_eqb}
@@ -14,7 +14,7 @@ use Rattle.laws_pipe.specs.PipedFiles.{TakesInput}
 
 -- 1. A constant for each clock of one more input
 
--- of the input of a number its own, of any other those that are given
+-- The input with this number has its own constants; any other input has the given constants.
 abbrev with_own : ℕ → (ProgramClock → ℕ) → (ℕ → ProgramClock → ℕ) → ℕ → ProgramClock → ℕ
 with_own number own others n = if n == number then own else others n
 
@@ -24,11 +24,11 @@ own_there number own others = ap (λ (b : Bool). if b then own else others numbe
 other_there : (number : ℕ) (own : ProgramClock → ℕ) (others : ℕ → ProgramClock → ℕ) (n : ℕ) → number + 1 ≤ n → others n ≡ with_own number own others n
 other_there number own others n later = sym (ap (λ (b : Bool). if b then own else others n) (ne_eqb n number (λ same. omega (arith, same, later))))
 
--- the streams of an input, of this number, are moved by these constants of its clocks
+-- The streams of the input with this number are moved by these constants of its clocks.
 abbrev MovedBy : Bool → List (List FindingView) → ℕ → JobInputView → (ProgramClock → ℕ) → Type 0
 MovedBy made inputs number m own = All (λ t. IsMovedBy made (findings_in inputs number) (own (clock_of m.programs t)) t) m.streams
 
--- inputs numbered from `number` on ask for no constant of one before
+-- Inputs numbered from `number` on use no constant of an earlier input.
 same_moved : (made : Bool) (inputs : List (List FindingView)) (one other : ℕ → ProgramClock → ℕ) (number : ℕ) (ms : List JobInputView) →
     ((n : ℕ) → number ≤ n → one n ≡ other n) →
     AreMovedByOne made inputs one number ms → AreMovedByOne made inputs other number ms
@@ -41,13 +41,13 @@ same_moved made inputs one other number (m ∷ ms) same moved = (
 
 -- 2. All inputs
 
--- those of an input are found by its number
+-- The findings of an input are found by its number.
 found_at : (before : List (List FindingView)) (f : List FindingView) (after : List (List FindingView)) → findings_in (before ++ f ∷ after) (length before) ≡ f
 unfolding findings_in
 found_at [] f after = refl
 found_at (b ∷ bs) f after = found_at bs f after
 
--- constants of the clocks of inputs numbered from `number` on
+-- Constants of the clocks of the inputs numbered from `number` on
 pub record HaveConstants (made : Bool) (inputs : List (List FindingView)) (number : ℕ) (ms : List JobInputView) : Type 0 where
   pub constant : ℕ → ProgramClock → ℕ
   pub moved : AreMovedByOne made inputs constant number ms

@@ -1,4 +1,4 @@
--- What is said of inputs that are joined has no end of a line in its texts.
+-- The texts about joined inputs contain no newline.
 use Rattle.std.proofs.Common.{◌≡◌, ℕ, zero, suc, ◌+◌, List, [], ◌∷◌, ◌++◌, map, take, Ok, subst}
 use Rattle.std.specs.List.{AllZip}
 use Rattle.pid_findings.specs.Views.{FindingView}
@@ -28,7 +28,7 @@ front_each P zero xs all = tt
 front_each P (suc n) [] all = tt
 front_each P (suc n) (x ∷ xs) all = (all.0, front_each P n xs all.1)
 
--- 2. An input with new numbers, and two as one
+-- 2. An input with new numbers, and two inputs as one
 
 event_plain : (r : RenumberingView) (e : EventPartView) → PlainEvent e → PlainEvent (event_with r e)
 unfolding event_with
@@ -56,7 +56,7 @@ joined_plain a b one other = record {
   services = both_each PlainService a.services b.services one.services other.services;
 }
 
--- 3. All
+-- 3. All inputs
 
 more_plain : (j : JoinedInputsView) (m : JobInputView) (r : RenumberingView) → PlainInformation j.input.information → PlainInformation m.information →
     PlainInformation (with_renumbered j m r).input.information
@@ -84,7 +84,7 @@ unfolding all_joined
 all_are_plain [] j is each = absurd cc
 all_are_plain (m ∷ ms) j is each = all_plain 1 (first_input m) ms j is (first_plain m each.0) each.1
 
--- 4. What a job takes of streams
+-- 4. The input that a job takes from streams
 
 one_plain : (w : JobOptionsView) (findings : List FindingView) (m : JobInputView) → PlainOptions w → TakesInput w findings m → PlainInformation m.information
 one_plain w findings m plain takes =

@@ -1,4 +1,4 @@
--- Both programs, one after the other, where the first reads its streams from files.
+-- `tsjob` and then `tsmux`, if `tsjob` reads its streams from files.
 use Rattle.std.proofs.Common.{◌≡◌, ◌<◌, ℕ, ◌+◌, ◌-◌, ◌/◌, ◌^◌, ◌==◌, Bool, true, false, if◌then◌else◌, List, [], ◌∷◌, length, take, take_all, is_some, Option}
 use Rattle.std.proofs.Common.{Some, None, Result, Ok, Err, All, refl, sym, ap, ◌∙◌, subst, arith, inl, inr}
 use Rattle.std.specs.Prelude.{is_ok}
@@ -27,7 +27,7 @@ use Rattle.job_run.specs.JobArguments.{JobArgumentsView}
 use Rattle.job_run.specs.Outcomes.{IsWritten}
 use Rattle.job_run.specs.SeveralInputs.{GivesIn, GivesJobIn, InputsLead, JoinedLead, NamedStream, all_findings, all_joined, input_or_line, packets_input}
 use Rattle.job_run.specs.SeveralInputs.{stream_input, stream_inputs, with_first}
-use Rattle.job_run.specs.StreamFiles.{FilesLead, HasRead, IsStop, PerformsFiles, told_under}
+use Rattle.job_run.specs.StreamFiles.{FilesLead, HasRead, IsStop, PerformsFiles, headed_outcome}
 use Rattle.job_run.specs.Streams.{findings_for}
 use Rattle.tsjob_cli.specs.Arguments.{arguments_in}
 use Rattle.tsjob_cli.specs.FileWords.{file_arguments, file_words, option_words, unless_streamed}
@@ -47,14 +47,14 @@ use Rattle.laws_pipe.proofs.TakenJobs.{no_cause}
 use Rattle.laws_job.proofs.PrivateData.{units_sixteen_in}
 use Rattle.laws_pipe.proofs.WrittenRecords.{Fits, records_read, units_fit}
 
--- 1. What is written is read
+-- 1. The reader accepts the text that the writer writes
 
 not_streamed : (o : Option JobArgumentsView) (a : JobArgumentsView) → unless_streamed o ≡ Some a → o ≡ Some a
 unfolding unless_streamed
 not_streamed None a e = absurd cc
 not_streamed (Some b) a e = else_some (is_some b.stream) (Some b) a e
 
--- the words before the names
+-- The words before the names
 its_words : (words : List Text) (a : JobArgumentsView) → file_arguments words ≡ Some a → arguments_in (option_words words) ≡ Some a
 unfolding file_arguments
 its_words words a e =
@@ -82,7 +82,7 @@ joined_is_read words a inputs ms j output asked takes is job =
     let plain = options_plain (option_words words) a (its_words words a asked) in
     read_with a.options inputs j output (all_are_plain ms j is (each_plain a.options inputs ms plain takes)) job
 
--- 2. What a job takes of the streams
+-- 2. The input that a job takes from the streams
 
 its_input : (r : Result JobInputView JobRefusal) (m : JobInputView) → input_or_line r ≡ Ok m → r ≡ Ok m
 unfolding input_or_line
@@ -123,7 +123,7 @@ takes_each w number (s ∷ streams) ms e =
     subst (λ (l : List JobInputView). AllZip (TakesInput w) (all_findings w (s ∷ streams)) l) all.are
     (its_findings w s.bytes all.first all.first_is, takes_each w (number + 1) streams all.more all.more_are)
 
--- 3. What `tsjob` wrote
+-- 3. The output of `tsjob`
 
 record JoinedOf (a : JobArgumentsView) (streams : List NamedStream) (ms : List JobInputView) (o : Outcome) : Type 0 where
   joined : JoinedInputsView
@@ -148,14 +148,14 @@ inputs_by : (a : JobArgumentsView) (streams : List NamedStream) (o : Outcome) (r
 inputs_by a streams o (Err lines) e leads some = absurd (none_written o _ leads some)
 inputs_by a streams o (Ok ms) e leads some = record { inputs = ms; are = e; of = joined_by a streams ms o (all_joined ms) refl leads some }
 
--- a file that can't be opened or read leads to no output
-none_stopped : (files : Files) (o alone : Outcome) (number : ℕ) (name : List ℕ) → o ≡ told_under number name alone → IsStop files name alone →
+-- A file that can't be opened or read leads to no output.
+none_stopped : (files : Files) (o alone : Outcome) (number : ℕ) (name : List ℕ) → o ≡ headed_outcome number name alone → IsStop files name alone →
     0 < length o.output → ⊥
-none_stopped files o alone number name told (inl e) some =
-    let none : length o.output ≡ 0 = ap (λ (x : Outcome). length x.output) told ∙ ap (λ (x : Outcome). length x.output) e.0 in
+none_stopped files o alone number name outcome_is (inl e) some =
+    let none : length o.output ≡ 0 = ap (λ (x : Outcome). length x.output) outcome_is ∙ ap (λ (x : Outcome). length x.output) e.0 in
     absurd (omega (arith, none, some))
-none_stopped files o alone number name told (inr e) some =
-    let none : length o.output ≡ 0 = ap (λ (x : Outcome). length x.output) told ∙ ap (λ (x : Outcome). length x.output) e.0 in
+none_stopped files o alone number name outcome_is (inr e) some =
+    let none : length o.output ≡ 0 = ap (λ (x : Outcome). length x.output) outcome_is ∙ ap (λ (x : Outcome). length x.output) e.0 in
     absurd (omega (arith, none, some))
 
 record StreamsOf (a : JobArgumentsView) (files : Files) (names : List Text) (o : Outcome) : Type 0 where
@@ -165,7 +165,7 @@ record StreamsOf (a : JobArgumentsView) (files : Files) (names : List Text) (o :
 
 streams_by : (a : JobArgumentsView) (files : Files) (names : List Text) (o : Outcome) → FilesLead a files names o → 0 < length o.output →
     StreamsOf a files names o
-streams_by a files names o (inl stop) some = absurd (none_stopped files o stop.alone stop.number stop.name stop.told stop.is some)
+streams_by a files names o (inl stop) some = absurd (none_stopped files o stop.alone stop.number stop.name stop.outcome_is stop.is some)
 streams_by a files names o (inr led) some =
     let of = inputs_by a led.streams o (stream_inputs a.options 0 led.streams) refl led.leads some in
     let size = led.all (ap (λ (r : Result (List JobInputView) (List ℕ)). is_ok r) of.are) in
@@ -191,9 +191,9 @@ led_to a files names output job faults status (inl ends) ended empty is =
     written_by a files names output job faults status ends.outcome ends.leads ends.written ended empty is
 led_to a files names output job faults status (inr lacks) ended empty is = absurd (let no : ⊥ = omega (arith, lacks.status_is, ended) in no)
 
--- 4. Both
+-- 4. Both programs
 
--- each clock of each input keeps its constant
+-- Each clock of each input keeps its constant.
 moved_each : (made : Bool) (inputs : List (List FindingView)) (ms : List JobInputView) (j : JoinedInputsView) (constant : ℕ → ProgramClock → ℕ) →
     all_joined ms ≡ Ok j →
     AreMovedByOne made inputs constant 0 ms → AllZip (IsMovedIn made inputs constant) j.origins j.input.streams
@@ -241,9 +241,9 @@ through accepted again words a o files output read_again packets faults status a
     }
 
 pub the_file_pipe : JoinedAcceptedLaw → JoinedAgainLaw → TheFilePipe
-the_file_pipe accepted again words a o files output input job told job_status read_again packets faults status w m =
+the_file_pipe accepted again words a o files output input job outcome_is job_status read_again packets faults status w m =
     let names = file_words words in
-    let led = led_to a files names output job told job_status w.reads.performs w.ended w.empty w.output_is in
+    let led = led_to a files names output job outcome_is job_status w.reads.performs w.ended w.empty w.output_is in
     let read = streams_by a files names led.outcome led.leads (subst (λ (xs : List ℕ). 0 < length xs) (sym led.same) w.some) in
     let all = read.of in
     let gives = subst (λ (word : Subcommand). GivesIn word a.options (all_findings a.options read.streams) all.of.joined output) w.whole

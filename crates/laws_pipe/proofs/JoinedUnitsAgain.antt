@@ -1,4 +1,4 @@
--- What a demultiplexer finds in the packets of a job of several streams are the units that it found in them.
+-- In the packets of a job of several streams a demultiplexer finds the units of these streams.
 use Rattle.std.proofs.Common.{◌≡◌, ◌≤◌, ◌<◌, ℕ, ◌+◌, ◌-◌, ◌^◌, Bool, false, List, length, map, slice_get, option_map, Some, None, ap, subst, ◌∙◌, arith}
 use Rattle.std.specs.List.{AllZip}
 use Rattle.std.proofs.lemmas.Option.{slice_get-map, slice_get_within}
@@ -27,7 +27,7 @@ use Rattle.laws_pipe.specs.PipedFiles.{wire_units_in}
 use Rattle.laws_pipe.specs.PipedJobs.{AreLater}
 use Rattle.laws_pipe.proofs.UnitsAgain.{all_due, packets_are, slots_within}
 
--- those of a stream are moved by the constant of its clock in its input
+-- The units of a stream are moved by the constant of its clock in its input.
 those_moved : (inputs : List (List FindingView)) (constant : ℕ → ProgramClock → ℕ) (o : Origin) (t : TimedStreamView) (us : List AccessUnit) → us ≡ t.units →
     IsMovedIn false inputs constant o t → AreMoved (wire_units_in inputs o) (constant o.input o.clock) us
 unfolding source_of

@@ -1,4 +1,4 @@
--- The units of a PID, of whose findings both ways of `tsjob units` ask for the same marks.
+-- The units of a PID for whose findings both modes of `tsjob units` request the same marks.
 use Rattle.std.proofs.Common.{◌≡◌, ◌∙◌, ◌&&◌, ℕ, Bool, true, false, if◌then◌else◌, Some, List, [], ◌∷◌, map, refl, sym, ap, ap₂}
 use Rattle.demux.specs.Laws.{found_of, has_pid}
 use Rattle.pid_findings.specs.Views.{FindingView}
@@ -18,7 +18,7 @@ use Rattle.tsjob_cli.specs.StreamedUnits.{access_of}
 use Rattle.laws_pipe.specs.StreamedUnits.{AreMarkedAlike, AskAlike}
 use Rattle.es_moments.specs.WireUnits.{CarriedUnit}
 
--- 1. Whether units are one PES packet each is for the findings of the PID to say
+-- 1. Whether units have one PES packet each depends on the findings of the PID alone
 
 other_role : (pid : ℕ) (f : FindingView) → has_pid pid f.pid ≡ false → role_of pid f ≡ Ignored
 unfolding role_of
@@ -49,7 +49,7 @@ unfolding if_own
 own_alone pid [] = refl
 own_alone pid (f ∷ fs) = alone_by (has_pid pid f.pid) pid f (found_of pid fs) fs refl (own_next pid fs) (own_alone pid fs)
 
--- 2. Marked alike
+-- 2. Findings with the same marks
 
 found_alike : (whole streamed : MarkingView) (pid : ℕ) (fs : List FindingView) → AreMarkedAlike whole streamed pid →
     found_of pid (all_marked whole fs) ≡ found_of pid (all_marked streamed fs)

@@ -1,4 +1,4 @@
--- Both programs, one after the other.
+-- `tsjob` and then `tsmux`, joined by a pipe.
 use Rattle.std.proofs.Common.{◌≡◌, ◌<◌, ℕ, ◌+◌, ◌-◌, ◌/◌, ◌^◌, Bool, false, List, [], ◌++◌, length, Option, Some, None, Result, Ok, Err, refl, sym, ap, ◌∙◌}
 use Rattle.std.proofs.Common.{subst, arith, is_some, inl, inr, All}
 use Rattle.std.specs.Io.KnownBytes.{Appends}
@@ -23,6 +23,7 @@ use Rattle.devices.specs.Devices.{Device, Takes}
 use Rattle.devices.specs.Lines.{Reports}
 use Rattle.devices.specs.Outcomes.{Outcome, printed, reported}
 use Rattle.devices.specs.Runs.{Ends}
+use Rattle.devices.proofs.Performances.{known_lead}
 use Rattle.job_run.specs.declared.job_arguments.Subcommand.{Subcommand}
 use Rattle.job_run.specs.JobArguments.{JobArgumentsView}
 use Rattle.tsjob_cli.specs.Arguments.{arguments_in}
@@ -30,7 +31,7 @@ use Rattle.job_run.specs.Outcomes.{BytesLead, Gives, GivesJob, InputLeads, Leads
 use Rattle.job_run.specs.Streams.{findings_for, notes_for}
 use Rattle.tsmux_cli.specs.declared.request.MuxOptions.{MuxOptions}
 use Rattle.tsmux_cli.specs.MuxJobs.{MuxJobView, mux_job_of}
-use Rattle.tsmux_cli.specs.Multiplexing.{IsKept, KeepsPromises, KeptUnlessRefused, cause_of, multiplexed, packets_of, unless_refused, with_job}
+use Rattle.tsmux_cli.specs.Multiplexing.{IsKept, KeepsPromises, KeptUnlessRefused, Muxes, cause_of, multiplexed, packets_of, unless_refused, with_job}
 use Rattle.laws_pipe.specs.PipedJobs.{GoesThrough, MuxesAll, ThePipe, WrittenIsRead, as_mux_job}
 use Rattle.laws_pipe.proofs.DescriptionLines.{PlainInformation, description_passes, information_plain}
 use Rattle.laws_pipe.proofs.PlainLines.{Passes}
@@ -41,7 +42,7 @@ use Rattle.laws_pipe.proofs.UnitsAgain.{moved_units, units_again}
 use Rattle.laws_job.proofs.PrivateData.{units_sixteen}
 use Rattle.laws_pipe.proofs.WrittenRecords.{Fits, records_read, units_fit}
 
--- 1. What is written is read
+-- 1. The reader accepts the text that the writer writes
 
 pub plain_of : (w : JobOptionsView) (id : ℕ) (findings : List FindingView) (m : JobInputView) → PlainOptions w →
     m.information ≡ information_of w id findings m.programs →
@@ -72,9 +73,9 @@ pub written_is_read : WrittenIsRead
 written_is_read words a id findings m output asked is job =
     read_with a.options findings m output (plain_of a.options id findings m (options_plain words a asked) is) job
 
--- 2. What `tsjob` wrote
+-- 2. The output of `tsjob`
 
--- a writer that held nothing has what it took
+-- A writer that was empty contains exactly the bytes that it took.
 pub taken : (before after : Option (List ℕ)) (bytes output : List ℕ) → before ≡ Some [] → after ≡ Some output → Appends before after bytes → bytes ≡ output
 taken None after bytes output b a e = absurd cc
 taken (Some xs) None bytes output b a e = absurd cc
@@ -83,7 +84,7 @@ taken (Some xs) (Some ys) bytes output b a e =
     let all : ys ≡ output = cc in
     sym (ap (λ (front : List ℕ). front ++ bytes) none) ∙ sym e ∙ all
 
--- the stream led to a job
+-- The stream led to a job.
 pub record GivenOf (a : JobArgumentsView) (bytes output : List ℕ) : Type 0 where
   pub input : JobInputView
   pub input_is : job_input a.options (length (carried bytes) / 188) (findings_for a.options bytes) ≡ Ok input
@@ -105,17 +106,17 @@ given_of : (a : JobArgumentsView) (bytes : List ℕ) (o : Outcome) (p : Option O
 given_of a bytes o (Some packets) leads some = absurd (none_written o _ leads some)
 given_of a bytes o None leads some = given_by a bytes o (job_input a.options (length (carried bytes) / 188) (findings_for a.options bytes)) refl leads some
 
-pub given_by_run : (a : JobArgumentsView) (bytes output : List ℕ) (stream job told : Device) (status : ℕ) → stream.before.bytes ≡ Some bytes →
-    Ends (Leads a) stream job told status →
+pub given_by_run : (a : JobArgumentsView) (bytes output : List ℕ) (stream job job_reports : Device) (status : ℕ) → stream.before.bytes ≡ Some bytes →
+    Ends (Leads a) stream job job_reports status →
     job.before.bytes ≡ Some [] → job.after.bytes ≡ Some output → 0 < length output → GivenOf a bytes output
-given_by_run a bytes output stream job told status known ends empty output_is some =
+given_by_run a bytes output stream job job_reports status known ends empty output_is some =
     let same : ends.outcome.output ≡ output = taken job.before.bytes job.after.bytes ends.outcome.output output empty output_is ends.written in
-    subst (GivenOf a bytes) same
-    (given_of a bytes ends.outcome (other_packets bytes) (ends.leads bytes known) (subst (λ (xs : List ℕ). 0 < length xs) (sym same) some))
+    let leads = known_lead (Leads a) bytes ends.outcome stream ends.leads known in
+    subst (GivenOf a bytes) same (given_of a bytes ends.outcome (other_packets bytes) leads (subst (λ (xs : List ℕ). 0 < length xs) (sym same) some))
 
--- 3. What `mux` does with it
+-- 3. The effect of `mux` on the output
 
--- the outcome of a job of which nothing is refused
+-- The outcome of a job, if `mux` refuses nothing
 good : (o : MuxOptions) (output : List ℕ) (j : MuxJobView) → o.periods ≡ None → mux_job_of false output ≡ Ok j → cause_of o j ≡ None →
     multiplexed o output ≡ printed (packets_of o j) 0
 unfolding with_job unless_refused
@@ -128,7 +129,7 @@ kept_of o output j one read none kept =
     subst (λ c. KeptUnlessRefused c (IsKept o j)) none
     (subst (KeepsPromises o) (ap (λ (p : Option ℕ). mux_job_of (is_some p) output) one ∙ read) kept)
 
--- its job, of which it refuses nothing
+-- The output is a job, and `mux` refuses nothing in it.
 pub record TakenOf (o : MuxOptions) (output : List ℕ) (j : MuxJobView) (packets faults : Device) (status : ℕ) : Type 0 where
   pub good : status ≡ 0
   pub silent : Reports faults []
@@ -139,7 +140,7 @@ pub muxed : (o : MuxOptions) (output : List ℕ) (j : MuxJobView) (job packets f
     mux_job_of false output ≡ Ok j →
     cause_of o j ≡ None → TakenOf o output j packets faults status
 muxed o output j job packets faults status m read none =
-    let leads = m.ends.leads output m.known in
+    let leads = known_lead (Muxes o) output m.ends.outcome job m.ends.leads m.known in
     let is : m.ends.outcome ≡ printed (packets_of o j) 0 = leads.is ∙ good o output j m.one_plan read none in
     record {
       good = m.ends.status_is ∙ ap (λ (x : Outcome). x.status) is;
@@ -148,7 +149,7 @@ muxed o output j job packets faults status m read none =
       kept = kept_of o output j m.one_plan read none leads.kept;
     }
 
--- 4. Both
+-- 4. Both programs
 
 through : AcceptedLaw → FoundAgainLaw → (words : List Text) (a : JobArgumentsView) (o : MuxOptions) (bytes output : List ℕ) (job_again packets faults : Device)
     (status : ℕ) →
@@ -181,7 +182,7 @@ through accepted again words a o bytes output job_again packets faults status as
     }
 
 pub the_pipe : AcceptedLaw → FoundAgainLaw → ThePipe
-the_pipe accepted again words a o bytes output stream job told job_status job_again packets faults status w m =
-    let given = given_by_run a bytes output stream job told job_status w.known w.ends w.empty w.output_is w.some in
+the_pipe accepted again words a o bytes output stream job job_reports job_status job_again packets faults status w m =
+    let given = given_by_run a bytes output stream job job_reports job_status w.known w.ends w.empty w.output_is w.some in
     through accepted again words a o bytes output job_again packets faults status w.asked m given.input given.input_is
     (subst (λ (word : Subcommand). Gives word a.options (findings_for a.options bytes) given.input output) w.whole given.gives)

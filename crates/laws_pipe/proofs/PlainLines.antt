@@ -1,4 +1,4 @@
--- Lines that do not begin a plan's text: a job's description ends after them.
+-- Lines that do not begin a plan: the description of a job ends after them.
 use Rattle.std.proofs.Common.{◌≡◌, ℕ, ◌+◌, ◌==◌, Bool, true, false, not, List, [], ◌∷◌, ◌++◌, length, refl, sym, ap, ◌∙◌, arith, append_assoc, length-append}
 use Rattle.std.proofs.Common.{inl, inr, ne_eqb, if◌then◌else◌, Some}
 use Rattle.std.specs.Prelude.{nat_eq}
@@ -8,14 +8,14 @@ use Rattle.checked_jobs.specs.Jobs.{first_plan_line, plan_offset}
 
 -- 1. Bytes within a line
 
--- a byte that ends no line; a text is flat where each is one
+-- A byte that is no newline; a text is flat if each of its bytes is no newline.
 abbrev pub is_inside : ℕ → Bool
 is_inside b = not (b == 10)
 
 abbrev pub is_flat : List ℕ → Bool
 is_flat xs = list_all is_inside xs
 
--- a byte by its test
+-- A byte within a line is not 10.
 pub not_end : (b : ℕ) → is_inside b ≡ true → (b == 10) ≡ false
 not_end b e = by (b == 10) e
   where
@@ -35,7 +35,7 @@ flat_both (x ∷ xs) ys a b =
 pub flat_more : (x : ℕ) (xs : List ℕ) → is_inside x ≡ true → is_flat xs ≡ true → is_flat (x ∷ xs) ≡ true
 flat_more x xs a b = and_from (is_inside x) (is_flat xs) a b
 
--- what passes a test that the end of a line does not
+-- A byte is no newline if it passes a test that a newline fails.
 pub inside_if : (p : ℕ → Bool) (b : ℕ) → p 10 ≡ false → p b ≡ true → is_inside b ≡ true
 inside_if p b none e = elim (cases_Bool (b == 10)) [
   | inl end ↦ absurd (false≢true (sym none ∙ ap p (sym (eqb-true b 10 end)) ∙ e))
@@ -50,7 +50,7 @@ flat_if p (x ∷ xs) none e =
 
 -- 2. Whole lines
 
--- the search for a plan's text goes on after these bytes, which begin and end with a line
+-- The search for a plan continues after these bytes, which are whole lines.
 abbrev pub Passes : List ℕ → Type 0
 Passes xs = (i : ℕ) (rest : List ℕ) → plan_offset i true (xs ++ rest) ≡ plan_offset (i + length xs) true rest
 
@@ -70,7 +70,7 @@ past_line i (x ∷ xs) rest e =
     ap (λ (b : Bool). plan_offset (i + 1) b (xs ++ 10 ∷ rest)) (not_end x parts.0) ∙ past_line (i + 1) xs rest parts.1
     ∙ ap (λ (n : ℕ). plan_offset n true rest) next
 
--- the search at the beginning of a line that is no plan's first
+-- The search at the beginning of a line that is not the first line of a plan
 other_line : (i x : ℕ) (xs : List ℕ) (b : Bool) → starts_with nat_eq (x ∷ xs) first_plan_line ≡ false → (x == 10) ≡ b →
     plan_offset i true (x ∷ xs) ≡ plan_offset (i + 1) b xs
 other_line i x xs b other end =

@@ -1,4 +1,4 @@
--- The names and the moment that a description is made of have no end of a line in them.
+-- The names and the moment in a description contain no newline.
 use Rattle.std.proofs.Common.{◌≡◌, ℕ, ◌+◌, ◌/◌, ◌%◌, ◌++◌, decimal, ◌<◌, length, get_or, sym, ap, ◌∙◌, ◌==◌, Bool, true, false, List, [], ◌∷◌, map, refl, subst}
 use Rattle.std.proofs.Common.{arith, Option, Some, None, is_some, All, find, option_map, option_and_then, unwrap_or, codes, if◌then◌else◌}
 use Rattle.std.specs.Option.{option_or}
@@ -39,7 +39,7 @@ use Rattle.option_lists.specs.NameLists.{network_with}
 use Rattle.laws_pipe.proofs.PlainTexts.{decimal_flat}
 use Rattle.laws_pipe.proofs.PlainLines.{flat_both, flat_if, flat_more, inside_ne, is_flat, is_inside}
 
--- 1. What is known of values that are there
+-- 1. Values that are present
 
 same_value : {A : Type 0} (x y : A) → ◌≡◌ {A = Option A} (Some x) (Some y) → x ≡ y
 same_value x y e = cc
@@ -60,7 +60,7 @@ pub else_some : {A : Type 0} (b : Bool) (value : Option A) (x : A) → (if b the
 else_some true value x e = absurd cc
 else_some false value x e = e
 
--- 2. Names that options give
+-- 2. Names from options
 
 abbrev pub PlainIfAny : Option Text → Type 0
 PlainIfAny None = Unit {0}
@@ -78,7 +78,7 @@ pub record PlainOptions (w : JobOptionsView) : Type 0 where
   pub network : PlainNetwork w.network
   pub names : All PlainName w.names
 
--- parts of a text
+-- The parts of a text contain no newline.
 abbrev AllPlain : List Text → Type 0
 AllPlain [] = Unit {0}
 AllPlain (t ∷ ts) = (is_flat t ≡ true) × AllPlain ts
@@ -154,7 +154,7 @@ network_plain (Some text) n e =
     let printed = if_some (are_printable text) _ one.0 one.1.0 in
     subst PlainNetwork one.1.1 (named_plain (colon_parts text) one.0 (parts_plain (λ b. b == 58) text (printable_flat text printed.0)) printed.1)
 
--- 3. The moment, and all that words ask for
+-- 3. The moment, and all options
 
 start_plain : (o start : Option Text) → start_of o ≡ Some start → PlainIfAny start
 unfolding start_of
@@ -194,13 +194,13 @@ rows_plain rows a e =
       names = list_plain (first_of (codes "name") rows) names.0 names.1.0;
     })
 
--- the names that words give, and the moment
+-- The names and the moment from the words contain no newline.
 pub options_plain : (words : List Text) (a : JobArgumentsView) → arguments_in words ≡ Some a → PlainOptions a.options
 options_plain words a e =
     let read = given_some (given_options (codes "tsjob") options words) arguments_of a (else_some (has_mark words) (options_in words) a e) in
     rows_plain read.0 a read.1.1
 
--- 4. Names that stand in a stream
+-- 4. Names from a stream
 
 shown_flat : (text : List ℕ) → NoCharPasses is_control text → is_flat text ≡ true
 shown_flat text shown = list_all-from_AllPass is_inside text (All-from_get_or (λ b. is_inside b ≡ true) text 0 inside)
@@ -214,7 +214,7 @@ pub decoded_flat : (most : ℕ) (bytes : List ℕ) → is_flat (decode_text most
 unfolding decode_text
 decoded_flat most bytes = shown_flat (decode_text most bytes) (fitting_printable most (characters bytes))
 
--- a moment has digits, and what stands between them
+-- A moment consists of digits and separators.
 two_flat : (n : ℕ) → is_flat (two_digits n) ≡ true
 unfolding two_digits
 two_flat n = flat_both (decimal (n / 10)) (decimal (n % 10)) (decimal_flat (n / 10)) (decimal_flat (n % 10))

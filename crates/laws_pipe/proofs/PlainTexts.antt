@@ -1,4 +1,4 @@
--- Values of a description as they are written: none has the end of a line in it, where its text has none.
+-- The written form of a value contains no newline, if its text contains none.
 use Rattle.std.proofs.Common.{◌≡◌, ℕ, zero, suc, ◌+◌, ◌/◌, ◌%◌, ◌==◌, ◌||◌, nat_lt, Bool, true, false, cond, List, [], ◌∷◌, ◌++◌, slice_index, refl, ap, arith}
 use Rattle.std.proofs.Common.{codes, decimal}
 use Rattle.std.specs.Fmt.{digit_glyph, digits, digits_onto}
@@ -43,7 +43,7 @@ hex_flat (b ∷ bytes) =
 
 -- 2. Strings
 
--- the letter of an escape is no end of a line
+-- The letter of an escape is no newline.
 letter_inside : (c : ℕ) → is_inside c ≡ true → is_inside (escape_letter c) ≡ true
 letter_inside c e =
     let P : ℕ → Type 0 = λ n. is_inside n ≡ true in

@@ -1,4 +1,4 @@
--- A job that is written, read as `mux` reads a job.
+-- A written job as `mux` reads it.
 use Rattle.std.proofs.Common.{◌≡◌, ◌≤◌, ℕ, ◌+◌, Bool, true, false, if◌then◌else◌, List, ◌++◌, length, take, drop, take_at, drop_at, Option, Some, None, is_some}
 use Rattle.std.proofs.Common.{Result, Ok, Err, IsUtf8, option_map, refl, sym, ap, ap₂, ◌∙◌, subst, arith, append_assoc, length-append}
 use Rattle.std.specs.List.{list_any}
@@ -65,7 +65,7 @@ of_members (Some members) d e = of_document (table members) d e
 pub text_in_range : (d : Described) (text : List ℕ) → IsText d text → IsInRange d
 text_in_range d text is = of_members (parse_document text) d is
 
--- 2. A plan that serves it has numbers that are written
+-- 2. A plan that serves a description has numbers in range
 
 only_one : {X : Type 0} (b : Bool) (x : X) → length (only_if b x) ≤ 1
 only_one true x = omega arith
@@ -97,9 +97,9 @@ plan_is d p ranges serving within = record {
   within = within;
 }
 
--- 3. Its parts
+-- 3. The parts of a job
 
--- the plan begins where its text does
+-- The plan begins where its text begins.
 begins : (i : ℕ) (p : Planned) (rest : List ℕ) → plan_offset i true (plan_text p ++ rest) ≡ Some i
 begins i p rest = refl
 
@@ -136,7 +136,7 @@ no_fault : (d : Described) (p : Planned) → IsServing d p → fault_of d p ≡ 
 unfolding fault_of
 no_fault d p serving = serving
 
--- 4. The whole
+-- 4. The whole job
 
 pub plans_again : (d : Described) (p : Planned) (text rest : List ℕ) → Passes text → IsUtf8 text → IsText d text → IsServing d p →
     plan_error p.slots p.certificate ≡ None →

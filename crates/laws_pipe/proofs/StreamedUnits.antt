@@ -1,4 +1,4 @@
--- What both ways of `tsjob units` write of a stream.
+-- The output of both modes of `tsjob units` for a stream.
 use Rattle.std.proofs.Common.{◌≡◌, ◌∙◌, ◌<◌, ◌≤◌, ℕ, zero, suc, ◌+◌, ◌/◌, ◌++◌, Bool, true, false, if◌then◌else◌, Option, Some, None, List, [], ◌∷◌, All}
 use Rattle.std.proofs.Common.{length, map, slice_get, get_or, refl, sym, ap, subst, ◌⊎◌, inl, inr, arith}
 use Rattle.std.specs.Io.KnownBytes.{Consumes, IsAtEnd}
@@ -23,7 +23,7 @@ use Rattle.es_feed.proofs.MovedApart.{fed_apart}
 use Rattle.es_feed.specs.MovedApart.{AreWhole, after_time}
 use Rattle.es_feed.specs.FedLines.{fed_records, have_refusal}
 use Rattle.es_records.specs.Passing.{EndsStream}
-use Rattle.es_feed.proofs.WatchedStreams.{clear_is_fed, refusal_told}
+use Rattle.es_feed.proofs.WatchedStreams.{clear_is_fed, refusal_reported}
 use Rattle.es_moments.specs.Merging.{AreMerged}
 use Rattle.given_marks.specs.Marking.{MarkingView, all_marked}
 use Rattle.job_inputs.specs.AskedMarks.{marking_of}
@@ -106,9 +106,9 @@ first_streams d ranges = record {
   few = let count = count_from 0 d.streams in let most = ranges.most_streams in omega (arith, count, most);
 }
 
--- 2. What was fed
+-- 2. The records of the feed
 
--- all that the bytes feed, and nothing of it is told
+-- The records of all bytes, without a fault
 record FedBy (w : JobOptionsView) (d : Described) (bytes output : List ℕ) : Type 0 where
   silent : have_fault (fed_of (feed_of w d) bytes) ≡ false
   output_is : output ≡ fed_records (fed_of (feed_of w d) bytes)
@@ -123,7 +123,7 @@ not_faulty : (faulty : Bool) (status : ℕ) → status ≡ 0 → status ≡ (if 
 not_faulty true status good is = absurd (not_one status good is)
 not_faulty false status good is = refl
 
--- an input that is read to its end has come as a whole
+-- An input that is read to its end has arrived as a whole.
 all_came : (before after : Option (List ℕ)) (bytes came : List ℕ) → before ≡ Some bytes → Consumes before after came → IsAtEnd after → came ≡ bytes
 all_came None after bytes came known reads ends = absurd cc
 all_came (Some xs) None bytes came known reads ends = let no : ⊥ = reads in absurd no
@@ -133,10 +133,10 @@ all_came (Some xs) (Some ys) bytes came known reads ends =
     let split : xs ≡ came ++ ys = reads in
     sym (append-nil came) ∙ ap (λ (rest : List ℕ). came ++ rest) (sym none) ∙ sym split ∙ all
 
--- where nothing is told, the description is of this stream
+-- If no fault is reported, the description is of this stream.
 at_end : (E : Type 0) (fed : List Fed) → have_fault fed ≡ false → E ⊎ (have_refusal fed ≡ true) → E
 at_end E fed none (inl ends) = ends
-at_end E fed none (inr refused) = absurd (refusal_told fed none refused)
+at_end E fed none (inr refused) = absurd (refusal_reported fed none refused)
 
 ended : (w : JobOptionsView) (d : Described) (bytes output : List ℕ) (stream records faults : Device) → stream.before.bytes ≡ Some bytes →
     records.before.bytes ≡ Some [] → records.after.bytes ≡ Some output →
@@ -161,7 +161,7 @@ gone w d bytes output stream records faults known empty output_is (inl (inl e)) 
 gone w d bytes output stream records faults known empty output_is (inl (inr stops)) = absurd (not_three 0 refl stops.status_is)
 gone w d bytes output stream records faults known empty output_is (inr lacks) = absurd (not_three 0 refl lacks.status_is)
 
--- 3. One stream, by both
+-- 3. One stream, in both modes
 
 record Both (d : Described) (input : JobInputView) (k : ℕ) : Type 0 where
   described : DescribedStream
@@ -188,16 +188,16 @@ both_at a w d bytes input k alike below =
     let same : Some s.0.pid ≡ Some t.0.pid = sym one ∙ ap (λ (ps : List ℕ). slice_get ps k) alike.pids ∙ two in
     record { described = s.0; described_is = s.1; timed = t.0; timed_is = t.1; pid = cc }
 
--- what holds of a list holds at each of its places
+-- A property of all elements of a list is a property of the element at each place.
 at_place : {X : Type 0} (P : X → Type 0) (xs : List X) (i : ℕ) (x : X) → All P xs → slice_get xs i ≡ Some x → P x
 at_place P xs i x all at =
     let within = slice_get_within xs i x at in
     let same : get_or xs i x ≡ x = get_or_from_slice_get xs i x x at in
     subst P same (all i x within)
 
--- 4. Both have the same findings of its PID
+-- 4. Both modes have the same findings of a PID
 
--- what the whole stream and the stream that comes are marked by
+-- The marks for the whole stream, and for the stream as it arrives
 abbrev whole_marking : JobArgumentsView → List ℕ → MarkingView
 whole_marking a bytes = marking_of a.options (findings_of (carried bytes))
 
@@ -216,7 +216,7 @@ stamps_of : (a : JobArgumentsView) (w : JobOptionsView) (d : Described) (bytes :
 stamps_of a w d bytes input k t alike at =
     at_place (λ t. is_unstamped (seen_in (asked_findings a.options bytes)) t.pid ≡ false) input.streams k t alike.stamped at
 
--- the parts of a recording are not joined
+-- If the parts of a recording are not joined, the job takes the requested findings, timed by the clock references.
 as_found : (a : JobArgumentsView) (bytes : List ℕ) → a.options.joined ≡ false →
     findings_for a.options bytes ≡ timed (references_in (carried bytes)) (asked_findings a.options bytes)
 unfolding references_by parts_by
@@ -239,7 +239,7 @@ same_alone a w d bytes input k t alike at =
     ∙ sym (ap (λ (fs : List FindingView). one_by_one t.pid fs) (as_found a bytes alike.unjoined))
     ∙ at_place (λ t. one_by_one t.pid (findings_for a.options bytes) ≡ true) input.streams k t alike.alone at
 
--- 5. All are moved by the constant of their clock
+-- 5. The constant of its clock moves each unit
 
 with_own : (findings : List FindingView) (base : ℕ) (t : TimedStreamView) → IsMovedBy false findings base t →
     AreMoved (apart_wire_units t.pid findings) base t.units
@@ -258,9 +258,9 @@ by_one a w d bytes input k t constants alike is =
     with_own findings (constants.constant alike.clock) t
     (subst (λ (made : Bool). IsMovedBy made findings (constants.constant alike.clock) t) alike.own same)
 
--- 6. So those that are fed are whole, and begin near one another
+-- 6. The units from the feed are whole, and begin near one another
 
--- the stream of a job that is fed as one of a description
+-- The stream of a job that the feed has as a stream of a description
 record JobStream (input : JobInputView) (k pid : ℕ) : Type 0 where
   stream : TimedStreamView
   at : slice_get input.streams k ≡ Some stream
@@ -311,7 +311,7 @@ whole_streams a w d bytes input constants alike =
           near_on_wire base earliest u v (alike.near j k x.stream y.stream (unit_at base None u) (unit_at base None v) x.at y.at one other);
     }
 
--- 7. Both
+-- 7. Both modes
 
 alike_units : (a : JobArgumentsView) (w : JobOptionsView) (d : Described) (bytes : List ℕ) (input : JobInputView) (units : List (ℕ × AccessUnit)) →
     HasConstants a.options (findings_for a.options bytes) input →
@@ -345,8 +345,8 @@ given_units : (a : JobArgumentsView) (bytes output : List ℕ) (g : GivenOf a by
 given_units a bytes output g units = subst (λ (word : Subcommand). Gives word a.options (findings_for a.options bytes) g.input output) units g.gives
 
 pub the_same_units : TheSameUnits
-the_same_units words a v d bytes whole streamed one records told status other passed silent ranges w s =
-    let given = given_by_run a bytes whole one records told status w.known w.ends w.empty w.output_is w.some in
+the_same_units words a v d bytes whole streamed one records job_reports status other passed silent ranges w s =
+    let given = given_by_run a bytes whole one records job_reports status w.known w.ends w.empty w.output_is w.some in
     let units = given_units a bytes whole given w.units in
     let fed = gone v d bytes streamed other passed silent s.known s.empty s.output_is s.goes in
     let constants = constants_of a.options (length (carried bytes) / 188) (findings_for a.options bytes) given.input given.input_is in

@@ -1,4 +1,4 @@
--- `mux` refuses nothing of a job that is written, if it is asked for all packets.
+-- `mux` refuses nothing of a written job if all packets are requested.
 use Rattle.std.proofs.Common.{◌≡◌, ◌≤◌, ℕ, ◌+◌, ◌*◌, ◌/◌, ◌^◌, min, Bool, if◌then◌else◌, List, [], Option, Some, None, refl, ap, ◌∙◌, arith, unwrap_or}
 use Rattle.std.proofs.lemmas.Bool.{le-ltb}
 use Rattle.pid_findings.specs.Views.{FindingView}
@@ -17,7 +17,7 @@ default_of : (given : Option ℕ) (n : ℕ) → given ≡ None → unwrap_or giv
 default_of None n e = refl
 default_of (Some k) n e = absurd cc
 
--- as many slots as end with the last DTS
+-- If no number of slots is requested, the run has the default number.
 pub all_slots : (o : MuxOptions) (j : MuxJobView) → o.slots ≡ None → slots_of o j ≡ default_slots j.description.rate j.units
 all_slots o j all = default_of o.slots (default_slots j.description.rate j.units) all
 
@@ -34,7 +34,7 @@ none_early (Some cause) next e = absurd cc
 one_plan : (o : MuxOptions) (j : MuxJobView) → j.second ≡ None → range_cause o j ≡ slots_cause (slots_of o j)
 one_plan o j e = ap (λ second. range_cause_of (first_of j) second (periods_of o) (slots_of o j)) e
 
--- it is asked for all packets, and no unit is refused over its plan
+-- Nothing is refused if all packets are requested and no unit is refused under its plan.
 pub no_cause : (o : MuxOptions) (j : MuxJobView) → j.second ≡ None → o.slots ≡ None →
     first_refused (schedule_for j.description j.plan) (capacity_for j.units) [] j.units ≡ None →
     cause_of o j ≡ None

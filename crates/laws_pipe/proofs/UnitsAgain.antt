@@ -1,4 +1,4 @@
--- What a demultiplexer finds in the packets of a job that was written are the units that it found in the stream.
+-- In the packets of a written job a demultiplexer finds the units of the stream.
 use Rattle.std.proofs.Common.{◌≡◌, ◌≤◌, ℕ, ◌+◌, ◌-◌, ◌*◌, ◌/◌, ◌^◌, ◌==◌, min, max, Bool, false, List, [], ◌∷◌, filter, fold, map, slice_get, Some, None, All}
 use Rattle.std.proofs.Common.{ap, subst, ◌∙◌, arith, mul-le-mul, mul-le-mul_right}
 use Rattle.std.proofs.lemmas.List.Elements.{All-nil, All-cons, All-filter, All-map, All-weaker}
@@ -19,7 +19,7 @@ use Rattle.job_programs.specs.JobPrograms.{JobProgramView, clock_in}
 use Rattle.stream_jobs.specs.Jobs.{AllAgree, AreUnits, IsEntry}
 use Rattle.job_programs.specs.JobStreams.{TimedStreamView}
 use Rattle.job_programs.specs.declared.program_clock.ProgramClock.{ProgramClock}
-use Rattle.stream_jobs.proofs.JobUnits.{stands_for}
+use Rattle.stream_jobs.proofs.JobUnits.{unit_stream_of}
 use Rattle.laws_job.specs.Laws.{AllDue, FoundAgainLaw, schedule_for}
 use Rattle.checked_jobs.specs.JobSchedules.{schedule_by}
 use Rattle.job_run.specs.Streams.{findings_of}
@@ -70,7 +70,7 @@ all_due o j k all ranges short =
 
 -- 2. The units
 
--- those of a stream are moved by the constant of the clock of its program
+-- The units of a stream are moved by the constant of the clock of its program.
 those_moved : (findings : List FindingView) (programs : List JobProgramView) (constant : ProgramClock → ℕ) (s : DescribedStream) (us : List AccessUnit)
     (t : TimedStreamView) → IsEntry s t →
     us ≡ t.units → IsMovedBy false findings (constant (clock_of programs t)) t →
@@ -84,12 +84,13 @@ pub moved_units : (options : JobOptionsView) (findings : List FindingView) (d : 
     slice_get d.streams k ≡ Some s →
     AreMoved (apart_wire_units s.pid findings) (constants.constant (clock_in input.programs s.program)) (units_of k units)
 moved_units options findings d input units constants own agree merged k s is =
-    let stands = stands_for d input units (λ t. IsMovedBy options.make_dts findings (constants.constant (clock_of input.programs t)) t) agree merged
+    let unit_stream = unit_stream_of d input units (λ t. IsMovedBy options.make_dts findings (constants.constant (clock_of input.programs t)) t) agree merged
     constants.streams k s is in
-    let moved = subst (λ (made : Bool). IsMovedBy made findings (constants.constant (clock_of input.programs stands.stream)) stands.stream) own stands.holds in
-    those_moved findings input.programs constants.constant s (units_of k units) stands.stream stands.agrees.entry stands.units_are moved
+    let moved = subst (λ (made : Bool). IsMovedBy made findings (constants.constant (clock_of input.programs unit_stream.stream)) unit_stream.stream) own
+    unit_stream.holds in
+    those_moved findings input.programs constants.constant s (units_of k units) unit_stream.stream unit_stream.agrees.entry unit_stream.units_are moved
 
--- the packets are those of a run over its plan
+-- The packets belong to a run over the plan of the job.
 pub packets_are : (o : MuxOptions) (j : MuxJobView) → j.second ≡ None → o.hex ≡ false →
     packets_of o j ≡ output_of false (schedule_for j.description j.plan) (job_history j.units (slots_of o j))
 packets_are o j second bytes =

@@ -1,4 +1,4 @@
--- The records of a job's units, read one after another.
+-- The records of the units of a job, read one after another.
 use Rattle.std.proofs.Common.{◌≡◌, ◌≤◌, ◌<◌, ℕ, zero, suc, ◌+◌, Bool, true, false, cond, is_some, List, [], ◌∷◌, ◌++◌, length, length-append, slice_get, Some}
 use Rattle.std.proofs.Common.{None, Ok, All, refl, sym, ap, ◌∙◌, subst, arith, append_assoc}
 use Rattle.std.proofs.lemmas.List.Elements.{All-nil, All-cons, All-head, All-tail, All-weaker}
@@ -23,7 +23,7 @@ use Rattle.tsmux_cli.specs.UnitList.{units_from, units_in, units_step, with_firs
 abbrev pub Fits : ℕ × AccessUnit → Type 0
 Fits entry = FitsRecord entry.1
 
--- 1. Read again
+-- 1. The reader reads each record
 
 no_record : record_at [] ≡ Ok None
 unfolding record_at
@@ -51,7 +51,7 @@ record_some k u =
     ((big_bytes 4 (word_of u.marks (private_size u.marks + length u.bytes)) ++ (big_bytes 8 u.dts ++ (big_bytes 8 u.pts ++ private_bytes u.marks.private_data)))
     ++ u.bytes)
 
--- a record has bytes
+-- A record has bytes.
 no_fewer : (units : List (ℕ × AccessUnit)) → length units ≤ length (records_of units)
 no_fewer [] = omega arith
 no_fewer ((k, u) ∷ units) = omega (arith, length-append (record_bytes k u) (records_of units), record_some k u, no_fewer units)
@@ -76,7 +76,7 @@ unit_fits line k s u range is = record {
   sixteen = is.1;
 }
 
--- what holds of each stream's units holds of all
+-- A property of the units of each stream is a property of all units.
 abbrev OfEach : (AccessUnit → Type 0) → ℕ → List (ℕ × AccessUnit) → Type 0
 OfEach P count all = (k : ℕ) → k < count → All P (units_of k all)
 

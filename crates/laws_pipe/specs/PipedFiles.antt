@@ -91,7 +91,7 @@ pub record FilesGoThrough (a : JobArgumentsView) (o : MuxOptions) (files : Files
       (wire_units s.pid (findings_of (packets_of o (as_joined_job job))))
 
 abbrev pub TheFilePipe : Type 0
-TheFilePipe = (words : List Text) (a : JobArgumentsView) (o : MuxOptions) (files : Files) (output : List ℕ) (input job told : Device) (job_status : ℕ)
+TheFilePipe = (words : List Text) (a : JobArgumentsView) (o : MuxOptions) (files : Files) (output : List ℕ) (input job job_reports : Device) (job_status : ℕ)
     (job_again packets faults : Device) (status : ℕ) →
-    WritesJobOfFiles words a files output input job told job_status → MuxesAll o output job_again packets faults status →
+    WritesJobOfFiles words a files output input job job_reports job_status → MuxesAll o output job_again packets faults status →
     FilesGoThrough a o files (file_words words) output packets faults status

@@ -82,7 +82,7 @@ pub record GoesThrough (a : JobArgumentsView) (o : MuxOptions) (bytes output : L
       (wire_units s.pid (findings_of (packets_of o (as_mux_job job))))
 
 abbrev pub ThePipe : Type 0
-ThePipe = (words : List Text) (a : JobArgumentsView) (o : MuxOptions) (bytes output : List ℕ) (stream job told : Device) (job_status : ℕ)
+ThePipe = (words : List Text) (a : JobArgumentsView) (o : MuxOptions) (bytes output : List ℕ) (stream job job_reports : Device) (job_status : ℕ)
     (job_again packets faults : Device) (status : ℕ) →
-    WritesJob words a bytes output stream job told job_status → MuxesAll o output job_again packets faults status →
+    WritesJob words a bytes output stream job job_reports job_status → MuxesAll o output job_again packets faults status →
     GoesThrough a o bytes output packets faults status

@@ -93,9 +93,11 @@ pub record WriteTheSame (a : JobArgumentsView) (w : JobOptionsView) (d : Describ
   pub same : AreAlike a w d bytes input → AreLaterByOne (length d.streams) fed units
 
 abbrev pub TheSameUnits : Type 0
-TheSameUnits = (words : List Text) (a : JobArgumentsView) (w : JobOptionsView) (d : Described) (bytes whole streamed : List ℕ) (one records told : Device)
+TheSameUnits =
+    (words : List Text) (a : JobArgumentsView) (w : JobOptionsView) (d : Described) (bytes whole streamed : List ℕ) (one records job_reports : Device)
     (status : ℕ) (other passed silent : Device) → IsInRange d →
-    WritesUnits words a bytes whole one records told status → StreamsUnits w d bytes streamed other passed silent → WriteTheSame a w d bytes whole streamed
+    WritesUnits words a bytes whole one records job_reports status → StreamsUnits w d bytes streamed other passed silent →
+    WriteTheSame a w d bytes whole streamed
 
 -- both ask for the same marks if neither asks for marks of access points, and both for the same alignment or for none
 abbrev pub AskAlike : Type 0

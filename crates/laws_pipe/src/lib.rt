@@ -6,8 +6,8 @@
 //! write the same units.
 //!
 //! - [`laws`]: a written job is read as its description, its plan and its units; `mux` writes all packets of a job that
-//!   `tsjob` makes of a stream, or of streams in files, and they give the units back; the units that are written while a
-//!   stream arrives are the units of the whole stream.
+//!   `tsjob` makes of a stream, or of streams in files, and they give the units back; the units that are written while
+//!   a stream arrives are the units of the whole stream.
 #![tactic(auto)]
 
 pub mod laws;

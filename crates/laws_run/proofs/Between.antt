@@ -1,4 +1,4 @@
--- Places among which are all of some own slots that recur within a limit are never late.
+-- Begins that include all own slots, if these slots recur within a limit, are never late.
 use Rattle.std.proofs.Common.{◌≡◌, ℕ, zero, suc, ◌+◌, ◌-◌, ◌*◌, ◌≤◌, ◌<◌, Bool, true, List, [], ◌∷◌, ◌++◌, map, refl, subst, arith, inl, inr}
 use Rattle.std.specs.Prelude.{⊤}
 use Rattle.std.proofs.lemmas.Bool.{cases_Bool}
@@ -7,11 +7,11 @@ use Rattle.own_slots.specs.Slots.{own_slots}
 use Rattle.monitor.specs.Gaps.{late}
 use Rattle.laws_run.proofs.Lateness.{short_gap}
 
--- where each slot begins
+-- The byte offsets at which slots begin
 abbrev pub begins_of : List ℕ → List ℕ
 begins_of slots = map (λ s. 188 * s) slots
 
--- the first own slot from slot s on, or the end, is no nearer than this slot
+-- The first own slot from slot s on, or the end of the run, is no nearer than slot q.
 far : (rate least from until : ℕ) (own : ℕ → Bool) (s n q : ℕ) → q ≤ s → 188 * (s + n) ≤ until →
     Recur rate least from (begins_of (own_slots own s n)) until → (188 * q - from) * 8000 ≤ least * rate
 unfolding Recur own_slots
@@ -27,7 +27,7 @@ far rate least from until own s (suc n) q le end h = elim (cases_Bool (own s)) [
       (subst (λ (l : List ℕ). Recur rate least from (begins_of l) until) at h)
 ]
 
--- one more place at most, not after the end
+-- An optional end: at most one more place, not after the end of the run
 abbrev pub IsEnd : ℕ → List ℕ → Type 0
 IsEnd until [] = ⊤
 IsEnd until (e ∷ []) = 188 * e ≤ until
@@ -42,7 +42,7 @@ last_late rate least limit until o p (e ∷ []) le end op h =
     rw short refl
 last_late rate least limit until o p (e ∷ f ∷ es) le end op h = absurd end
 
--- after place p, where slot o, not after it, was the last own slot or the begin
+-- Begins from slot s on are not late after place p, if p is not before slot o, the last own slot or the begin of the run.
 pub between : (rate least limit until : ℕ) (ends : List ℕ) (own begun : ℕ → Bool) (s n o p : ℕ) → least ≤ limit → IsEnd until ends → o ≤ p → p ≤ s →
     188 * (s + n) ≤ until →
     ((t : ℕ) → t < s + n → own t ≡ true → begun t ≡ true) → Recur rate least (188 * o) (begins_of (own_slots own s n)) until →

@@ -1,4 +1,4 @@
--- What `carry` wrote is given back unit by unit.
+-- A demultiplexer gives back unit by unit what `carry` wrote.
 use Rattle.std.proofs.Common.{◌≡◌, ℕ, zero, suc, ◌+◌, ◌%◌, ◌<◌, ◌≤◌, ◌==◌, Bool, true, false, cond, List, [], ◌∷◌, ◌++◌, length, map, take, drop, Option, Some}
 use Rattle.std.proofs.Common.{None, refl, sym, ap, ap₂, subst, ◌∙◌, arith, All, inl, inr, IsTrue, eqb-true, ne_eqb, length-append, append_assoc}
 use Rattle.std.specs.List.{flat_map}
@@ -43,7 +43,7 @@ use Rattle.carry.specs.RecordRuns.{carried}
 use Rattle.laws_run.specs.CarriedBack.{packets_from, in_a_row, packet_count, CarriedBackLaw}
 use Rattle.laws_run.proofs.Row.{row, row_content, PieceFits, row_fits, row_bytes, row_pieces, row_indices, row_numbered, row_silent}
 
--- ---- the output as a row of payloads
+-- The output of `carry` as a row of payloads
 
 marked_row : (pid s : ℕ) (start : Start) (chunks : List (List ℕ)) → formatted_all false (payload_packets pid start s chunks) ≡ row pid s (marked start chunks)
 unfolding payload_packets marked row formatted
@@ -63,7 +63,7 @@ row_append pid s (x ∷ xs) ys =
     ap (λ (zs : List ℕ). one ++ zs) (row_append pid (suc s) xs ys ∙ ap (λ (n : ℕ). row pid (suc s) xs ++ row pid n ys) e)
     ∙ sym (append_assoc one (row pid (suc s) xs) (row pid (s + suc (length xs)) ys))
 
--- the payloads of a unit: so many, which are those that `carry` writes
+-- A unit has as many payloads as packets; `carry` writes these payloads.
 pieces_length : (id : ℕ) (u : AccessUnit) → length (unit_pieces id 0 u) ≡ unit_packets id 0 u
 pieces_length id u =
     let text : List ℕ = pes_packet_bytes id 0 u in
@@ -87,7 +87,7 @@ units_row pid id s (u ∷ us) =
     ∙ ap (λ (n : ℕ). row pid s (unit_pieces id 0 u) ++ row pid (s + n) more) (sym (pieces_length id u))
     ∙ sym (row_append pid s (unit_pieces id 0 u) more) ∙ ap (row pid s) (sym (flat_map-cons (unit_pieces id 0) u us))
 
--- ---- its payloads
+-- The payloads of units
 
 abbrev SomeBytes : List ℕ → Type 0
 SomeBytes c = 1 ≤ length c
@@ -140,7 +140,7 @@ pieces_count id (u ∷ us) =
       sum_by-cons (unit_packets id 0) u us,
     )
 
--- ---- its packets
+-- The packets of units
 
 packets_length : (i n : ℕ) → length (packets_from i n) ≡ n
 unfolding packets_from
@@ -180,7 +180,7 @@ unfolding payload_entries
 entry_indices pid k [] = refl
 entry_indices pid k (p ∷ ps) = ap (λ (xs : List ℕ). p.index ∷ xs) (entry_indices pid (k + 1) ps)
 
--- ---- the law
+-- The law
 
 keep_own : (pid : ℕ) (x : FindingView) (kept : List FindingView) (t : Bool) → has_pid pid x.pid ≡ t → All (λ f. has_pid pid f.pid ≡ true) kept →
     All (λ f. has_pid pid f.pid ≡ true) (cond t (x ∷ kept) kept)
@@ -203,30 +203,30 @@ all_its pid (x ∷ xs) h =
 
 on_each : (pid : ℕ) (ps : List Piece) → IsRun (length ps) (row_content pid ps) → (q : ℕ) → (q == 8191) ≡ false →
     All (λ f. has_pid pid f.pid ≡ true) (found_on q (run_bytes (row_content pid ps) 0 (length ps)))
-on_each pid ps run q told = elim (cases_Bool (pid == q)) [
+on_each pid ps run q reported = elim (cases_Bool (pid == q)) [
   | inl y ↦
       let same : pid ≡ q = eqb-true pid q y in
       subst (λ (p : ℕ). All (λ f. has_pid pid f.pid ≡ true) (found_on p (run_bytes (row_content pid ps) 0 (length ps)))) same
       (own_pid pid (all_found (run_bytes (row_content pid ps) 0 (length ps))))
   | inr n ↦
       subst (All (λ (f : FindingView). has_pid pid f.pid ≡ true))
-      (sym (nothing_comes_back q (length ps) (row_content pid ps) run told (λ t lt. row_silent pid q t ps n)))
+      (sym (nothing_comes_back q (length ps) (row_content pid ps) run reported (λ t lt. row_silent pid q t ps n)))
       (All-nil (λ (f : FindingView). has_pid pid f.pid ≡ true))
 ]
 
 row_carries : (pid : ℕ) (ps : List Piece) → Fits (row_content pid ps) → (pid == 8191) ≡ false →
     CarriesPieces pid (run_bytes (row_content pid ps) 0 (length ps)) ps
-row_carries pid ps fits told =
+row_carries pid ps fits reported =
     let sent : List Payload = payloads_in pid (row_content pid ps) 0 (length ps) in
     let are : map piece_in sent ≡ ps = row_pieces pid ps in
     let size : length ps ≡ length sent = sym (ap length are) ∙ length-map sent piece_in in
-    numbered_payloads pid (length ps) (row_content pid ps) ps fits told (row_numbered pid ps) (are ∙ sym (take-length ps) ∙ ap (λ (m : ℕ). take m ps) size)
+    numbered_payloads pid (length ps) (row_content pid ps) ps fits reported (row_numbered pid ps) (are ∙ sym (take-length ps) ∙ ap (λ (m : ℕ). take m ps) size)
 
 row_packets : (pid : ℕ) (ps : List Piece) → Fits (row_content pid ps) → (pid == 8191) ≡ false →
     packets_on pid (run_bytes (row_content pid ps) 0 (length ps)) ≡ packets_from 0 (length ps)
-row_packets pid ps fits told =
+row_packets pid ps fits reported =
     let sent : List Payload = payloads_in pid (row_content pid ps) 0 (length ps) in
-    ap (map (λ (e : Entry). e.index)) (run_payload_entries pid (length ps) (row_content pid ps) fits told (row_numbered pid ps))
+    ap (map (λ (e : Entry). e.index)) (run_payload_entries pid (length ps) (row_content pid ps) fits reported (row_numbered pid ps))
     ∙ entry_indices pid 0 sent ∙ row_indices pid ps
 
 pub carried_back : CarriedBackLaw
@@ -235,13 +235,13 @@ carried_back pid id us low fit few =
     let content : ℕ → Content = row_content pid ps in
     let size : length ps ≡ packet_count id us = pieces_count id us in
     let bytes : run_bytes content 0 (length ps) ≡ carried false pid id us = row_bytes pid ps ∙ sym (units_row pid id 0 us) in
-    let told : (pid == 8191) ≡ false = ne_eqb pid 8191 (λ e. omega (arith, e, low)) in
+    let reported : (pid == 8191) ≡ false = ne_eqb pid 8191 (λ e. omega (arith, e, low)) in
     let fits : Fits content = row_fits pid ps (omega (arith, low)) (units_pieces_fit id us fit) in
     let run : IsRun (length ps) content = record { fits = fits; few = omega (arith, few, size) } in
     let placed : sendings (unit_packets id 0) us (packets_on pid (run_bytes content 0 (length ps))) ≡ in_a_row id 0 us =
-    ap (sendings (unit_packets id 0) us) (row_packets pid ps fits told ∙ ap (packets_from 0) size) ∙ sent_in_a_row id 0 us in
+    ap (sendings (unit_packets id 0) us) (row_packets pid ps fits reported ∙ ap (packets_from 0) size) ∙ sent_in_a_row id 0 us in
     record {
-      units = ap (found_on pid) (sym bytes) ∙ units_come_back pid (length ps) id 0 content us run told (row_carries pid ps fits told) fit
+      units = ap (found_on pid) (sym bytes) ∙ units_come_back pid (length ps) id 0 content us run reported (row_carries pid ps fits reported) fit
           ∙ ap₂ (λ (m : ℕ) (sent : List (Sending AccessUnit)). map (with_pid_at pid) (each_found (unit_found id 0) m sent)) size placed;
       nothing_else = subst (λ (b : List ℕ). All (λ f. f.pid ≡ Some pid) (all_found b)) bytes
           (all_its pid (all_found (run_bytes content 0 (length ps))) (by_pids (length ps) content (λ f. has_pid pid f.pid) run (on_each pid ps run)));

@@ -1,4 +1,4 @@
--- On each PID that has clock references they come in time.
+-- Clock references come in time on each PID that has them.
 use Rattle.std.proofs.Common.{◌≡◌, ◌⊎◌, ℕ, zero, suc, ◌+◌, ◌*◌, ◌≤◌, ◌==◌, ◌&&◌, Bool, true, false, List, [], ◌∷◌, map, Option, Some, None, slice_get, refl}
 use Rattle.std.proofs.Common.{sym, ap, subst, ◌∙◌, inl, inr, eqb-true}
 use Rattle.std.specs.Prelude.{⊤}
@@ -36,7 +36,7 @@ use Rattle.laws_run.specs.Monitored.{IsWide}
 use Rattle.laws_run.proofs.Lateness.{all_late}
 use Rattle.mux_core.proofs.Programs.{indices_at_ten}
 
--- ---- a PID that no program has for its clock references
+-- PIDs on which no program has its clock references
 
 filler_none : (n : ℕ) → has_pcr (stuffing_field n) ≡ false
 unfolding stuffing_field
@@ -110,7 +110,7 @@ pub all_none : (d : Scheduled) (units : ℕ → List AccessUnit) (pid slot : ℕ
 unfolding content_at
 all_none d units pid slot none = slot_none d units pid slot (slot_of d.schedule slot) none
 
--- ---- a program's own
+-- The PID of a program's clock references
 
 all_clocks : (says : Entry → PacketView) (es : List Entry) → ((e : Entry) → has_pcr (says e).adaptation ≡ true) → map (λ e. e.packet) es ≡ map says es →
     pcr_places es ≡ map (λ e. e.index) es
@@ -131,7 +131,7 @@ program_in_time d p slots limit bytes kept le =
     let recur = subst (λ (l : List ℕ). Recur d.description.rate p.pcr_limit 0 l (188 * slots)) (indices_at_ten es) kept.pcrs_recur in
     ap (late d.description.rate limit) places ∙ all_late d.description.rate p.pcr_limit limit 10 0 (map (λ e. e.index) es) (188 * slots) le recur
 
--- ---- each PID is one or the other
+-- The two kinds of PIDs: with a program's clock references, and without.
 
 abbrev pub ProgramOn : List DescribedProgram → ℕ → Type 0
 ProgramOn ps pid = (i : ℕ) × (p : DescribedProgram) × (slice_get ps i ≡ Some p) × (p.pcr_pid ≡ pid)

@@ -1,4 +1,4 @@
--- What a description's tables are written as: sections that can be written, none of table_id 0xFF.
+-- The tables of a description are written as sections that a reader accepts; no section has table_id 0xFF.
 use Rattle.std.proofs.Common.{◌≡◌, ℕ, ◌+◌, ◌%◌, ◌<◌, ◌≤◌, ◌==◌, Bool, true, false, List, [], ◌++◌, length, map, Option, None, Some, refl, arith, length-append}
 use Rattle.std.proofs.Common.{All, ne_eqb, if◌then◌else◌}
 use Rattle.std.specs.Option.{option_to_list}
@@ -22,14 +22,14 @@ use Rattle.description_parts.specs.Tables.{pmt_length, nit_length}
 use Rattle.description.specs.SectionBytes.{single_header, pat_says, pmt_says, nit_says, sdt_says, eit_says, kind_bytes}
 use Rattle.description_parts.specs.declared.table_kind.TableKind.TheVariants.{Pat, Tdt}
 
--- these bytes are a section that can be written, and their table_id is not 0xFF
+-- These bytes are a section that can be written; its table_id is not 0xFF.
 pub record IsWritten (text : List ℕ) : Type 0 where
   pub view : SectionView
   pub is : text ≡ section_bytes view
   pub writable : IsWritable view
   pub no_stuffing : (view.header.table_id == 0xFF) ≡ false
 
--- ---- sections of the long form
+-- Sections of the long form
 
 abbrev long_view : ℕ → Bool → LongHeader → List ℕ → SectionView
 long_view table_id private h body = record { header = record { table_id = table_id; private_indicator = private; long = Some h }; body = body }
@@ -55,7 +55,7 @@ single_fits : (extension : ℕ) → extension ≤ 65535 → LongFits (single_hea
 single_fits extension le =
     record { table_id_extension = omega (arith, le); version_number = omega arith; section_number = omega arith; last_section_number = omega arith }
 
--- ---- table by table
+-- The sections of each kind of table
 
 abbrev pub Fits4096 : List ℕ → Type 0
 Fits4096 text = length text ≤ 4096

@@ -1,4 +1,4 @@
--- Each section of a table is whole, and is distinguishable from PES packets and stuffing if no ready-made one of the table is taken for these.
+-- Each section of a table is whole; if no ready-made section of the table is mistaken, each is distinguishable from PES packets and stuffing.
 use Rattle.std.proofs.Common.{◌≡◌, ℕ, suc, ◌+◌, ◌<◌, ◌≤◌, ◌==◌, ◌&&◌, ◌||◌, Bool, true, false, List, [], ◌∷◌, length, map, get_or, slice_get, Option, None}
 use Rattle.std.proofs.Common.{Some, Result, Ok, Err, refl, sym, ap, subst, ◌∙◌, arith, All, inl, inr, eqb-true}
 use Rattle.std.specs.Option.{option_to_list}
@@ -29,7 +29,7 @@ use Rattle.laws_run.proofs.DescribedSections.{IsWritten}
 use Rattle.laws_run.proofs.TablesWritten.{IsMade, at_most_one, text_written}
 use Rattle.mux_core.proofs.TablesRead.{there as kind_there}
 
--- ---- one section
+-- One section
 
 whole_by : (text : List ℕ) (r : Result (SectionView × ℕ) SectionError) → section_at text ≡ r →
     elim r as (λ _. Bool) [ Ok section ↦ section.1 == length text | Err e ↦ false ] ≡ true → IsWhole text
@@ -73,15 +73,15 @@ whole_given text w h = given_of text w (read_fits text (w.view, length text) w.r
 whole_of : (text : List ℕ) → IsRecognized text → IsWhole text
 whole_of text g = record { view = g.view; read = g.read }
 
--- ---- a table's sections
+-- The sections of a table
 
--- a section is whole, and if this is known, it is distinguishable
-record IsSent (told : Type 0) (text : List ℕ) : Type 0 where
+-- A section is whole; if its table is known to be distinguishable, so is the section.
+record IsSent (reported : Type 0) (text : List ℕ) : Type 0 where
   whole : IsWhole text
-  given : told → IsRecognized text
+  given : reported → IsRecognized text
 
-written_sent : (told : Type 0) (text : List ℕ) → IsWritten text → IsSent told text
-written_sent told text w =
+written_sent : (reported : Type 0) (text : List ℕ) → IsWritten text → IsSent reported text
+written_sent reported text w =
     let given : IsRecognized text = subst IsRecognized (sym w.is) (written_are_given w.view w.writable w.no_stuffing) in
     record { whole = whole_of text given; given = λ t. given }
 
@@ -102,7 +102,8 @@ private_sent (Some table) j is within =
     record {
       whole = whole;
       given =
-          λ told. whole_given (get_or table.sections j []) whole (All-get_or (λ (text : List ℕ). is_mistaken text ≡ false) table.sections j [] inside told);
+          λ reported. whole_given (get_or table.sections j []) whole
+          (All-get_or (λ (text : List ℕ). is_mistaken text ≡ false) table.sections j [] inside reported);
     }
 
 made_sent : (d : Described) (t j moment : ℕ) (k : TableKind) → IsInRange d → table_kind d t ≡ Some k → IsMade k → j < section_count d t →
@@ -126,7 +127,7 @@ kind_sent d t j moment (Private i) r is within =
     let sent = private_sent (slice_get d.tables i) j (at_most_one IsTable d.tables i (slice_get d.tables i) r.tables refl) inside in
     record {
       whole = subst IsWhole (sym text) sent.whole;
-      given = λ told. subst IsRecognized (sym text) (sent.given (subst (All (λ (bytes : List ℕ). is_mistaken bytes ≡ false)) ready told));
+      given = λ reported. subst IsRecognized (sym text) (sent.given (subst (All (λ (bytes : List ℕ). is_mistaken bytes ≡ false)) ready reported));
     }
 
 pub section_whole : (d : Described) (t j moment : ℕ) → IsInRange d → t < table_count d → j < section_count d t → IsWhole (table_bytes d t j moment)
@@ -134,9 +135,9 @@ section_whole d t j moment r lt within = let k = kind_there (table_kinds d) t lt
 
 pub section_distinguishable : (d : Described) (t j moment : ℕ) → IsInRange d → t < table_count d → IsDistinguishable d t → j < section_count d t →
     IsRecognized (table_bytes d t j moment)
-section_distinguishable d t j moment r lt told within = let k = kind_there (table_kinds d) t lt in (kind_sent d t j moment k.0 r k.1 within).given told
+section_distinguishable d t j moment r lt reported within = let k = kind_there (table_kinds d) t lt in (kind_sent d t j moment k.0 r k.1 within).given reported
 
--- ---- all sections of a table's rounds
+-- All sections of a table's rounds
 
 texts_all : (P : List ℕ → Type 0) (text : ℕ → List ℕ) (j : ℕ) (ls : List ℕ) → ((i : ℕ) → i < length ls → P (text (j + i))) → All P (sections_from text j ls)
 unfolding sections_from

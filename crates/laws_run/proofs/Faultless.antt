@@ -1,4 +1,4 @@
--- Nothing is wrong with the finished bytes of a run.
+-- A demultiplexer finds no fault in the finished bytes of a run.
 use Rattle.std.proofs.Common.{◌≡◌, ℕ, ◌+◌, ◌-◌, ◌*◌, ◌^◌, ◌<◌, ◌==◌, not, nat_le, Bool, true, false, cond, List, [], ◌∷◌, length, map, Some, slice_get, refl}
 use Rattle.std.proofs.Common.{sym, subst, arith, All, inl, inr}
 use Rattle.std.proofs.lemmas.List.Elements.{All-nil, All-cons, All-head, All-tail, All-append}
@@ -31,12 +31,12 @@ use Rattle.mux_core.specs.Headline.{UnitsKept}
 use Rattle.mux_core.proofs.Accepted.{units_kept}
 use Rattle.laws_run.specs.GivenBack.{IsSentOn}
 use Rattle.laws_run.specs.Clean.{Fault, RefusedPacket, ErroredPacket, BrokenCounter, RepeatedPacket, ScrambledPacket, RefusedSection, RefusedPes, fault_of}
-use Rattle.laws_run.specs.Clean.{NoneIs, CleanLaw, StandingCleanLaw}
+use Rattle.laws_run.specs.Clean.{NoneIs, CleanLaw, AnyStateCleanLaw}
 use Rattle.laws_run.proofs.DistinguishableSections.{section_whole, rounds_all}
 use Rattle.laws_run.proofs.NothingElse.{sent_or_silent}
 use Rattle.laws_run.proofs.RunFindings.{is_run, stream_units_fit, one_stream, one_table, has_places, has_room, silent_back, given_back}
 
--- ---- PID by PID
+-- The findings of each PID
 
 stream_clean : (d : Scheduled) (units : ℕ → List AccessUnit) (n k : ℕ) (s : DescribedStream) → IsInRange d.description → UnitsKept d units → n < 2 ^ 64 - 1 →
     slice_get d.description.streams k ≡ Some s → All IsFaultless (found_on s.pid (run_bytes (content_at d units) 0 n))
@@ -68,12 +68,12 @@ sent_clean d units n pid r kept few (inr (t, lt, same)) = subst (CleanOn d units
 pub pid_clean : (d : Scheduled) (units : ℕ → List AccessUnit) (n : ℕ) → IsInRange d.description → UnitsKept d units → n < 2 ^ 64 - 1 → (pid : ℕ) →
     (pid == 8191) ≡ false →
     CleanOn d units n pid
-pid_clean d units n r kept few pid told = elim (sent_or_silent d.description pid) [
+pid_clean d units n r kept few pid reported = elim (sent_or_silent d.description pid) [
   | inl sent ↦ sent_clean d units n pid r kept few sent
-  | inr none ↦ subst (All IsFaultless) (sym (silent_back d units n pid (is_run d units n r kept few) told none)) (All-nil IsFaultless)
+  | inr none ↦ subst (All IsFaultless) (sym (silent_back d units n pid (is_run d units n r kept few) reported none)) (All-nil IsFaultless)
 ]
 
--- ---- all that is found
+-- All findings
 
 abbrev Passes : FindingView → Type 0
 Passes f = not (is_fault f.what) ≡ true
@@ -98,9 +98,9 @@ run_clean : (d : Scheduled) (units : ℕ → List AccessUnit) (n : ℕ) → IsIn
 run_clean d units n r kept few =
     all_faultless (all_found (run_bytes (content_at d units) 0 n))
     (by_pids n (content_at d units) (λ f. not (is_fault f.what)) (is_run d units n r kept few)
-    (λ pid told. all_pass (found_on pid (run_bytes (content_at d units) 0 n)) (pid_clean d units n r kept few pid told)))
+    (λ pid reported. all_pass (found_on pid (run_bytes (content_at d units) 0 n)) (pid_clean d units n r kept few pid reported)))
 
--- ---- fault by fault
+-- Each kind of fault
 
 is_none : (fault : Fault) (what : WhatView) → (fault ≡ RefusedPes → ⊥) → is_fault what ≡ false → fault_of what ≡ Some fault → ⊥
 unfolding fault_of
@@ -122,7 +122,7 @@ none_is fault (x ∷ xs) other h =
     All-cons (λ (f : FindingView). fault_of f.what ≡ Some fault → ⊥) x xs (is_none fault x.what other (All-head IsFaultless x xs h))
     (none_is fault xs other (All-tail IsFaultless x xs h))
 
--- ---- PES packets
+-- PES packets
 
 abbrev NoBadPes : WhatView → Type 0
 NoBadPes what = fault_of what ≡ Some RefusedPes → ⊥
@@ -169,13 +169,13 @@ each_no_bad found count (x ∷ xs) h =
     All-append NoBadPesAt (if_sent (found (next_of count xs) x.item) x.packets) (each_found found count xs)
     (one_each (found (next_of count xs) x.item) x.packets (h (next_of count xs) x.item)) (each_no_bad found count xs h)
 
-told_no_bad : (pid : ℕ) (xs : List PidFinding) → All NoBadPesAt xs → NoneIs RefusedPes (map (with_pid_at pid) xs)
-told_no_bad pid [] h = All-nil (λ (f : FindingView). NoBadPes f.what)
-told_no_bad pid (x ∷ xs) h =
+reported_no_bad : (pid : ℕ) (xs : List PidFinding) → All NoBadPesAt xs → NoneIs RefusedPes (map (with_pid_at pid) xs)
+reported_no_bad pid [] h = All-nil (λ (f : FindingView). NoBadPes f.what)
+reported_no_bad pid (x ∷ xs) h =
     All-cons (λ (f : FindingView). NoBadPes f.what) (with_pid_at pid x) (map (with_pid_at pid) xs) (All-head NoBadPesAt x xs h)
-    (told_no_bad pid xs (All-tail NoBadPesAt x xs h))
+    (reported_no_bad pid xs (All-tail NoBadPesAt x xs h))
 
--- ---- the laws
+-- The laws
 
 pub clean : CleanLaw
 clean d units n r kept few =
@@ -190,10 +190,10 @@ clean d units n r kept few =
       clear = none_is ScrambledPacket (all_found bytes) (λ e. cc) all;
       sections = none_is RefusedSection (all_found bytes) (λ e. cc) all;
       stream_pes = λ k s is. subst (NoneIs RefusedPes) (sym (back.streams k s is))
-          (told_no_bad s.pid _ (each_no_bad _ n _ (unit_no_bad s.stream_id d.description.base0)));
-      table_pes = λ t lt told. subst (NoneIs RefusedPes) (sym (back.tables t lt told))
-          (told_no_bad (table_pid d.description t) _ (each_no_bad _ n _ section_no_bad));
+          (reported_no_bad s.pid _ (each_no_bad _ n _ (unit_no_bad s.stream_id d.description.base0)));
+      table_pes = λ t lt reported. subst (NoneIs RefusedPes) (sym (back.tables t lt reported))
+          (reported_no_bad (table_pid d.description t) _ (each_no_bad _ n _ section_no_bad));
     }
 
-pub standing_clean : StandingCleanLaw
-standing_clean h m n r st few = clean m.schedule h.units n r (units_kept h m r st) (omega (arith, few))
+pub any_state_clean : AnyStateCleanLaw
+any_state_clean h m n r st few = clean m.schedule h.units n r (units_kept h m r st) (omega (arith, few))

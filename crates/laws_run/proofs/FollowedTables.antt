@@ -1,4 +1,4 @@
--- A decoder that follows PAT and PMT is told of each program and its streams.
+-- A decoder that follows PAT and PMT learns each program and its streams.
 use Rattle.std.proofs.Common.{◌≡◌, ◌≤◌, ◌<◌, ℕ, zero, suc, ◌+◌, ◌-◌, Bool, true, false, cond, if◌then◌else◌, List, [], ◌∷◌, ◌++◌, length, map, filter, get_or}
 use Rattle.std.proofs.Common.{is_some, Option, Some, Ok, slice_get, All, refl, sym, ap, subst, ◌∙◌, arith}
 use Rattle.std.specs.Prelude.{Contains, slice_index_or}
@@ -36,9 +36,9 @@ use Rattle.laws_run.proofs.ListedTables.{tables_fit, both_fit}
 use Rattle.laws_run.proofs.MapsNamed.{pat_read_before}
 use Rattle.laws_run.proofs.MapsRecur.{map_table}
 use Rattle.laws_run.proofs.PutSections.{fill_after}
-use Rattle.laws_run.proofs.TwoStarts.{TwoStarts, two_starts, Told, table_told}
+use Rattle.laws_run.proofs.TwoStarts.{TwoStarts, two_starts, FindsSection, table_reported}
 
--- ---- elements
+-- Elements of lists
 
 cons_has : {X : Type 0} (x : X) (xs : List X) (y : X) → Contains xs y → Contains (x ∷ xs) y
 cons_has x xs y (k, lt, e) = (suc k, omega (arith, lt), e)
@@ -60,7 +60,7 @@ map_has f [] i x is = absurd (let no : ⊥ = cc in no)
 map_has f (z ∷ xs) zero x is = let same : z ≡ x = cc in (0, omega arith, ap f same)
 map_has f (z ∷ xs) (suc i) x is = cons_has (f z) (map f xs) (f x) (map_has f xs i x is)
 
--- of what the first of several gives
+-- An element that f gives for the first list is among the elements that f gives for all lists.
 first_has : {X : Type 0} (f : List ℕ → List X) (wholes : List (List ℕ)) (whole : List ℕ) (y : X) → slice_get wholes 0 ≡ Some whole → Contains (f whole) y →
     Contains (flat_map f wholes) y
 first_has f [] whole y is c = absurd (let no : ⊥ = cc in no)
@@ -69,7 +69,7 @@ first_has {X} f (w ∷ ws) whole y is c =
     subst (λ (xs : List X). Contains xs y) (sym (flat_map-cons f w ws))
     (front_has (f w) (flat_map f ws) y (subst (λ (x : List ℕ). Contains (f x) y) (sym same) c))
 
--- ---- the map of a program can be written
+-- Writable maps of programs
 
 at_most : (b : Bool) (n : ℕ) → (if b then n else 0) ≤ n
 at_most true n = omega arith
@@ -133,11 +133,11 @@ map_fits d t i p r lt kind is =
       room = omega (arith, map_size (pmt_says d p), within, short);
     }
 
--- a section of it is read again, whatever follows it
-abbrev TellsMap : Described → DescribedProgram → List ℕ → Type 0
-TellsMap d p section = (fill : List ℕ) → map_in (section_at (section ++ fill)) ≡ pmt_says d p ∷ []
+-- A reader of the map section gets the same map, whatever bytes follow the section.
+abbrev GivesMap : Described → DescribedProgram → List ℕ → Type 0
+GivesMap d p section = (fill : List ℕ) → map_in (section_at (section ++ fill)) ≡ pmt_says d p ∷ []
 
-map_read : (d : Described) (p : DescribedProgram) → PmtFits (pmt_says d p) → TellsMap d p (section_bytes (pmt_section (pmt_says d p)))
+map_read : (d : Described) (p : DescribedProgram) → PmtFits (pmt_says d p) → GivesMap d p (section_bytes (pmt_section (pmt_says d p)))
 unfolding map_in map_by
 map_read d p fits fill =
     let again = written (pmt_says d p) fits in
@@ -146,28 +146,31 @@ map_read d p fits fill =
     (section_written (pmt_section (pmt_says d p)) again.writable).read fill in
     ap map_in read ∙ ap map_by again.read
 
-abbrev TellsPrograms : Described → List ℕ → Type 0
-TellsPrograms d section = (fill : List ℕ) → programs_in_section (section_at (section ++ fill)) ≡ network_entries d ++ map pat_entry d.programs
+abbrev GivesPrograms : Described → List ℕ → Type 0
+GivesPrograms d section = (fill : List ℕ) → programs_in_section (section_at (section ++ fill)) ≡ network_entries d ++ map pat_entry d.programs
 
--- ---- what is told
+-- The programs and streams that a decoder learns
 
-program_there : (d : Described) (i : ℕ) (p : DescribedProgram) (bytes : List ℕ) → slice_get d.programs i ≡ Some p → Told (TellsPrograms d) 0 bytes →
+program_there : (d : Described) (i : ℕ) (p : DescribedProgram) (bytes : List ℕ) → slice_get d.programs i ≡ Some p → FindsSection (GivesPrograms d) 0 bytes →
     Contains (programs_named bytes) (pat_entry p)
 unfolding section_in
-program_there d i p bytes is told =
-    first_has (λ whole. programs_in_section (section_in whole)) (put_together (pieces_on 0 bytes)) (0 ∷ (told.section ++ fill_after told.section)) (pat_entry p)
-    told.whole
-    (subst (λ (xs : List Program). Contains xs (pat_entry p)) (sym (told.is (fill_after told.section)))
+program_there d i p bytes is reported =
+    first_has (λ whole. programs_in_section (section_in whole)) (put_together (pieces_on 0 bytes)) (0 ∷ (reported.section ++ fill_after reported.section))
+    (pat_entry p)
+    reported.whole
+    (subst (λ (xs : List Program). Contains xs (pat_entry p)) (sym (reported.is (fill_after reported.section)))
     (back_has (network_entries d) (map pat_entry d.programs) (pat_entry p) (map_has pat_entry d.programs i p is)))
 
-map_there : (d : Described) (p : DescribedProgram) (bytes : List ℕ) → Told (TellsMap d p) p.pmt_pid bytes → Contains (maps_on p.pmt_pid bytes) (pmt_says d p)
+map_there : (d : Described) (p : DescribedProgram) (bytes : List ℕ) → FindsSection (GivesMap d p) p.pmt_pid bytes →
+    Contains (maps_on p.pmt_pid bytes) (pmt_says d p)
 unfolding section_in
-map_there d p bytes told =
-    first_has (λ whole. map_in (section_in whole)) (put_together (pieces_on p.pmt_pid bytes)) (0 ∷ (told.section ++ fill_after told.section)) (pmt_says d p)
-    told.whole
-    (subst (λ (xs : List PmtView). Contains xs (pmt_says d p)) (sym (told.is (fill_after told.section))) (0, omega arith, refl))
+map_there d p bytes reported =
+    first_has (λ whole. map_in (section_in whole)) (put_together (pieces_on p.pmt_pid bytes)) (0 ∷ (reported.section ++ fill_after reported.section))
+    (pmt_says d p)
+    reported.whole
+    (subst (λ (xs : List PmtView). Contains xs (pmt_says d p)) (sym (reported.is (fill_after reported.section))) (0, omega arith, refl))
 
--- where each of these tables begins twice
+-- The law holds for a run, if each table with a limit of 500 ms begins twice.
 pub followed_by : (d : Scheduled) (units : ℕ → List AccessUnit) (slots : ℕ) (bytes : List ℕ) → IsInRange d.description → Headline d units slots bytes →
     ((t : ℕ) → t < table_count d.description → table_limit d.description t ≡ 500 → TwoStarts (section_starts d.description d.schedule t 0) slots) →
     IsFollowed d.description bytes
@@ -175,7 +178,7 @@ followed_by d units slots bytes r h twice = record {
   programs = λ i p is.
       let there : 0 < table_count d.description = omega arith in
       program_there d.description i p bytes is
-      (table_told (TellsPrograms d.description) d 0 slots bytes r there (sections_law d.description 0 r there).0 (h.tables 0 there) (twice 0 there refl)
+      (table_reported (GivesPrograms d.description) d 0 slots bytes r there (sections_law d.description 0 r there).0 (h.tables 0 there) (twice 0 there refl)
       (λ j moment within fill. pat_read_before d.description fill r));
   maps = λ i p is.
       let t = map_table d.description i p is in
@@ -183,10 +186,10 @@ followed_by d units slots bytes r h twice = record {
       let limit : table_limit d.description (i + 1) ≡ 500 = let kind = t.kind in rw (kind, table_limit) refl in
       let fits = map_fits d.description (i + 1) i p r there t.kind is in
       map_there d.description p bytes
-      (subst (λ (pid : ℕ). Told (TellsMap d.description p) pid bytes) t.same
-      (table_told (TellsMap d.description p) d (i + 1) slots bytes r there (sections_law d.description (i + 1) r there).0 (h.tables (i + 1) there)
+      (subst (λ (pid : ℕ). FindsSection (GivesMap d.description p) pid bytes) t.same
+      (table_reported (GivesMap d.description p) d (i + 1) slots bytes r there (sections_law d.description (i + 1) r there).0 (h.tables (i + 1) there)
       (twice (i + 1) there limit)
-      (λ j moment within. subst (TellsMap d.description p) (sym (map_bytes d.description (i + 1) i j moment p t.kind is)) (map_read d.description p fits))));
+      (λ j moment within. subst (GivesMap d.description p) (sym (map_bytes d.description (i + 1) i j moment p t.kind is)) (map_read d.description p fits))));
 }
 
 pub followed : FollowedLaw

@@ -1,8 +1,8 @@
--- What recurs comes in time.
+-- Tables and clock references come within their limits.
 use Rattle.std.proofs.Common.{arith}
 use Rattle.mux_core.proofs.Accepted.{units_kept}
 use Rattle.mux_core.proofs.Whole.{contents_fit, headline}
-use Rattle.laws_run.specs.Monitored.{InTimeLaw, StandingInTimeLaw}
+use Rattle.laws_run.specs.Monitored.{InTimeLaw, AnyStateInTimeLaw}
 use Rattle.laws_run.proofs.ClocksRecur.{clocks_in_time}
 use Rattle.laws_run.proofs.TablesRecur.{pat_in_time}
 use Rattle.laws_run.proofs.MapsRecur.{maps_in_time}
@@ -19,5 +19,5 @@ in_time d units n limit r promised kept wide few = record {
   time = tdt_in_time d units n r promised kept few;
 }
 
-pub standing_in_time : StandingInTimeLaw
-standing_in_time h m n limit r promised st wide few = in_time m.schedule h.units n limit r promised (units_kept h m r st) wide (omega (arith, few))
+pub any_state_in_time : AnyStateInTimeLaw
+any_state_in_time h m n limit r promised st wide few = in_time m.schedule h.units n limit r promised (units_kept h m r st) wide (omega (arith, few))

@@ -1,4 +1,4 @@
--- The faults of all rules together are those that are left.
+-- The faults by all rules together are the late PTS alone.
 use Rattle.std.proofs.Common.{◌≡◌, ℕ, List, [], ◌∷◌, ◌++◌, map, Some, refl, ap, ◌∙◌}
 use Rattle.std.specs.List.{enumerate_from, flat_map}
 use Rattle.std.proofs.lemmas.List.Concat.{flat_map-cons}
@@ -11,12 +11,12 @@ use Rattle.monitor.specs.NamedPids.{namings}
 use Rattle.monitor.specs.Faults.{packet_pids, on_each, packet_faults, cut_faults, finding_faults, pat_late, map_late, table_late, pcr_late, pts_late, faults_of}
 use Rattle.mux_core.specs.Scheduled.{Scheduled}
 use Rattle.laws_run.specs.Monitored.{IsSound, IsInTime}
-use Rattle.laws_run.specs.Reported.{IsReported, ReportedLaw, StandingReportedLaw, JobReportedLaw}
-use Rattle.laws_run.proofs.Soundness.{sound, standing_sound}
-use Rattle.laws_run.proofs.InTime.{in_time, standing_in_time}
+use Rattle.laws_run.specs.Reported.{IsReported, ReportedLaw, AnyStateReportedLaw, JobReportedLaw}
+use Rattle.laws_run.proofs.Soundness.{sound, any_state_sound}
+use Rattle.laws_run.proofs.InTime.{in_time, any_state_in_time}
 use Rattle.laws_run.proofs.MonitoredJobs.{job_sound, job_in_time}
 
--- nothing of each is nothing
+-- If f gives nothing for each element, it gives nothing for the list.
 none_of_each : {X Y : Type 0} (f : X → List Y) (xs : List X) → ((x : X) → f x ≡ []) → flat_map f xs ≡ []
 none_of_each f [] h = refl
 none_of_each {X} {Y} f (x ∷ xs) h = flat_map-cons f x xs ∙ ap (λ (ys : List Y). ys ++ flat_map f xs) (h x) ∙ none_of_each f xs h
@@ -51,9 +51,9 @@ all_reported d limit bytes s t =
 pub reported : ReportedLaw
 reported d units n limit r promised kept wide few = all_reported d limit _ (sound d units n r kept few) (in_time d units n limit r promised kept wide few)
 
-pub standing_reported : StandingReportedLaw
-standing_reported h m n limit r promised st wide few =
-    all_reported m.schedule limit _ (standing_sound h m n r st few) (standing_in_time h m n limit r promised st wide few)
+pub any_state_reported : AnyStateReportedLaw
+any_state_reported h m n limit r promised st wide few =
+    all_reported m.schedule limit _ (any_state_sound h m n r st few) (any_state_in_time h m n limit r promised st wide few)
 
 pub job_reported : JobReportedLaw
 job_reported d units n limit r promised none wide few =

@@ -32,6 +32,8 @@ pub mod LeftFaults
 pub mod NoFaults
 pub mod WorkedRanges
 pub mod WorkedRun
+pub mod VideoRanges
+pub mod WorkedSwitch
 pub mod PutSections
 pub mod TwoStarts
 pub mod ListedTables

@@ -35,7 +35,7 @@ tables_fit n (t ∷ ts) h =
     let is = All-head IsTable t ts h in
     one_fits t.pid (entry_in n t) (pmt_tables n ts) is.pid (kept_in n t.entry is.entry) (tables_fit n ts (All-tail IsTable t ts h))
 
--- both parts of a loop
+-- If both parts of a loop can be written, the whole loop can.
 pub both_fit : (xs ys : List StreamView) → StreamsFit xs → StreamsFit ys → StreamsFit (xs ++ ys)
 both_fit [] ys h k = k
 both_fit (x ∷ xs) ys h k = (h.0, both_fit xs ys h.1 k)

@@ -1,4 +1,4 @@
--- The PIDs that the program association sections of a run name are those of the description's program maps.
+-- The program association sections of a run name only the PIDs of the description's program maps.
 use Rattle.std.proofs.Common.{◌≡◌, ℕ, suc, ◌+◌, ◌-◌, ◌*◌, ◌/◌, ◌^◌, ◌<◌, ◌≤◌, ◌==◌, nat_le, nat_eq, Bool, true, false, cond, List, [], ◌∷◌, ◌++◌, length, map}
 use Rattle.std.proofs.Common.{take, drop, Option, Some, None, Ok, slice_get, refl, sym, ap, subst, ◌∙◌, arith, All, inl, inr, eqb-true, append-nil}
 use Rattle.std.specs.Map.{lookup}
@@ -42,13 +42,13 @@ use Rattle.mux_core.proofs.Whole.{contents_fit}
 use Rattle.laws_run.specs.Distinguishable.{is_mistaken, IsDistinguishable}
 use Rattle.laws_run.proofs.DistinguishableSections.{section_distinguishable, rounds_all}
 use Rattle.laws_run.proofs.RunFindings.{is_run, one_table, has_places, has_room}
-use Rattle.laws_run.proofs.Soundness.{as_told}
+use Rattle.laws_run.proofs.Soundness.{as_reported}
 
--- the PID of a program's map
+-- The PID of a program's map
 abbrev pub IsMapPid : Described → ℕ → Type 0
 IsMapPid d pid = (i : ℕ) × (p : DescribedProgram) × (slice_get d.programs i ≡ Some p) × (p.pmt_pid ≡ pid)
 
--- ---- the section of program association
+-- The program association section
 
 network_unnamed : (o : Option DescribedNetwork) (programs : List Program) →
     program_pids (map (λ n. record { program_number = 0; pid = 0x10 }) (option_to_list o) ++ programs) ≡ program_pids programs
@@ -94,7 +94,7 @@ pat_fits d r = record {
   room = omega (arith, entry_count d.network (map pat_entry d.programs), length-map d.programs pat_entry, r.most_programs);
 }
 
--- its section is read again, whatever follows it
+-- A reader of the section gets the same programs, whatever bytes follow the section.
 pub pat_read_before : (d : Described) (fill : List ℕ) → IsInRange d →
     programs_in_section (section_at (section_bytes (pat_section (pat_says d)) ++ fill)) ≡ network_entries d ++ map pat_entry d.programs
 unfolding programs_in_section programs_by
@@ -111,7 +111,7 @@ pat_read : (d : Described) → IsInRange d → programs_in_section (section_at (
 pat_read d r = ap (λ (bytes : List ℕ). programs_in_section (section_at bytes)) (sym (append-nil (section_bytes (pat_section (pat_says d)))))
     ∙ pat_read_before d [] r
 
--- each PID that something found names is that of a program's map
+-- A finding names only PIDs of program maps.
 abbrev Names : Described → WhatView → Type 0
 Names d what = All (IsMapPid d) (pids_named_in what)
 
@@ -122,7 +122,7 @@ text_names d j moment r =
     (subst (All (IsMapPid d)) (sym (network_unnamed d.network (map pat_entry d.programs)))
     (entries_named (IsMapPid d) d.programs (λ i p e. (i, p, e, refl))))
 
--- ---- what is found on its PID
+-- Findings on PID 0
 
 abbrev NamesAt : Described → PidFinding → Type 0
 NamesAt d at = Names d at.found.what
@@ -156,23 +156,24 @@ sent_name d n (text ∷ texts) packets h =
     (one_names d e text first (All-head (λ (t : List ℕ). Names d (IsSection t)) text texts h))
     (sent_name d n texts more (All-tail (λ (t : List ℕ). Names d (IsSection t)) text texts h))
 
--- ---- the findings name the same
+-- The same names, in the findings of the whole run
 
-abbrev NamesTold : Described → FindingView → Type 0
-NamesTold d f = Names d f.what
+abbrev NamesReported : Described → FindingView → Type 0
+NamesReported d f = Names d f.what
 
-told_name : (d : Described) (pid : ℕ) (xs : List PidFinding) → All (NamesAt d) xs → All (NamesTold d) (map (with_pid_at pid) xs)
-told_name d pid [] h = All-nil (NamesTold d)
-told_name d pid (x ∷ xs) h =
-    All-cons (NamesTold d) (with_pid_at pid x) (map (with_pid_at pid) xs) (All-head (NamesAt d) x xs h) (told_name d pid xs (All-tail (NamesAt d) x xs h))
+reported_name : (d : Described) (pid : ℕ) (xs : List PidFinding) → All (NamesAt d) xs → All (NamesReported d) (map (with_pid_at pid) xs)
+reported_name d pid [] h = All-nil (NamesReported d)
+reported_name d pid (x ∷ xs) h =
+    All-cons (NamesReported d) (with_pid_at pid x) (map (with_pid_at pid) xs) (All-head (NamesAt d) x xs h)
+    (reported_name d pid xs (All-tail (NamesAt d) x xs h))
 
-found_name : (d : Described) (pid : ℕ) (xs : List PidFinding) → All (NamesTold d) (map (with_pid_at pid) xs) → All (NamesAt d) xs
+found_name : (d : Described) (pid : ℕ) (xs : List PidFinding) → All (NamesReported d) (map (with_pid_at pid) xs) → All (NamesAt d) xs
 found_name d pid [] h = All-nil (NamesAt d)
 found_name d pid (x ∷ xs) h =
-    All-cons (NamesAt d) x xs (All-head (NamesTold d) (with_pid_at pid x) (map (with_pid_at pid) xs) h)
-    (found_name d pid xs (All-tail (NamesTold d) (with_pid_at pid x) (map (with_pid_at pid) xs) h))
+    All-cons (NamesAt d) x xs (All-head (NamesReported d) (with_pid_at pid x) (map (with_pid_at pid) xs) h)
+    (found_name d pid xs (All-tail (NamesReported d) (with_pid_at pid x) (map (with_pid_at pid) xs) h))
 
--- ---- a PID that is named
+-- Named PIDs
 
 by_one : (d : Described) (pid since packet : ℕ) (pids : List ℕ) (rest : List (ℕ × ℕ)) → All (IsMapPid d) pids →
     (lookup (nat_eq pid) rest ≡ Some since → IsMapPid d pid) →
@@ -192,7 +193,7 @@ by_all d pid since (x ∷ xs) h e =
     (by_all d pid since xs (All-tail (NamesAt d) x xs h))
     (sym (ap (lookup (nat_eq pid)) (flat_map-cons (λ (at : PidFinding). map (λ (q : ℕ). (q, at.packet)) (pids_named_in at.found.what)) x xs)) ∙ e)
 
--- each PID that a run names for program maps is that of a program's
+-- Each PID that a run names for program maps is the PID of a program's map.
 pub named_are_maps : (d : Scheduled) (units : ℕ → List AccessUnit) (n pid since : ℕ) → IsInRange d.description → UnitsKept d units → n < 2 ^ 64 - 1 →
     named_since pid (run_bytes (content_at d units) 0 n) ≡ Some since → IsMapPid d.description pid
 named_are_maps d units n pid since r kept few e = by_all d.description pid since (found_on 0 bytes) names e
@@ -212,8 +213,8 @@ named_are_maps d units n pid since r kept few e = by_all d.description pid since
     there : 0 < table_count d.description
     there = omega arith
 
-    told : IsDistinguishable d.description 0
-    told = All-nil (λ (text : List ℕ). is_mistaken text ≡ false)
+    reported : IsDistinguishable d.description 0
+    reported = All-nil (λ (text : List ℕ). is_mistaken text ≡ false)
 
     alone : TableIsAlone (table_of d 0) content
     alone = one_table d units 0 r kept there
@@ -222,7 +223,7 @@ named_are_maps d units n pid since r kept few e = by_all d.description pid since
     slots = own_slots (starts (table_of d 0).own (round_places (table_of d 0).lengths) 0) 0 n
 
     given : All IsRecognized (sections_of_rounds (table_of d 0) n)
-    given = rounds_all IsRecognized (table_of d 0) slots (λ j moment lt. section_distinguishable d.description 0 j moment r there told lt)
+    given = rounds_all IsRecognized (table_of d 0) slots (λ j moment lt. section_distinguishable d.description 0 j moment r there reported lt)
 
     texts_name : All (λ text. Names d.description (IsSection text)) (sections_of_rounds (table_of d 0) n)
     texts_name = rounds_all (λ text. Names d.description (IsSection text)) (table_of d 0) slots (λ j moment lt. text_names d.description j moment r)
@@ -230,9 +231,9 @@ named_are_maps d units n pid since r kept few e = by_all d.description pid since
     back : map (with_pid_at 0) (each_found section_found n (sendings section_packets (sections_of_rounds (table_of d 0) n) (packets_on 0 bytes))) ≡ map
         (with_pid_at 0) (found_on 0 bytes)
     back = sym (tables_come_back (table_of d 0) n content (is_run d units n r kept few) alone (has_places d 0 r there) (has_room d 0 r) given)
-        ∙ as_told 0 bytes refl (omega (arith, count, few))
+        ∙ as_reported 0 bytes refl (omega (arith, count, few))
 
     names : All (NamesAt d.description) (found_on 0 bytes)
     names = found_name d.description 0 (found_on 0 bytes)
-        (subst (All (NamesTold d.description)) back
-        (told_name d.description 0 _ (sent_name d.description n (sections_of_rounds (table_of d 0) n) (packets_on 0 bytes) texts_name)))
+        (subst (All (NamesReported d.description)) back
+        (reported_name d.description 0 _ (sent_name d.description n (sections_of_rounds (table_of d 0) n) (packets_on 0 bytes) texts_name)))

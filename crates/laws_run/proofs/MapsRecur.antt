@@ -1,4 +1,4 @@
--- Sections of program maps begin in time on each PID that is named for them, from the packet in which it is named to the end of a run.
+-- Sections of program maps begin in time on each named PID, from the packet that names the PID to the end of the run.
 use Rattle.std.proofs.Common.{◌≡◌, ℕ, ◌+◌, ◌-◌, ◌*◌, ◌/◌, ◌^◌, ◌<◌, ◌≤◌, nat_lt, Bool, true, List, [], ◌∷◌, ◌++◌, length, filter, Option, Some, None, slice_get}
 use Rattle.std.proofs.Common.{refl, sym, ap, ap₂, subst, ◌∙◌, arith}
 use Rattle.std.proofs.lemmas.Option.{slice_get_within}
@@ -27,7 +27,7 @@ use Rattle.laws_run.proofs.TableBegins.{made_begins, begins_there}
 use Rattle.laws_run.proofs.Since.{since_in_time}
 use Rattle.laws_run.proofs.MapsNamed.{IsMapPid, named_are_maps}
 
--- a table that is the map of program number i
+-- Table t is the map of program number i.
 pub record IsMap (d : Described) (t i pid : ℕ) : Type 0 where
   pub kind : table_kind d t ≡ Some (Pmt i)
   pub same : table_pid d t ≡ pid
@@ -41,7 +41,7 @@ map_table d i p is =
     let of_kind : table_pid d (i + 1) ≡ kind_pid d (Pmt i) = rw (kind, table_pid) refl in
     record { kind = kind; same = of_kind ∙ pid }
 
--- on its PID, from any packet on
+-- Sections of the map begin in time on its PID, from any packet on.
 map_in_time : (d : Scheduled) (units : ℕ → List AccessUnit) (n t i since : ℕ) → IsInRange d.description → Promised d.description d.schedule →
     UnitsKept d units →
     n < 2 ^ 64 - 1 → table_kind d.description t ≡ Some (Pmt i) →
@@ -86,7 +86,7 @@ map_in_time d units n t i since r promised kept few is =
     all : (s : ℕ) → s < n → own s ≡ true → begun pid content s ≡ true
     all s lt y = begins_there (table_of d t) 0 s n content fits (table.begins 0 s within lt y)
 
--- on each PID
+-- Sections of program maps begin in time on each PID.
 pub maps_in_time : (d : Scheduled) (units : ℕ → List AccessUnit) (n : ℕ) → IsInRange d.description → Promised d.description d.schedule → UnitsKept d units →
     n < 2 ^ 64 - 1 →
     (pid : ℕ) → map_late d.description.rate (run_bytes (content_at d units) 0 n) pid ≡ []

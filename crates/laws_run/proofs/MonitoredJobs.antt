@@ -1,4 +1,4 @@
--- The monitor has nothing to report of whole jobs.
+-- The monitor finds no fault in the output of a whole job.
 use Rattle.std.proofs.Common.{◌≡◌, ℕ, List, [], None, sym, subst, arith}
 use Rattle.pes_packet.specs.AccessUnits.{AccessUnit}
 use Rattle.pes_packet.specs.Units.{units_of}
@@ -9,20 +9,20 @@ use Rattle.mux_core.specs.Headline.{UnitsKept}
 use Rattle.mux_core.specs.WholeJobs.{first_refused, capacity_for, job_history}
 use Rattle.mux_core.proofs.Accepted.{units_kept}
 use Rattle.laws_run.specs.Monitored.{IsSound, IsInTime, JobSoundLaw, JobInTimeLaw}
-use Rattle.laws_run.proofs.Driven.{StandsFor}
+use Rattle.laws_run.proofs.Driven.{IsRepresented}
 use Rattle.mux_core.proofs.JobWriting.{output_bytes}
-use Rattle.laws_run.proofs.JobLemmas.{job_stands}
+use Rattle.laws_run.proofs.JobLemmas.{job_represents}
 use Rattle.laws_run.proofs.Soundness.{sound}
 use Rattle.laws_run.proofs.InTime.{in_time}
 
-kept_of : (d : Scheduled) (capacity : ℕ) (h : History) → IsInRange d.description → StandsFor d capacity h → UnitsKept d h.units
+kept_of : (d : Scheduled) (capacity : ℕ) (h : History) → IsInRange d.description → IsRepresented d capacity h → UnitsKept d h.units
 kept_of d capacity h r w =
     subst (λ (x : Scheduled). UnitsKept x h.units) w.schedule
-    (units_kept h w.mux (subst (λ (x : Scheduled). IsInRange x.description) (sym w.schedule) r) w.stands)
+    (units_kept h w.mux (subst (λ (x : Scheduled). IsInRange x.description) (sym w.schedule) r) w.represents)
 
 pub job_kept : (d : Scheduled) (units : List (ℕ × AccessUnit)) → IsInRange d.description → first_refused d (capacity_for units) [] units ≡ None →
     UnitsKept d (λ k. units_of k units)
-job_kept d units r none = kept_of d (capacity_for units) (job_history units 0) r (job_stands d units r none)
+job_kept d units r none = kept_of d (capacity_for units) (job_history units 0) r (job_represents d units r none)
 
 pub job_sound : JobSoundLaw
 job_sound d units n r none few =

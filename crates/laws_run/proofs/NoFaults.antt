@@ -1,4 +1,4 @@
--- A run of which units come often has no fault by any rule.
+-- If units follow each other often enough, a run has no fault by any rule.
 use Rattle.std.proofs.Common.{◌≡◌, ℕ, List, [], sym, subst, ◌∙◌, arith}
 use Rattle.pes_packet.specs.Units.{units_of}
 use Rattle.slot_contents.specs.Contents.{run_bytes}
@@ -6,7 +6,7 @@ use Rattle.monitor.specs.declared.fault.Rule.TheVariants as rules
 use Rattle.monitor.specs.Faults.{packet_pids, pts_late, faults_of}
 use Rattle.mux_core.specs.Histories.{content_at}
 use Rattle.mux_core.proofs.Accepted.{units_kept}
-use Rattle.laws_run.specs.PtsSpacing.{PtsSpacingLaw, StandingPtsSpacingLaw, JobPtsSpacingLaw}
+use Rattle.laws_run.specs.PtsSpacing.{PtsSpacingLaw, AnyStatePtsSpacingLaw, JobPtsSpacingLaw}
 use Rattle.mux_core.proofs.JobWriting.{output_bytes}
 use Rattle.laws_run.proofs.MonitoredJobs.{job_kept}
 use Rattle.laws_run.proofs.LeftFaults.{none_on_each, reported}
@@ -18,8 +18,8 @@ steady d units n limit r promised kept often wide few =
     reported d units n limit r promised kept wide few
     ∙ none_on_each rules.Pts (pts_late d.description.rate bytes) (packet_pids bytes) (stamps_in_time d units n r promised kept often few)
 
-pub standing_steady : StandingPtsSpacingLaw
-standing_steady h m n limit r promised st often wide few = steady m.schedule h.units n limit r promised (units_kept h m r st) often wide (omega (arith, few))
+pub any_state_steady : AnyStatePtsSpacingLaw
+any_state_steady h m n limit r promised st often wide few = steady m.schedule h.units n limit r promised (units_kept h m r st) often wide (omega (arith, few))
 
 pub job_steady : JobPtsSpacingLaw
 job_steady d units n limit r promised none often wide few =

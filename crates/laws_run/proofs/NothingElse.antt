@@ -1,4 +1,4 @@
--- Payloads are on the PIDs of streams and tables alone, and so is what is found.
+-- Payloads and findings occur only on the PIDs of streams and tables.
 use Rattle.std.proofs.Common.{◌≡◌, ◌⊎◌, ℕ, zero, suc, ◌<◌, ◌==◌, Bool, true, false, cond, List, [], ◌∷◌, Option, Some, None, slice_get, refl, sym, ap, ◌∙◌}
 use Rattle.std.proofs.Common.{arith, All, inl, inr, eqb-true, eq-eqb}
 use Rattle.std.proofs.lemmas.Bool.{cases_Bool, eqb-false}
@@ -23,7 +23,7 @@ use Rattle.mux_core.specs.Scheduled.{Scheduled}
 use Rattle.mux_core.specs.Histories.{owned_stream, table_of, stream_in, pcr_content, table_in, content_in, content_at}
 use Rattle.laws_run.specs.GivenBack.{IsSentOn, IsOfSent}
 
--- ---- a PID of neither a stream nor a table
+-- PIDs that carry neither a stream nor a table
 
 pub record IsSilent (d : Described) (pid : ℕ) : Type 0 where
   pub streams : (k : ℕ) (s : DescribedStream) → slice_get d.streams k ≡ Some s → (s.pid == pid) ≡ false
@@ -66,7 +66,7 @@ pub all_silent : (d : Scheduled) (units : ℕ → List AccessUnit) (pid slot : �
 unfolding content_at
 all_silent d units pid slot none = slot_silent d units pid slot (slot_of d.schedule slot) none
 
--- ---- each PID is one or the other
+-- The two kinds of PIDs: with a stream or a table, and with neither
 
 abbrev StreamOn : List DescribedStream → ℕ → Type 0
 StreamOn ss pid = (k : ℕ) × (s : DescribedStream) × (slice_get ss k ≡ Some s) × (s.pid ≡ pid)
@@ -122,7 +122,7 @@ sent_or_silent d pid = elim (find_stream d.streams pid) [
   ]
 ]
 
--- ---- findings
+-- Findings
 
 abbrev Known : Described → List FindingView → Type 0
 Known d xs = (pid : ℕ) → (pid == 8191) ≡ false → IsSentOn d pid ⊎ (found_of pid xs ≡ [])
@@ -136,7 +136,7 @@ none_after x xs true e = absurd (cc)
 none_after x xs false e = e
 
 known_after : (d : Described) (x : FindingView) (xs : List FindingView) → Known d (x ∷ xs) → Known d xs
-known_after d x xs known pid told = elim (known pid told) [
+known_after d x xs known pid reported = elim (known pid reported) [
   | inl sent ↦ inl sent
   | inr none ↦ inr (none_after x (found_of pid xs) (has_pid pid x.pid) none)
 ]

@@ -1,4 +1,4 @@
--- Where something begins anew after a section, that section is put together whole, with its pointer_field before it.
+-- If another start follows a section, the decoder puts this section together whole, with its pointer_field before it.
 use Rattle.std.proofs.Common.{◌≡◌, ◌≤◌, ◌<◌, ℕ, zero, suc, ◌+◌, ◌-◌, ◌*◌, ◌/◌, Bool, true, false, List, [], ◌∷◌, ◌++◌, length, take, drop, replicate, slice_get}
 use Rattle.std.proofs.Common.{Some, All, refl, sym, ap, subst, ◌∙◌, inl, inr, arith}
 use Rattle.std.specs.List.{concat}
@@ -15,7 +15,7 @@ use Rattle.unit_queue.specs.Payloads.{marked}
 use Rattle.mux_core.specs.Decoder.{put_together, cut_thing}
 use Rattle.mux_core.proofs.PutTogether.{IsSome, all_marked, put_law, marked_length}
 
--- nothing begins within one thing
+-- The continued payloads of a section begin nothing.
 none_begins : (bs : List (List ℕ)) (rest : List Piece) (m j : ℕ) (p : Piece) → j < length bs → slice_get (take m (marked Continues bs ++ rest)) j ≡ Some p →
     is_start p.start ≡ false
 unfolding marked
@@ -41,7 +41,7 @@ short_list (q ∷ ps) zero j p is = absurd (let no : ⊥ = cc in no)
 short_list (q ∷ ps) (suc m) zero p is = omega arith
 short_list (q ∷ ps) (suc m) (suc j) p is = let rest = short_list ps m j p is in omega (arith, rest)
 
--- something begins after the first: so that one is whole
+-- If a payload after the first begins something, the first section is whole.
 pub first_whole : (c : Bool × List (List ℕ)) (cs : List (Bool × List (List ℕ))) (m j : ℕ) (p : Piece) → All IsSome (c ∷ cs) →
     slice_get (take m (all_marked (c ∷ cs))) (suc j) ≡ Some p → is_start p.start ≡ true →
     slice_get (put_together (take m (all_marked (c ∷ cs)))) 0 ≡ Some (concat c.1)
@@ -53,7 +53,7 @@ first_whole c cs m j p some is begins =
     let size = ap length (flat_map-cons cut_thing c []) ∙ length-append (marked start c.1) [] in
     put_law (c ∷ cs) c m 0 some refl (omega (arith, ends, within, size, marked_length start c.1))
 
--- ---- a section with its pointer_field
+-- A section with its pointer_field
 
 pub chunks_joined : (k : ℕ) (bytes : List ℕ) → concat (first_chunks 184 k bytes) ≡ take (184 * k) bytes
 chunks_joined zero bytes = refl
@@ -65,7 +65,7 @@ pub chunks_count : (k : ℕ) (bytes : List ℕ) → length (first_chunks 184 k b
 chunks_count zero bytes = refl
 chunks_count (suc k) bytes = ap suc (chunks_count k (drop 184 bytes))
 
--- the bytes 0xFF after it in its last packet
+-- The bytes 0xFF after a section in its last packet
 abbrev pub fill_after : List ℕ → List ℕ
 fill_after section = take (184 * ((1 + length section + 183) / 184) - 1 - length section) (replicate 184 0xFF)
 

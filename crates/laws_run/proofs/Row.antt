@@ -1,4 +1,4 @@
--- Payloads in packets one after the other on one PID, as slots.
+-- Payloads in consecutive packets on one PID, as slots.
 use Rattle.std.proofs.Common.{◌≡◌, ℕ, suc, ◌+◌, ◌%◌, ◌^◌, ◌<◌, ◌≤◌, ◌==◌, true, false, List, [], ◌∷◌, ◌++◌, length, map, Option, Some, None, slice_get, refl}
 use Rattle.std.proofs.Common.{sym, ap, ap₂, subst, ◌∙◌, arith, All, eq-eqb}
 use Rattle.std.proofs.lemmas.Bool.{false≢true}
@@ -11,12 +11,12 @@ use Rattle.description.proofs.Pids.{at_place}
 use Rattle.unit_queue.specs.Payloads.{piece_in}
 use Rattle.laws_run.specs.CarriedBack.{packets_from}
 
--- the packets of payloads, of which the first has this number
+-- The packets of payloads; the first packet has number s on its PID.
 unfoldable pub row : ℕ → ℕ → List Piece → List ℕ
 row pid s [] = []
 row pid s (p ∷ ps) = payload_packet pid p.start (s % 16) p.bytes ++ row pid (suc s) ps
 
--- the same as slots: slot s has payload number s
+-- The same packets as slots: slot s has payload number s.
 unfoldable pub piece_content : ℕ → ℕ → Option Piece → Content
 piece_content pid s None = NullContent
 piece_content pid s (Some p) = PayloadContent pid s p.start p.bytes
@@ -24,7 +24,7 @@ piece_content pid s (Some p) = PayloadContent pid s p.start p.bytes
 abbrev pub row_content : ℕ → List Piece → ℕ → Content
 row_content pid ps s = piece_content pid s (slice_get ps s)
 
--- ---- each can be a packet
+-- Payloads that fit their packets
 
 abbrev pub PieceFits : Piece → Type 0
 PieceFits p = (0 < length p.bytes) × (length p.bytes ≤ room_of p.start)
@@ -37,7 +37,7 @@ row_fits pid ps low h s = by (slice_get ps s) refl
     by None e = tt
     by (Some p) e = let fits = at_place PieceFits ps s p h e in (low, fits.0, fits.1)
 
--- ---- slot by slot; `qs` are the payloads from slot s on
+-- The payloads of each slot; `qs` are the payloads from slot s on
 
 abbrev IsRest : List Piece → ℕ → List Piece → Type 0
 IsRest ps s qs = (i : ℕ) → slice_get ps (s + i) ≡ slice_get qs i
@@ -92,7 +92,7 @@ row_numbered_from pid ps s (q ∷ qs) h =
     subst (λ (c : Content). NumberedBy pid c s (Numbered pid (row_content pid ps) (suc s) (length qs))) (sym (here pid ps s q qs h))
     (λ t. (refl, rest), λ f. absurd (false≢true (sym f ∙ y)))
 
--- ---- from slot 0 on
+-- The payloads from slot 0 on
 
 all_rest : (ps : List Piece) → IsRest ps 0 ps
 all_rest ps i = let z : 0 + i ≡ i = omega arith in ap (slice_get ps) z
@@ -114,6 +114,6 @@ unfolding piece_content
 other_silent pid other s None n = refl
 other_silent pid other s (Some p) n = rw n refl
 
--- nothing on another PID
+-- A row has no payload on another PID.
 pub row_silent : (pid other s : ℕ) (ps : List Piece) → (pid == other) ≡ false → payload_in other s (row_content pid ps s) ≡ []
 row_silent pid other s ps n = other_silent pid other s (slice_get ps s) n

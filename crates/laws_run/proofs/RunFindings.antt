@@ -1,4 +1,4 @@
--- The finished bytes of a run give back what was sent.
+-- A demultiplexer gives back from the finished bytes of a run what was sent.
 use Rattle.std.proofs.Common.{◌≡◌, ◌⊎◌, ℕ, ◌-◌, ◌^◌, ◌<◌, ◌==◌, false, IsTrue, List, [], ◌∷◌, length, map, Some, slice_get, ap, ◌∙◌, arith, All, inl, inr}
 use Rattle.std.proofs.lemmas.List.Elements.{All-nil, All-cons, All-head, All-tail}
 use Rattle.own_slots.specs.Slots.{own_slots}
@@ -35,14 +35,14 @@ use Rattle.mux_core.proofs.TablesRead.{table_alone}
 use Rattle.mux_core.proofs.Whole.{contents_fit}
 use Rattle.mux_core.proofs.Accepted.{units_kept}
 use Rattle.laws_run.specs.Distinguishable.{IsDistinguishable}
-use Rattle.laws_run.specs.GivenBack.{stream_findings, table_findings, IsSentOn, GivenBackLaw, StandingLaw}
+use Rattle.laws_run.specs.GivenBack.{stream_findings, table_findings, IsSentOn, GivenBackLaw, AnyStateLaw}
 use Rattle.laws_run.proofs.UnitPlaces.{units_are_placed}
 use Rattle.laws_run.proofs.SectionPlaces.{sections_are_placed}
 use Rattle.laws_run.proofs.DistinguishableSections.{section_distinguishable, rounds_all}
 use Rattle.laws_run.proofs.NothingElse.{IsSilent, all_silent, sent_or_silent, all_sent}
 use Rattle.mux_core.proofs.TablesRead.{there as kind_there}
 
--- ---- the premises of the laws on one PID
+-- The premises of the laws on one PID
 
 pub is_run : (d : Scheduled) (units : ℕ → List AccessUnit) (n : ℕ) → IsInRange d.description → UnitsKept d units → n < 2 ^ 64 - 1 → IsRun n (content_at d units)
 is_run d units n r kept few = record { fits = contents_fit d units r kept; few = few }
@@ -73,7 +73,7 @@ has_places d t r lt = (sections_law d.description t r lt).2
 pub has_room : (d : Scheduled) (t : ℕ) → IsInRange d.description → HasRoom (table_of d t)
 has_room d t r j moment within = table_bytes_fit d.description t j moment r within
 
--- ---- stream by stream and table by table
+-- The findings of each stream and each table
 
 stream_back : (d : Scheduled) (units : ℕ → List AccessUnit) (n k : ℕ) (s : DescribedStream) → IsInRange d.description → UnitsKept d units → n < 2 ^ 64 - 1 →
     slice_get d.description.streams k ≡ Some s → found_on s.pid (run_bytes (content_at d units) 0 n) ≡ stream_findings d units n k s
@@ -86,27 +86,27 @@ stream_back d units n k s r kept few is =
 table_back : (d : Scheduled) (units : ℕ → List AccessUnit) (n t : ℕ) → IsInRange d.description → UnitsKept d units → n < 2 ^ 64 - 1 →
     t < table_count d.description →
     IsDistinguishable d.description t → found_on (table_pid d.description t) (run_bytes (content_at d units) 0 n) ≡ table_findings d n t
-table_back d units n t r kept few lt told =
+table_back d units n t r kept few lt reported =
     let alone = one_table d units t r kept lt in
     let given : All IsRecognized (sections_of_rounds (table_of d t) n) =
     rounds_all IsRecognized (table_of d t) (own_slots (starts (table_of d t).own (round_places (table_of d t).lengths) 0) 0 n)
-    (λ j moment within. section_distinguishable d.description t j moment r lt told within) in
+    (λ j moment within. section_distinguishable d.description t j moment r lt reported within) in
     tables_come_back (table_of d t) n (content_at d units) (is_run d units n r kept few) alone (has_places d t r lt) (has_room d t r) given
     ∙ ap (λ (sent : List (Sending (List ℕ))). map (with_pid_at (table_pid d.description t)) (each_found section_found n sent))
     (sections_are_placed (table_of d t) n (content_at d units) alone)
 
--- ---- the whole
+-- The findings of the whole run
 
 pub silent_back : (d : Scheduled) (units : ℕ → List AccessUnit) (n pid : ℕ) → IsRun n (content_at d units) → (pid == 8191) ≡ false →
     IsSilent d.description pid →
     found_on pid (run_bytes (content_at d units) 0 n) ≡ []
-silent_back d units n pid run told none = nothing_comes_back pid n (content_at d units) run told (λ t lt. all_silent d units pid t none)
+silent_back d units n pid run reported none = nothing_comes_back pid n (content_at d units) run reported (λ t lt. all_silent d units pid t none)
 
 known : (d : Scheduled) (units : ℕ → List AccessUnit) (n : ℕ) → IsRun n (content_at d units) → (pid : ℕ) → (pid == 8191) ≡ false →
     IsSentOn d.description pid ⊎ (found_of pid (all_found (run_bytes (content_at d units) 0 n)) ≡ [])
-known d units n run pid told = elim (sent_or_silent d.description pid) [
+known d units n run pid reported = elim (sent_or_silent d.description pid) [
   | inl sent ↦ inl sent
-  | inr none ↦ inr (silent_back d units n pid run told none)
+  | inr none ↦ inr (silent_back d units n pid run reported none)
 ]
 
 pub given_back : GivenBackLaw
@@ -114,10 +114,10 @@ given_back d units n r kept few =
     let run = is_run d units n r kept few in
     record {
       streams = λ k s is. stream_back d units n k s r kept few is;
-      tables = λ t lt told. table_back d units n t r kept few lt told;
+      tables = λ t lt reported. table_back d units n t r kept few lt reported;
       nothing_else = all_sent d.description (all_found (run_bytes (content_at d units) 0 n)) (all_is_of_pids n (content_at d units) run) (known d units n run);
       in_order = found_in_order n (content_at d units) run;
     }
 
-pub standing : StandingLaw
-standing h m n r st few = given_back m.schedule h.units n r (units_kept h m r st) (omega (arith, few))
+pub any_state : AnyStateLaw
+any_state h m n r st few = given_back m.schedule h.units n r (units_kept h m r st) (omega (arith, few))

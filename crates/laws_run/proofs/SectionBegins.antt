@@ -1,4 +1,4 @@
--- Where the sections of a table begin, as the monitor finds it: in the packets with the start indicator.
+-- The monitor finds that a table's sections begin in the packets with the start indicator.
 use Rattle.std.proofs.Common.{◌≡◌, ℕ, zero, suc, ◌+◌, ◌*◌, ◌==◌, ◌&&◌, nat_le, Bool, true, false, cond, List, [], ◌∷◌, ◌++◌, length, map, filter, take, Some}
 use Rattle.std.proofs.Common.{slice_get, refl, sym, ap, subst, ◌∙◌, All, inl, inr, eq-eqb}
 use Rattle.std.specs.Prelude.{slice_index}
@@ -23,16 +23,16 @@ use Rattle.laws_pid.proofs.SendingPackets.{parted}
 use Rattle.laws_pid.proofs.FoundInRun.{piece_lists, same_length}
 use Rattle.laws_pid.proofs.FoundInRun.{index_lists}
 
--- ---- the findings have the same begins
+-- The same begins, in the findings of the whole stream
 
-abbrev pub told_begins : ℕ → List FindingView → List ℕ
-told_begins id found = filter_map (λ f. table_begin id f.begun) found
+abbrev pub reported_begins : ℕ → List FindingView → List ℕ
+reported_begins id found = filter_map (λ f. table_begin id f.begun) found
 
-pub begins_told : (id pid : ℕ) (xs : List PidFinding) → told_begins id (map (with_pid_at pid) xs) ≡ table_begins id xs
-begins_told id pid [] = refl
-begins_told id pid (x ∷ xs) = let rest = begins_told id pid xs in rw rest refl
+pub begins_reported : (id pid : ℕ) (xs : List PidFinding) → reported_begins id (map (with_pid_at pid) xs) ≡ table_begins id xs
+begins_reported id pid [] = refl
+begins_reported id pid (x ∷ xs) = let rest = begins_reported id pid xs in rw rest refl
 
--- ---- of sections that are sent
+-- The begins of sent sections
 
 abbrev starts_of : List Payload → List ℕ
 starts_of ps = map (λ p. p.index) (filter (λ p. is_start p.start) ps)
@@ -57,7 +57,7 @@ one_begin id e text filled (i ∷ is) found rest same h =
     let here = begin_is id e text i is same in
     rw here (ap (λ (l : List ℕ). i ∷ l) (h ∙ sym (none_more _ is rest)))
 
--- no decoder begins with a section
+-- A section is never a point at which a decoder can start.
 abbrev section_start : List ℕ → Start
 section_start section = Begins
 
@@ -70,7 +70,7 @@ sent_begins id n (text ∷ texts) packets h =
     one_begin id _ text (filled_section text) _ _ _ (All-head (λ (t : List ℕ). slice_index t 0 ≡ id) text texts h)
     (sent_begins id n texts _ (All-tail (λ (t : List ℕ). slice_index t 0 ≡ id) text texts h))
 
--- ---- in the packets of a PID
+-- The begins in the packets of a PID
 
 pub starts_in : List Entry → List ℕ
 starts_in es = map (λ e. e.index) (filter (λ e. e.packet.header.payload_unit_start_indicator) es)
@@ -85,7 +85,7 @@ start_lists (e ∷ es) =
       | inr n ↦ let begins : is_start (start_in e.packet) ≡ false = start_indicated e.packet ∙ n in rw (begins, n, rest) refl
     ]
 
--- a section begins in the packet of this slot
+-- A section begins in the packet of this slot.
 abbrev pub begun : ℕ → (ℕ → Content) → ℕ → Bool
 begun pid content s = is_of_pid pid (view_of (content s)) && (view_of (content s)).header.payload_unit_start_indicator
 
@@ -99,7 +99,7 @@ start_slots pid content s (suc n) =
       | inr k ↦ rw (k, rest) refl
     ]
 
--- a packet of the list is that of its slot
+-- The slot of a listed packet with the start indicator begins a section.
 pub entry_there : (pid : ℕ) (content : ℕ → Content) (s n k : ℕ) (e : Entry) → slice_get (entries_in pid content s n) k ≡ Some e →
     e.packet.header.payload_unit_start_indicator ≡ true → begun pid content e.index ≡ true
 unfolding entries_in
@@ -121,13 +121,13 @@ entry_there pid content s (suc n) k e is start =
         let there : begun pid content s ≡ true = rw (y, here) refl in
         subst (λ (t : ℕ). begun pid content t ≡ true) slot there
 
--- all begins that the monitor finds, if the findings are these sections
+-- The slots of all begins that the monitor finds, if its findings are these sections
 pub begin_slots : (id pid n : ℕ) (content : ℕ → Content) (texts : List (List ℕ)) (found : List PidFinding) →
     pid_list pid (run_bytes content 0 n) ≡ entries_in pid content 0 n → CarriesPieces pid (run_bytes content 0 n) (flat_map section_pieces texts) →
     All (λ text. slice_index text 0 ≡ id) texts →
     map (with_pid_at pid) found ≡ map (with_pid_at pid) (each_found section_found n (sendings section_packets texts (packets_on pid (run_bytes content 0 n)))) →
     table_begins id found ≡ own_slots (begun pid content) 0 n
-begin_slots id pid n content texts found listed c ids told =
+begin_slots id pid n content texts found listed c ids reported =
     let es : List Entry = pid_list pid (run_bytes content 0 n) in
     let ps : List Payload = map payload_at es in
     let on : List ℕ = map (λ e. e.index) es in
@@ -136,5 +136,6 @@ begin_slots id pid n content texts found listed c ids told =
     parted section_start filled_section section_packets texts ps (piece_lists es ∙ c.payloads ∙ ap (λ (m : ℕ). take m pieces) (same_length es)) in
     let sent : ps ≡ sent_payloads section_start filled_section (sendings section_packets texts on) =
     are ∙ ap (λ (is : List ℕ). sent_payloads section_start filled_section (sendings section_packets texts is)) (index_lists es) in
-    sym (begins_told id pid found) ∙ ap (told_begins id) told ∙ begins_told id pid (each_found section_found n (sendings section_packets texts on))
+    sym (begins_reported id pid found) ∙ ap (reported_begins id) reported
+    ∙ begins_reported id pid (each_found section_found n (sendings section_packets texts on))
     ∙ sent_begins id n texts on ids ∙ ap starts_of (sym sent) ∙ start_lists es ∙ ap starts_in listed ∙ start_slots pid content 0 n

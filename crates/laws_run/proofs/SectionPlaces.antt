@@ -1,4 +1,4 @@
--- The packets of a table's PID are those of its sections, and each section is distinguishable or at least whole.
+-- The packets of a table's PID carry its sections in the table's own slots.
 use Rattle.std.proofs.Common.{◌≡◌, ℕ, cond, List, [], ◌∷◌, ◌++◌, map, filter, Option, Some, None, refl, ap, ◌∙◌}
 use Rattle.std.specs.Prelude.{is_some}
 use Rattle.std.specs.List.{flat_map}

@@ -1,4 +1,4 @@
--- Sections of NIT, SDT, EIT and TDT begin in time once they have begun.
+-- Sections of NIT, SDT, EIT and TDT begin in time after the first section.
 use Rattle.std.proofs.Common.{◌≡◌, ℕ, ◌-◌, ◌*◌, ◌^◌, ◌<◌, ◌≤◌, ◌==◌, false, List, [], ◌∷◌, map, slice_get, Option, None, Some, refl, sym, ap, subst, ◌∙◌, arith}
 use Rattle.std.proofs.Common.{All, inl, inr, append-nil, ne_eqb}
 use Rattle.std.specs.Option.{option_to_list}
@@ -27,17 +27,17 @@ use Rattle.laws_run.proofs.TablesWritten.{IsMade, at_most_one}
 use Rattle.mux_core.proofs.TablesRead.{there as kind_there}
 use Rattle.laws_run.proofs.NothingElse.{IsSilent, sent_or_silent}
 use Rattle.laws_run.proofs.RunFindings.{is_run, silent_back}
-use Rattle.laws_run.proofs.Soundness.{as_told}
-use Rattle.laws_run.proofs.SectionBegins.{told_begins, begins_told}
+use Rattle.laws_run.proofs.Soundness.{as_reported}
+use Rattle.laws_run.proofs.SectionBegins.{reported_begins, begins_reported}
 use Rattle.laws_run.proofs.TableIds.{table_id_of}
 use Rattle.laws_run.proofs.TablesRecur.{made_in_time}
 
--- ---- what is on a PID below 32
+-- The tables on PIDs below 32
 
 abbrev pub IsLow : ℕ → Type 0
 IsLow pid = (0 < pid) × (pid < 32)
 
--- a table of this kind has this table_id, and a limit that is no greater
+-- A table of this kind has this table_id and at most this limit.
 record Suits (d : Described) (id limit : ℕ) (k : TableKind) : Type 0 where
   made : IsMade k
   table_id : table_id_of k ≡ id
@@ -58,7 +58,7 @@ pub stream_higher : (d : Described) (pid k : ℕ) (s : DescribedStream) → IsIn
 stream_higher d pid k s r low is e = let most = low.1 in let least : 32 ≤ s.pid = (at_place IsStream d.streams k s r.streams is).pid.low in
     omega (arith, most, least, e)
 
--- only one of the four kinds is there
+-- Each of these PIDs carries a single kind of table: NIT, SDT, EIT or TDT.
 pub kind_on : (P : TableKind → Type 0) (d : Described) (pid : ℕ) (k : TableKind) → IsInRange d → IsLow pid → kind_pid d k ≡ pid →
     (0x10 ≡ pid → P Nit) → (0x11 ≡ pid → P Sdt) → (0x12 ≡ pid → P Eit) → (0x14 ≡ pid → P Tdt) → P k
 kind_on P d pid Pat r low e nit sdt eit tdt = let some = low.0 in absurd (omega (arith, some, e))
@@ -73,9 +73,9 @@ kind_on P d pid (Private i) r low e nit sdt eit tdt =
     let o : Option DescribedTable = slice_get d.tables i in
     absurd (table_higher pid o low (at_most_one IsTable d.tables i o r.tables refl) e)
 
--- ---- a PID with a table, and one without
+-- PIDs with a table, and PIDs without a table
 
--- what comes after the first is not late by itself
+-- If no place is late, the places after the first are not late either.
 first_dropped : (rate limit p : ℕ) (places : List ℕ) → late rate limit (p ∷ places) ≡ [] → late rate limit places ≡ []
 first_dropped rate limit p [] h = refl
 first_dropped rate limit p (q ∷ places) h = elim (cases_Bool (is_long (limit * rate) (q - p))) [
@@ -105,11 +105,11 @@ silent_in_time d units n pid id limit r kept few low none =
     let size = run_length (content_at d units) 0 n (contents_fit d units r kept) in
     let most = low.1 in
     let no_null : (pid == 8191) ≡ false = ne_eqb pid 8191 (λ e. omega (arith, e, most)) in
-    let told : map (with_pid_at pid) (found_on pid bytes) ≡ [] =
-    sym (as_told pid bytes no_null (omega (arith, size, few))) ∙ silent_back d units n pid (is_run d units n r kept few) no_null none in
-    ap (late d.description.rate limit) (sym (begins_told id pid (found_on pid bytes)) ∙ ap (told_begins id) told)
+    let reported : map (with_pid_at pid) (found_on pid bytes) ≡ [] =
+    sym (as_reported pid bytes no_null (omega (arith, size, few))) ∙ silent_back d units n pid (is_run d units n r kept few) no_null none in
+    ap (late d.description.rate limit) (sym (begins_reported id pid (found_on pid bytes)) ∙ ap (reported_begins id) reported)
 
--- ---- PID by PID
+-- Each PID
 
 pid_in_time : (d : Scheduled) (units : ℕ → List AccessUnit) (n pid id limit : ℕ) → IsInRange d.description → Promised d.description d.schedule →
     UnitsKept d units →

@@ -1,4 +1,4 @@
--- From any packet on, places among which are all of some own slots that recur within a limit are never late.
+-- From any packet on, begins that include all own slots, if these slots recur within a limit, are never late.
 use Rattle.std.proofs.Common.{◌≡◌, ℕ, zero, suc, ◌+◌, ◌-◌, ◌*◌, ◌≤◌, ◌<◌, nat_lt, Bool, true, false, List, [], ◌∷◌, ◌++◌, filter, refl, ap, subst, ◌∙◌, arith}
 use Rattle.std.proofs.Common.{inl, inr, le-ltb, lt-ltb}
 use Rattle.std.proofs.lemmas.Bool.{cases_Bool, cases_lt}
@@ -8,7 +8,7 @@ use Rattle.monitor.specs.Gaps.{late}
 use Rattle.laws_run.proofs.Lateness.{short_gap}
 use Rattle.laws_run.proofs.Between.{begins_of, between}
 
--- ---- the own slots after a slot recur from the last one up to it, or from the begin
+-- The own slots after slot s recur, counted from the last own slot up to s or from the begin of the run
 
 record After (rate least until : ℕ) (own : ℕ → Bool) (s m : ℕ) : Type 0 where
   last : ℕ
@@ -40,7 +40,7 @@ all_after rate least until o s (suc k) (suc n) m t own e f le h =
     let passed = first.passed in
     all_after rate least until first.last (suc s) k n m t own (omega (arith, e)) (omega (arith, f)) (omega (arith, passed)) first.recur
 
--- ---- the places after a slot
+-- The places after a slot
 
 all_kept : (begun : ℕ → Bool) (since s m : ℕ) → since < s → filter (λ t. nat_lt since t) (own_slots begun s m) ≡ own_slots begun s m
 unfolding own_slots
@@ -71,7 +71,7 @@ none_kept begun since s (suc m) le =
     let here : nat_lt since s ≡ false = le-ltb since s (omega (arith, le)) in
     elim (cases_Bool (begun s)) [ inl y ↦ rw (y, here) rest | inr n ↦ rw n rest ]
 
--- ---- from this packet to the end
+-- From a packet to the end of the run
 
 pub since_in_time : (rate least limit since n : ℕ) (own begun : ℕ → Bool) → least ≤ limit → ((t : ℕ) → t < n → own t ≡ true → begun t ≡ true) →
     Recur rate least 0 (begins_of (own_slots own 0 n)) (188 * n) →

@@ -1,4 +1,4 @@
--- The monitor finds nothing wrong with the packets of a run, nor with what is found in them.
+-- The monitor finds no fault in the packets of a run, nor in their contents.
 use Rattle.std.proofs.Common.{◌≡◌, ℕ, zero, suc, ◌+◌, ◌-◌, ◌*◌, ◌/◌, ◌%◌, ◌^◌, ◌<◌, ◌==◌, Bool, false, List, [], ◌∷◌, ◌++◌, length, map, Some, None, Result, Ok}
 use Rattle.std.proofs.Common.{refl, sym, ap, subst, ◌∙◌, arith, All, inl, inr, if◌then◌else◌}
 use Rattle.std.specs.List.{enumerate_from}
@@ -25,14 +25,14 @@ use Rattle.monitor.specs.Rules.{packet_rule, finding_rule, failing}
 use Rattle.monitor.specs.Begins.{found_on}
 use Rattle.monitor.specs.Faults.{packet_faults, cut_faults, finding_faults}
 use Rattle.laws_pid.specs.Clean.{is_fault, IsClean as IsFaultless}
-use Rattle.laws_pid.specs.Laws.{found_on as told_on}
+use Rattle.laws_pid.specs.Laws.{found_on as reported_on}
 use Rattle.mux_core.specs.Histories.{content_at}
 use Rattle.mux_core.proofs.Accepted.{units_kept}
 use Rattle.mux_core.proofs.Whole.{contents_fit}
-use Rattle.laws_run.specs.Monitored.{SoundLaw, StandingSoundLaw}
+use Rattle.laws_run.specs.Monitored.{SoundLaw, AnyStateSoundLaw}
 use Rattle.laws_run.proofs.Faultless.{pid_clean}
 
--- ---- packets
+-- Packets
 
 unflagged : (i : ℕ) (c : Content) → failing None i (packet_rule (Ok (view_of c))) ≡ []
 unfolding packet_rule failing view_of
@@ -43,7 +43,7 @@ unflagged i NullContent = refl
 one_sound : (i : ℕ) (c : Content) → ContentFits c → failing None i (packet_rule (packet_at (packet_of c))) ≡ []
 one_sound i c fits = ap (λ (r : Result PacketView PacketError). failing None i (packet_rule r)) (content_again c fits).read ∙ unflagged i c
 
--- the faults of one packet that is numbered
+-- The faults of one numbered packet
 abbrev faults_at : ℕ × List ℕ → List StreamFault
 faults_at p = failing None p.0 (packet_rule (packet_at p.1))
 
@@ -58,13 +58,13 @@ packets_sound content s (suc n) i fits =
     ∙ ap (λ (fs : List StreamFault). fs ++ packet_faults rest) (one_sound i (content s) (fits s))
     ∙ packets_sound content (suc s) n (i + 1) fits
 
--- the last packet is whole
+-- The last packet is whole.
 none_cut : (bytes : List ℕ) (n : ℕ) → length bytes ≡ 188 * n → cut_faults bytes ≡ []
 none_cut bytes n size =
     let rest : length bytes % 188 ≡ 0 = omega (arith, size) in
     rw rest refl
 
--- ---- findings
+-- Findings
 
 no_rule : (what : WhatView) → is_fault what ≡ false → finding_rule what ≡ None
 unfolding finding_rule
@@ -80,7 +80,7 @@ no_rule (IsBadPacket error) h = refl
 no_rule IsErrored h = refl
 no_rule (IsStray size) h = refl
 
--- the faults of one finding
+-- The faults of one finding
 abbrev faults_of_one : ℕ → PidFinding → List StreamFault
 faults_of_one pid at = failing (Some pid) at.packet (finding_rule at.found.what)
 
@@ -96,21 +96,21 @@ findings_fine pid (x ∷ xs) h =
     (one_fine pid x.packet x.found.what (All-head IsFaultless (with_pid_at pid x) (map (with_pid_at pid) xs) h))
     ∙ findings_fine pid xs (All-tail IsFaultless (with_pid_at pid x) (map (with_pid_at pid) xs) h)
 
--- the monitor's findings of a PID are those that a demultiplexer tells
-pub as_told : (pid : ℕ) (bytes : List ℕ) → (pid == 8191) ≡ false → length bytes / 188 < 2 ^ 64 - 1 →
-    told_on pid bytes ≡ map (with_pid_at pid) (found_on pid bytes)
-as_told pid bytes told few =
-    let same : found_on pid bytes ≡ findings_to_end (length bytes / 188) (pid_list pid bytes) = rw told refl in
-    (each_pid_alone pid bytes told few).1 ∙ ap (map (with_pid_at pid)) (sym same)
+-- The monitor's findings of a PID are a demultiplexer's findings on this PID.
+pub as_reported : (pid : ℕ) (bytes : List ℕ) → (pid == 8191) ≡ false → length bytes / 188 < 2 ^ 64 - 1 →
+    reported_on pid bytes ≡ map (with_pid_at pid) (found_on pid bytes)
+as_reported pid bytes reported few =
+    let same : found_on pid bytes ≡ findings_to_end (length bytes / 188) (pid_list pid bytes) = rw reported refl in
+    (each_pid_alone pid bytes reported few).1 ∙ ap (map (with_pid_at pid)) (sym same)
 
-pid_sound : (pid : ℕ) (bytes : List ℕ) → length bytes / 188 < 2 ^ 64 - 1 → ((pid == 8191) ≡ false → All IsFaultless (told_on pid bytes)) →
+pid_sound : (pid : ℕ) (bytes : List ℕ) → length bytes / 188 < 2 ^ 64 - 1 → ((pid == 8191) ≡ false → All IsFaultless (reported_on pid bytes)) →
     finding_faults pid (found_on pid bytes) ≡ []
 pid_sound pid bytes few clean = elim (cases_Bool (pid == 8191)) [
   | inl y ↦ ap (λ (b : Bool). finding_faults pid (if b then [] else findings_to_end (length bytes / 188) (pid_list pid bytes))) y
-  | inr told ↦ findings_fine pid (found_on pid bytes) (subst (All IsFaultless) (as_told pid bytes told few) (clean told))
+  | inr reported ↦ findings_fine pid (found_on pid bytes) (subst (All IsFaultless) (as_reported pid bytes reported few) (clean reported))
 ]
 
--- ---- the laws
+-- The laws
 
 pub sound : SoundLaw
 sound d units n r kept few =
@@ -124,5 +124,5 @@ sound d units n r kept few =
       findings = λ pid. pid_sound pid bytes (omega (arith, count, few)) (pid_clean d units n r kept few pid);
     }
 
-pub standing_sound : StandingSoundLaw
-standing_sound h m n r st few = sound m.schedule h.units n r (units_kept h m r st) (omega (arith, few))
+pub any_state_sound : AnyStateSoundLaw
+any_state_sound h m n r st few = sound m.schedule h.units n r (units_kept h m r st) (omega (arith, few))

@@ -28,7 +28,7 @@ use Rattle.unit_queue.proofs.Leftover.{text_some, count_some, first_free, first_
 use Rattle.monitor.specs.Gaps.{late}
 use Rattle.monitor.specs.Begins.{found_on, pts_begins}
 use Rattle.monitor.specs.Faults.{pts_late}
-use Rattle.laws_pid.specs.Laws.{found_on as told_on}
+use Rattle.laws_pid.specs.Laws.{found_on as reported_on}
 use Rattle.mux_core.specs.Scheduled.{Scheduled}
 use Rattle.mux_core.specs.Histories.{owned_stream, table_of, content_at}
 use Rattle.mux_core.specs.Headline.{UnitsKept}
@@ -39,13 +39,13 @@ use Rattle.laws_run.specs.PtsSpacing.{FollowSoon, ComeOften, HasPtsSpacing}
 use Rattle.laws_run.proofs.Lateness.{short_gap}
 use Rattle.laws_run.proofs.NothingElse.{sent_or_silent}
 use Rattle.laws_run.proofs.RunFindings.{is_run, silent_back, given_back}
-use Rattle.laws_run.proofs.Soundness.{as_told}
-use Rattle.laws_run.proofs.UnitHeads.{head_in, heads, told_stamps, stamps_told, unit_heads, no_heads}
+use Rattle.laws_run.proofs.Soundness.{as_reported}
+use Rattle.laws_run.proofs.UnitHeads.{head_in, heads, reported_stamps, stamps_reported, unit_heads, no_heads}
 use Rattle.laws_run.proofs.UnitsTimely.{IsCarried, from_release, reached, Timely, timely}
 
--- ---- units one after another
+-- The units of a stream in order
 
--- where all slots are taken none begins
+-- If all slots are taken, no unit begins.
 no_more : (l : OwnedStream) (free : ℕ) (us : List AccessUnit) (slots : List ℕ) → length slots ≤ free → heads (units_placed l free us slots) ≡ []
 unfolding heads units_placed
 no_more l free [] slots le = refl
@@ -60,13 +60,13 @@ no_more l free (u ∷ us) slots le =
     take_none zero = refl
     take_none (suc n) = refl
 
--- a unit with packets of which none is sent has no slots left
+-- If a unit has packets but none is sent, no slots are left for it.
 none_sent : (count b : ℕ) (slots : List ℕ) → 0 < count → take count (drop b slots) ≡ [] → length slots ≤ b
 none_sent count b slots some e =
     let size : length (take count (drop b slots)) ≡ 0 = ap length e in
     omega (arith, size, some, length-take count (drop b slots), length-drop b slots)
 
--- the slot in which a unit begins is not before its release
+-- A unit begins in a slot that is not before its release.
 begins_released : (l : OwnedStream) (n free s : ℕ) (u : AccessUnit) (more : List ℕ) →
     take (packet_count l u) (drop (first_slot l free u) (own_slots l.own 0 n)) ≡ s ∷ more →
     u.dts * l.parameters.rate ≤ s * 135360000 + l.parameters.lead * l.parameters.rate
@@ -79,7 +79,7 @@ begins_released l n free s u more e =
     All-take (λ t. from ≤ t) (packet_count l u) (drop b slots) (from_release l.own from 0 n b (omega (arith, released))) in
     reached l.parameters.rate l.parameters.lead u.dts s (All-head (λ t. from ≤ t) s more (subst (All (λ t. from ≤ t)) e all))
 
--- from a unit sent as early as may be to the next, sent as late as may be
+-- The gap between two units is at most 700 ms, even if the first is sent as early as possible and the second as late as possible.
 gap_of : (rate lead before dts p s : ℕ) → before * rate ≤ p * 135360000 + lead * rate → s * 135360000 ≤ dts * rate → dts + lead ≤ before + 63000 →
     (s - p) * 1504000 ≤ 700 * rate
 gap_of rate lead before dts p s early late soon =
@@ -97,7 +97,7 @@ timely_first l n free s u more e all =
 abbrev TimelyFrom : OwnedStream → ℕ → ℕ → List AccessUnit → Type 0
 TimelyFrom l n free us = Timely l.own l.parameters.rate l.parameters.lead free (map (timed l) us) (own_slots l.own 0 n)
 
--- the units after this one, if it begins at all
+-- If a unit begins in slot s, the units after it are not late.
 abbrev HeadsAfter : OwnedStream → ℕ → ℕ → AccessUnit → List AccessUnit → ℕ → Type 0
 HeadsAfter l n free u us s = late l.parameters.rate 700 (s ∷ heads (units_placed l (end_slot l free u) us (own_slots l.own 0 n))) ≡ []
 
@@ -138,13 +138,14 @@ heads_often l n (u ∷ us) often time =
         rw none refl
     by (s ∷ more) e = heads_follow l n (end_slot l 0 u) s u.dts us (begins_released l n 0 s u more e) often time.1
 
--- ---- PID by PID
+-- Each PID
 
--- what is told of a PID decides
-by_told : (rate pid : ℕ) (bytes places : List ℕ) → (pid == 8191) ≡ false → length bytes / 188 < 2 ^ 64 - 1 → told_stamps (told_on pid bytes) ≡ places →
+-- The findings of the whole stream on a PID determine whether its PTS are late.
+by_reported : (rate pid : ℕ) (bytes places : List ℕ) → (pid == 8191) ≡ false → length bytes / 188 < 2 ^ 64 - 1 →
+    reported_stamps (reported_on pid bytes) ≡ places →
     late rate 700 places ≡ [] → pts_late rate bytes pid ≡ []
-by_told rate pid bytes places told few are none =
-    ap (late rate 700) (sym (stamps_told pid (found_on pid bytes)) ∙ ap told_stamps (sym (as_told pid bytes told few)) ∙ are) ∙ none
+by_reported rate pid bytes places reported few are none =
+    ap (late rate 700) (sym (stamps_reported pid (found_on pid bytes)) ∙ ap reported_stamps (sym (as_reported pid bytes reported few)) ∙ are) ∙ none
 
 all_carried : (l : OwnedStream) (us : List AccessUnit) → All IsCarried (map (timed l) us)
 all_carried l [] = All-nil IsCarried
@@ -169,18 +170,18 @@ sent_in_time : (d : Scheduled) (units : ℕ → List AccessUnit) (n pid : ℕ) �
     HasPtsSpacing d units → n < 2 ^ 64 - 1 → (pid == 8191) ≡ false → length (run_bytes (content_at d units) 0 n) / 188 < 2 ^ 64 - 1 →
     IsSentOn d.description pid →
     pts_late d.description.rate (run_bytes (content_at d units) 0 n) pid ≡ []
-sent_in_time d units n pid r promised kept steady few told count (inl (k, s, is, same)) =
+sent_in_time d units n pid r promised kept steady few reported count (inl (k, s, is, same)) =
     let bytes : List ℕ = run_bytes (content_at d units) 0 n in
     let back = (given_back d units n r kept few).streams k s is in
-    by_told d.description.rate pid bytes (heads (sent_units (owned_stream d k s) n (units k))) told count
-    (ap (λ (q : ℕ). told_stamps (told_on q bytes)) (sym same) ∙ ap told_stamps back ∙ stamps_told s.pid _
+    by_reported d.description.rate pid bytes (heads (sent_units (owned_stream d k s) n (units k))) reported count
+    (ap (λ (q : ℕ). reported_stamps (reported_on q bytes)) (sym same) ∙ ap reported_stamps back ∙ stamps_reported s.pid _
     ∙ unit_heads s.stream_id d.description.base0 n (sent_units (owned_stream d k s) n (units k)))
     (stream_in_time d units n k s r promised kept (steady.streams k s is) is)
-sent_in_time d units n pid r promised kept steady few told count (inr (t, lt, same)) =
+sent_in_time d units n pid r promised kept steady few reported count (inr (t, lt, same)) =
     let bytes : List ℕ = run_bytes (content_at d units) 0 n in
     let back = (given_back d units n r kept few).tables t lt (steady.tables t lt) in
-    by_told d.description.rate pid bytes [] told count
-    (ap (λ (q : ℕ). told_stamps (told_on q bytes)) (sym same) ∙ ap told_stamps back ∙ stamps_told (table_pid d.description t) _
+    by_reported d.description.rate pid bytes [] reported count
+    (ap (λ (q : ℕ). reported_stamps (reported_on q bytes)) (sym same) ∙ ap reported_stamps back ∙ stamps_reported (table_pid d.description t) _
     ∙ no_heads n (sent_sections (table_of d t) n))
     refl
 
@@ -188,11 +189,11 @@ pub stamps_in_time : (d : Scheduled) (units : ℕ → List AccessUnit) (n : ℕ)
     HasPtsSpacing d units → n < 2 ^ 64 - 1 → (pid : ℕ) → pts_late d.description.rate (run_bytes (content_at d units) 0 n) pid ≡ []
 stamps_in_time d units n r promised kept steady few pid = elim (cases_Bool (pid == 8191)) [
   | inl y ↦ ap (λ (b : Bool). late d.description.rate 700 (pts_begins (if b then [] else findings_to_end (length bytes / 188) (pid_list pid bytes)))) y
-  | inr told ↦ elim (sent_or_silent d.description pid) [
-    | inl sent ↦ sent_in_time d units n pid r promised kept steady few told less sent
+  | inr reported ↦ elim (sent_or_silent d.description pid) [
+    | inl sent ↦ sent_in_time d units n pid r promised kept steady few reported less sent
     | inr none ↦
-        let back = silent_back d units n pid (is_run d units n r kept few) told none in
-        by_told d.description.rate pid bytes [] told less (ap told_stamps back) refl
+        let back = silent_back d units n pid (is_run d units n r kept few) reported none in
+        by_reported d.description.rate pid bytes [] reported less (ap reported_stamps back) refl
   ]
 ]
   where

@@ -1,4 +1,4 @@
--- Where the sections of a table that is not ready-made begin, as the monitor finds it.
+-- The packets where the monitor finds that sections of a table begin, if the table is not ready-made.
 use Rattle.std.proofs.Common.{◌≡◌, ℕ, ◌-◌, ◌*◌, ◌/◌, ◌^◌, ◌<◌, true, false, List, length, slice_get, Option, Some, sym, ap, subst, ◌∙◌, arith, All}
 use Rattle.std.proofs.lemmas.Option.{slice_get_within}
 use Rattle.std.proofs.lemmas.List.Elements.{All-nil}
@@ -28,11 +28,11 @@ use Rattle.laws_run.specs.Distinguishable.{is_mistaken, ready_made, IsDistinguis
 use Rattle.laws_run.proofs.TablesWritten.{IsMade}
 use Rattle.laws_run.proofs.DistinguishableSections.{section_distinguishable, rounds_all}
 use Rattle.laws_run.proofs.RunFindings.{is_run, one_table, has_places, has_room}
-use Rattle.laws_run.proofs.Soundness.{as_told}
+use Rattle.laws_run.proofs.Soundness.{as_reported}
 use Rattle.laws_run.proofs.SectionBegins.{begun, begin_slots, entry_there}
 use Rattle.laws_run.proofs.TableIds.{table_id_of, HasId, text_id}
 
--- its sections are distinguishable: none is ready-made
+-- A table that is made from the description has no ready-made sections, so its sections are distinguishable.
 none_mistaken : (d : Described) (k : TableKind) → IsMade k → All (λ text. is_mistaken text ≡ false) (ready_made d (Some k))
 none_mistaken d Pat made = All-nil (λ (text : List ℕ). is_mistaken text ≡ false)
 none_mistaken d (Pmt p) made = All-nil (λ (text : List ℕ). is_mistaken text ≡ false)
@@ -45,7 +45,7 @@ none_mistaken d (Private i) made = absurd made
 pub made_distinguishable : (d : Described) (t : ℕ) (k : TableKind) → table_kind d t ≡ Some k → IsMade k → IsDistinguishable d t
 made_distinguishable d t k is made = subst (λ (o : Option TableKind). All (λ text. is_mistaken text ≡ false) (ready_made d o)) (sym is) (none_mistaken d k made)
 
--- in the packets of its PID with the start indicator, and in no others
+-- Its sections begin in the packets of its PID with the start indicator, and in no other packets.
 pub made_begins : (d : Scheduled) (units : ℕ → List AccessUnit) (n t : ℕ) (k : TableKind) → IsInRange d.description → UnitsKept d units → n < 2 ^ 64 - 1 →
     table_kind d.description t ≡ Some k → IsMade k →
     table_begins (table_id_of k) (found_on (table_pid d.description t) (run_bytes (content_at d units) 0 n)) ≡ own_slots
@@ -53,7 +53,7 @@ pub made_begins : (d : Scheduled) (units : ℕ → List AccessUnit) (n t : ℕ) 
 made_begins d units n t k r kept few is made =
     begin_slots (table_id_of k) pid n content texts (found_on pid bytes) listed (tables_carry table n content alone (has_places d t r there) (has_room d t r))
     ids
-    (sym (as_told pid bytes alone.no_null (omega (arith, count, few)))
+    (sym (as_reported pid bytes alone.no_null (omega (arith, count, few)))
     ∙ tables_come_back table n content (is_run d units n r kept few) alone (has_places d t r there) (has_room d t r) given)
   where
     content : ℕ → Content
@@ -96,7 +96,7 @@ made_begins d units n t k r kept few is made =
     ids : All (HasId (table_id_of k)) texts
     ids = rounds_all (HasId (table_id_of k)) table rounds (λ j moment lt. text_id d.description t j moment k is made lt)
 
--- a section that is known to begin in a slot is one of these
+-- A slot where a section of the table begins has a packet with the start indicator.
 pub begins_there : (table : Table) (j s n : ℕ) (content : ℕ → Content) → Fits content → Begins table j s (run_bytes content 0 n) →
     begun table.pid content s ≡ true
 begins_there table j s n content fits b =

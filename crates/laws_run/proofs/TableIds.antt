@@ -19,7 +19,7 @@ use Rattle.description.proofs.Pids.{at_place}
 use Rattle.laws_run.proofs.TablesWritten.{IsThere, kinds_there, IsMade, some_there}
 use Rattle.description.proofs.SectionCounts.{eit_count}
 
--- the table_id of a kind (ISO/IEC 13818-1, table 2-31; EN 300 468, table 2); a ready-made table may have any
+-- The table_id of each kind (ISO/IEC 13818-1, table 2-31; EN 300 468, table 2); a ready-made table may have any table_id
 abbrev pub table_id_of : TableKind → ℕ
 table_id_of Pat = 0x00
 table_id_of (Pmt p) = 0x02

@@ -1,4 +1,4 @@
--- PAT and PMT have come before the packets of a stream.
+-- PAT and PMT come before the packets of a stream.
 use Rattle.std.proofs.Common.{◌≡◌, ◌≤◌, ◌<◌, ℕ, zero, suc, ◌+◌, ◌*◌, ◌%◌, nat_eq, Bool, true, false, List, [], ◌∷◌, ◌++◌, length, map, take, replicate}
 use Rattle.std.proofs.Common.{option_map, Option, Some, slice_get, refl, sym, ap, subst, ◌∙◌, inl, inr, arith}
 use Rattle.std.specs.Prelude.{cond}
@@ -44,7 +44,7 @@ use Rattle.laws_run.specs.TablesFirst.{DueLate, TablesFirstLaw}
 use Rattle.laws_run.proofs.TwoStarts.{TwoStarts, two_starts}
 use Rattle.laws_run.proofs.FollowedTables.{followed_by}
 
--- ---- the first slots of a run
+-- The first slots of a run
 
 prefix : (content : ℕ → Content) (s i n : ℕ) → Fits content → i ≤ n → take (188 * i) (run_bytes content s n) ≡ run_bytes content s i
 unfolding run_bytes
@@ -57,7 +57,7 @@ prefix content s (suc i) (suc n) fits le =
     ∙ take-append-add (packet_of (content s)) (run_bytes content (suc s) n) (188 * i)
     ∙ ap (λ (x : List ℕ). packet_of (content s) ++ x) (prefix content (suc s) i n fits (omega (arith, le)))
 
--- ---- the slot of a packet
+-- The slot of a packet
 
 record InSlot (pid s n : ℕ) (content : ℕ → Content) (i : ℕ) : Type 0 where
   of : is_of_pid pid (view_of (content i)) ≡ true
@@ -86,7 +86,7 @@ in_slot pid content s (suc n) j e is = elim (cases_Bool (is_of_pid pid (view_of 
       record { of = found.of; within = omega (arith, found.within) }
 ]
 
--- ---- whose unit a packet carries
+-- The unit that a packet carries
 
 record Sender (l : OwnedStream) (us : List AccessUnit) (j : ℕ) : Type 0 where
   unit : AccessUnit
@@ -100,7 +100,7 @@ taken (x ∷ xs) zero j p is = absurd (let no : ⊥ = cc in no)
 taken (x ∷ xs) (suc m) zero p is = is
 taken (x ∷ xs) (suc m) (suc j) p is = taken xs m j p is
 
--- two lists of parts, side by side: where the first has an element the second has one, of the same part
+-- If the list of payloads has an element at a place, the list of units has there the unit of this payload.
 side_by_side : (l : OwnedStream) (u : AccessUnit) (us : List AccessUnit) (front : List Piece) (count j : ℕ) (p : Piece) → length front ≡ count →
     slice_get (front ++ all_pieces l us) j ≡ Some p →
     ((i : ℕ) → slice_get (all_pieces l us) i ≡ Some p → Sender l us i) →
@@ -124,7 +124,7 @@ sender l (u ∷ us) j p is =
     (λ i there. sender l us i p there) in
     record { unit = found.0; is = ap (λ (xs : List AccessUnit). slice_get xs j) senders ∙ found.1; late = found.2 }
 
--- so its slot begins a second after the run's begin or later
+-- The slot of such a packet begins at least a second after the run's begin.
 pub late_slot : (d : Scheduled) (k : ℕ) (s : DescribedStream) (units : List AccessUnit) (n j : ℕ) (bytes : List ℕ) (e : Entry) → IsInRange d.description →
     slice_get d.description.streams k ≡ Some s → StreamKept d k s units n bytes → DueLate units → slice_get (pid_list s.pid bytes) j ≡ Some e →
     1000 * d.description.rate ≤ e.index * 1504000
@@ -141,7 +141,7 @@ late_slot d k s units n j bytes e r there kept late is =
     let most = mul-le-mul_right d.description.rate (stream_range d.description k s r there).most_lead in
     omega (arith, released, due, most)
 
--- ---- tables begin in other slots
+-- Slots of tables, which are not slots of streams
 
 is_table : (t : ℕ) (slot : Slot) → is_own (TableItem t) slot ≡ true → (k : ℕ) → slot ≡ Stream k → ⊥
 is_table t slot y k e = false≢true (sym (ap (is_own (TableItem t)) e) ∙ y)
@@ -164,7 +164,7 @@ fewer own i none two = elim (cases_lt two.two i) [
       absurd (none (sym (ap own same) ∙ two.two_own))
 ]
 
--- so each table that recurs within half a second begins twice before a packet of a stream whose units are due late
+-- Each table that recurs within half a second begins twice before any packet of a stream whose units are due late.
 pub begun_twice : (d : Scheduled) (units : ℕ → List AccessUnit) (n k j : ℕ) (s : DescribedStream) (e : Entry) → IsInRange d.description →
     Promised d.description d.schedule → UnitsKept d units →
     slice_get d.description.streams k ≡ Some s → DueLate (units k) → slice_get (pid_list s.pid (run_bytes (content_at d units) 0 n)) j ≡ Some e →

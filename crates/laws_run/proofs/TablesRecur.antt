@@ -25,7 +25,7 @@ use Rattle.laws_run.proofs.TableIds.{table_id_of}
 use Rattle.laws_run.proofs.TableBegins.{made_begins, begins_there}
 use Rattle.laws_run.proofs.Between.{IsEnd, between}
 
--- where the end of the run counts, and where it does not
+-- The begins are in time, with the end of the run as a last place or without it.
 pub made_in_time : (d : Scheduled) (units : ℕ → List AccessUnit) (n limit t : ℕ) (k : TableKind) (ends : List ℕ) → IsInRange d.description →
     Promised d.description d.schedule →
     UnitsKept d units → n < 2 ^ 64 - 1 → table_kind d.description t ≡ Some k → IsMade k → kind_limit d.description k ≤ limit → IsEnd (188 * n) ends →

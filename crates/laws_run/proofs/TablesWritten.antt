@@ -18,7 +18,7 @@ use Rattle.description.proofs.Pids.{at_place}
 use Rattle.laws_run.proofs.DescribedSections.{IsWritten, Fits4096, pat_written, pmt_written, nit_written, sdt_written, eit_written, tdt_written}
 use Rattle.description.proofs.SectionCounts.{eit_count}
 
--- ---- an SDT is only among the tables where the description wants one
+-- The SDT, which is a table only if the description has one
 
 abbrev pub IsThere : Described → TableKind → Type 0
 IsThere d Sdt = d.has_sdt ≡ true
@@ -63,7 +63,7 @@ kinds_there d =
     tdt : List TableKind
     tdt = only_if d.has_tdt Tdt
 
--- ---- no section is long
+-- Bounds for the lengths of sections
 
 abbrev Below4096 : ℕ → Type 0
 Below4096 l = l ≤ 4096
@@ -88,7 +88,7 @@ mapped_short : {X : Type 0} (f : X → ℕ) (o : Option X) → All (λ x. f x �
 mapped_short f None h = All-nil Below4096
 mapped_short {X} f (Some x) h = let le : f x ≤ 1024 = All-head (λ (y : X). f y ≤ 1024) x [] h in one_short (f x) (omega (arith, le))
 
--- an element of a list, if there is one at this place
+-- An element at a place of a list satisfies what all its elements satisfy.
 pub at_most_one : {X : Type 0} (P : X → Type 0) (xs : List X) (i : ℕ) (o : Option X) → All P xs → slice_get xs i ≡ o → All P (option_to_list o)
 at_most_one P xs i None h e = All-nil P
 at_most_one P xs i (Some x) h e = All-cons P x [] (at_place P xs i x h e) (All-nil P)
@@ -97,7 +97,7 @@ network_list : (o : Option DescribedNetwork) → length (option_to_list o) ≤ 1
 network_list None = omega arith
 network_list (Some n) = omega arith
 
--- the kinds of tables that are not ready-made
+-- The kinds of tables that are not ready-made
 abbrev pub IsMade : TableKind → Type 0
 IsMade (Private i) = ⊥
 IsMade Pat = ⊤
@@ -118,7 +118,7 @@ kind_short d Eit r there made = schedules_short (scheduled_programs d) (All-filt
 kind_short d Tdt r there made = one_short 8 (omega arith)
 kind_short d (Private i) r there made = absurd made
 
--- ---- there is what is written
+-- Sections that exist
 
 pub some_there : {X : Type 0} (xs : List X) (i : ℕ) → i < length xs → is_some (slice_get xs i) ≡ true
 some_there [] i lt = absurd (omega (arith, lt))
@@ -141,7 +141,7 @@ kind_written d Eit section moment r there made within le =
 kind_written d Tdt section moment r there made within le = tdt_written d section moment
 kind_written d (Private i) section moment r there made within le = absurd made
 
--- the section of a table that is not ready-made
+-- The section of a table that is not ready-made can be written.
 pub text_written : (d : Described) (t section moment : ℕ) (k : TableKind) → IsInRange d → table_kind d t ≡ Some k → IsMade k → section < section_count d t →
     IsWritten (table_bytes d t section moment)
 text_written d t section moment k r is made within =

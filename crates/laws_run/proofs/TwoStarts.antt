@@ -1,4 +1,4 @@
--- A table whose sections recur within half a second begins twice in a run of more than a second, so that the first section is whole.
+-- A table whose sections recur within half a second begins twice in a run of more than a second, so its first section is whole.
 use Rattle.std.proofs.Common.{◌≡◌, ◌≤◌, ◌<◌, ℕ, zero, suc, ◌+◌, ◌-◌, ◌*◌, Bool, true, false, List, [], ◌∷◌, ◌++◌, length, map, take, Option, Some, slice_get}
 use Rattle.std.proofs.Common.{option_map, All, refl, sym, ap, subst, ◌∙◌, inl, inr, arith}
 use Rattle.std.specs.List.{concat, flat_map}
@@ -36,9 +36,9 @@ use Rattle.laws_run.proofs.DistinguishableSections.{rounds_all}
 use Rattle.laws_run.proofs.PutSections.{first_ends, first_whole, chunks_count, fill_after, section_joined}
 use Rattle.laws_run.proofs.RunFindings.{has_places, has_room}
 
--- ---- two slots in which it begins
+-- Two begins of a table
 
--- the first of some own slots, and the others
+-- The first own slot, and the own slots after it
 record First (own : ℕ → Bool) (s n a : ℕ) (rest : List ℕ) : Type 0 where
   left : ℕ
   is_own : own a ≡ true
@@ -93,7 +93,7 @@ pub two_starts : (own : ℕ → Bool) (rate limit n : ℕ) → 1000 * rate < n *
 two_starts own rate limit n long is recur =
     two_of own rate n (own_slots own 0 n) long refl (subst (λ (l : ℕ). Recur rate l 0 (map (λ s. 188 * s) (own_slots own 0 n)) (188 * n)) is recur)
 
--- ---- so something begins after the first packet
+-- A begin after the first packet
 
 record Later (es : List Entry) : Type 0 where
   before : ℕ
@@ -110,12 +110,12 @@ later_of es zero zero e f here there lt one two =
     let same : e ≡ f = cc in
     absurd (omega (arith, lt, ap (λ (x : Entry). x.index) same))
 
--- ---- and the first section is put together
+-- The first section, which the decoder puts together
 
 chunks_of : List ℕ → List (List ℕ)
 chunks_of section = first_chunks 184 (section_packets section) (filled_section section)
 
--- no decoder begins with a section
+-- A section is never a point at which a decoder can start.
 abbrev thing_of : List ℕ → Bool × List (List ℕ)
 thing_of section = (false, chunks_of section)
 
@@ -153,7 +153,7 @@ whole_of ps m j p (x ∷ xs) cut is start = record {
       ∙ ap Some (joined_section x);
 }
 
--- and all its packets have come
+-- All packets of the first section were sent.
 pub record FirstSent (sections : List (List ℕ)) (packets : ℕ) : Type 0 where
   pub section : List ℕ
   pub first : slice_get sections 0 ≡ Some section
@@ -174,7 +174,7 @@ sent_of ps m j p (x ∷ xs) cut is begins =
     let count : length (chunks_of x) ≡ section_packets x = chunks_count (section_packets x) (filled_section x) in
     record { section = x; first = refl; sent = omega (arith, ends, count, slice_get_within ps (suc j) p is) }
 
--- ---- of a table
+-- The payloads of a table
 
 table_cut : (d : Scheduled) (t slots : ℕ) (bytes : List ℕ) → IsInRange d.description → t < table_count d.description → TableKept d t slots bytes →
     pieces_on (table_pid d.description t) bytes ≡ take (length (table_payloads (table_of d t) slots))
@@ -185,7 +185,7 @@ table_cut d t slots bytes r lt kept =
     ∙ rounds_are_sections table slots (has_places d t r lt) (has_room d t r)
     ∙ ap (take (length (table_payloads table slots))) (all_sections (sections_of_rounds table slots))
 
--- something begins after its first payload
+-- A section begins after the first payload.
 record BeginsAgain (ps : List Piece) : Type 0 where
   before : ℕ
   piece : Piece
@@ -208,17 +208,18 @@ table_again d t slots bytes some kept two =
       start = start_indicated l.entry.packet ∙ l.start;
     }
 
--- what is put together first is one of its sections, with pointer_field 0 before it and stuffing after it
-pub record Told (P : List ℕ → Type 0) (pid : ℕ) (bytes : List ℕ) : Type 0 where
+-- The decoder first puts together a section of the table, with pointer_field 0 before it and stuffing after it.
+pub record FindsSection (P : List ℕ → Type 0) (pid : ℕ) (bytes : List ℕ) : Type 0 where
   pub section : List ℕ
   pub is : P section
   pub whole : slice_get (put_together (pieces_on pid bytes)) 0 ≡ Some (0 ∷ (section ++ fill_after section))
 
-pub table_told : (P : List ℕ → Type 0) (d : Scheduled) (t slots : ℕ) (bytes : List ℕ) → IsInRange d.description → t < table_count d.description →
+pub table_reported : (P : List ℕ → Type 0) (d : Scheduled) (t slots : ℕ) (bytes : List ℕ) → IsInRange d.description → t < table_count d.description →
     0 < section_count d.description t →
     TableKept d t slots bytes → TwoStarts (section_starts d.description d.schedule t 0) slots →
-    ((j moment : ℕ) → j < length (section_lengths d.description t) → P (table_bytes d.description t j moment)) → Told P (table_pid d.description t) bytes
-table_told P d t slots bytes r lt some kept two each =
+    ((j moment : ℕ) → j < length (section_lengths d.description t) → P (table_bytes d.description t j moment)) →
+    FindsSection P (table_pid d.description t) bytes
+table_reported P d t slots bytes r lt some kept two each =
     let table : Table = table_of d t in
     let l = table_again d t slots bytes some kept two in
     let w = whole_of (pieces_on (table_pid d.description t) bytes) (length (table_payloads table slots)) l.before l.piece (sections_of_rounds table slots)

@@ -1,4 +1,4 @@
--- Where PES packets with a PTS begin, as the monitor finds it: where units do.
+-- The monitor finds that PES packets with a PTS begin where units begin.
 use Rattle.std.proofs.Common.{◌≡◌, ℕ, ◌+◌, ◌*◌, ◌==◌, nat_le, List, [], ◌∷◌, ◌++◌, length, map, Some, None, refl, ap, inl, inr}
 use Rattle.std.specs.List.{filter_map}
 use Rattle.std.proofs.lemmas.Bool.{cases_Bool}
@@ -12,23 +12,23 @@ use Rattle.laws_pid.specs.Sent.{Sending, Ending, if_sent, each_found}
 use Rattle.laws_pid.specs.Units.{carried_in, unit_header, unit_found}
 use Rattle.laws_pid.specs.Sections.{section_found}
 
--- ---- the findings have the same begins
+-- The same begins, in the findings of the whole stream
 
-abbrev pub told_stamps : List FindingView → List ℕ
-told_stamps found = filter_map (λ f. pts_begin f.begun) found
+abbrev pub reported_stamps : List FindingView → List ℕ
+reported_stamps found = filter_map (λ f. pts_begin f.begun) found
 
-pub stamps_told : (pid : ℕ) (xs : List PidFinding) → told_stamps (map (with_pid_at pid) xs) ≡ pts_begins xs
-stamps_told pid [] = refl
-stamps_told pid (x ∷ xs) = let rest = stamps_told pid xs in rw rest refl
+pub stamps_reported : (pid : ℕ) (xs : List PidFinding) → reported_stamps (map (with_pid_at pid) xs) ≡ pts_begins xs
+stamps_reported pid [] = refl
+stamps_reported pid (x ∷ xs) = let rest = stamps_reported pid xs in rw rest refl
 
--- ---- of units
+-- The begins of units
 
--- the first of these packets, if there is one
+-- The first of these packets, if any
 abbrev pub head_in : List ℕ → List ℕ
 head_in [] = []
 head_in (i ∷ is) = i ∷ []
 
--- the packet in which each unit begins of which anything is sent
+-- The first sent packet of each unit, if any
 unfoldable pub heads : List (Sending AccessUnit) → List ℕ
 heads [] = []
 heads (x ∷ xs) = head_in x.packets ++ heads xs
@@ -54,7 +54,7 @@ unfolding each_found heads
 unit_heads id base0 n [] = refl
 unit_heads id base0 n (x ∷ xs) = one_head id base0 _ x.item x.packets _ (heads xs) (unit_heads id base0 n xs)
 
--- ---- of sections none
+-- Sections, which have no PTS
 
 no_stamp : (e : Ending) (text : List ℕ) (i : ℕ) (is : List ℕ) → pts_begin (section_found e text i is).found.begun ≡ None
 unfolding pts_begin section_found

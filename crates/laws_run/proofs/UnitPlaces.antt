@@ -1,4 +1,4 @@
--- The packets of a stream's PID are those of its units in their own slots.
+-- The packets of a stream's PID carry its units in their own slots.
 use Rattle.std.proofs.Common.{◌≡◌, ℕ, zero, suc, ◌-◌, ◌≤◌, min, List, [], ◌∷◌, ◌++◌, length, map, take, drop, refl, sym, ap, ap₂, ◌∙◌, inl, inr, arith}
 use Rattle.std.proofs.Common.{append-nil}
 use Rattle.std.proofs.Math.Seq.{take-append_seam, drop-append_seam}
@@ -18,7 +18,7 @@ use Rattle.laws_pid.specs.Laws.{packets_on}
 use Rattle.laws_run.specs.Placed.{units_placed, sent_units}
 use Rattle.unit_queue.proofs.Leftover.{first_free}
 
--- ---- lists
+-- Lists
 
 take_all : (n : ℕ) (xs : List ℕ) → length xs ≤ n → take n xs ≡ xs
 take_all zero [] le = refl
@@ -36,7 +36,7 @@ take_none : (n : ℕ) → ◌≡◌ {A = List ℕ} (take n []) []
 take_none zero = refl
 take_none (suc n) = refl
 
--- ---- the slots of packets
+-- The slots of packets
 
 abbrev slots_in : List Packet → List ℕ
 slots_in ps = map (λ p. p.slot) ps
@@ -50,11 +50,11 @@ slots_of_entries : (es : List Entry) → map (λ e. e.index) es ≡ slots_in (ma
 slots_of_entries [] = refl
 slots_of_entries (e ∷ es) = ap (λ (xs : List ℕ). e.index ∷ xs) (slots_of_entries es)
 
--- the slots of units, where the first `free` are taken
+-- The slots of units, if the first `free` own slots are taken
 abbrev slots_from : OwnedStream → ℕ → List AccessUnit → List ℕ → List ℕ
 slots_from l free us slots = slots_in (packets_in_slots l.own l.parameters.rate l.parameters.lead free (map (timed l) us) slots)
 
--- those of the first unit
+-- The slots of the first unit
 abbrev first_slots : OwnedStream → ℕ → AccessUnit → List ℕ → List ℕ
 first_slots l free u slots = take (packet_count l u) (drop (first_slot l free u) slots)
 
@@ -67,7 +67,7 @@ slots_more l free u us slots =
     map-append (λ (p : Packet). p.slot) (cut (timed l u).front (timed l u).size one) rest
     ∙ ap (λ (xs : List ℕ). xs ++ slots_in rest) (slots_of_cut (timed l u).front (timed l u).size one)
 
--- where all slots are taken there are none
+-- If all slots are taken, no unit has slots.
 none_left : (l : OwnedStream) (free : ℕ) (us : List AccessUnit) (slots : List ℕ) → length slots ≤ free → slots_from l free us slots ≡ []
 unfolding packets_in_slots
 none_left l free [] slots le = refl
@@ -77,7 +77,7 @@ none_left l free (u ∷ us) slots le =
     ap (take (packet_count l u)) (drop_all (first_slot l free u) slots (omega (arith, le, from))) ∙ take_none (packet_count l u) in
     slots_more l free u us slots ∙ ap₂ (λ (xs ys : List ℕ). xs ++ ys) none (none_left l (end_slot l free u) us slots (omega (arith, le, from)))
 
--- a unit has its own slots, and those after it the others
+-- The first unit has the first slots, and the units after it have the remaining slots.
 parted : (l : OwnedStream) (free : ℕ) (u : AccessUnit) (us : List AccessUnit) (slots : List ℕ) →
     (take (packet_count l u) (slots_from l free (u ∷ us) slots) ≡ first_slots l free u slots)
     × (drop (packet_count l u) (slots_from l free (u ∷ us) slots) ≡ slots_from l (end_slot l free u) us slots)
@@ -112,7 +112,7 @@ placed l free (u ∷ us) slots =
     ap₂ (λ (xs : List ℕ) (rest : List (Sending AccessUnit)). record { item = u; packets = xs } ∷ rest) p.0
     (ap (sendings (unit_packets l.parameters.stream_id l.parameters.base0) us) p.1 ∙ placed l (end_slot l free u) us slots)
 
--- the units of a stream that is alone on its PID, in the packets of the PID
+-- The packets of the PID of a stream that is alone on it carry the stream's units.
 pub units_are_placed : (l : OwnedStream) (n : ℕ) (us : List AccessUnit) (content : ℕ → Content) → StreamIsAlone l us content →
     sendings (unit_packets l.parameters.stream_id l.parameters.base0) us (packets_on l.parameters.pid (run_bytes content 0 n)) ≡ sent_units l n us
 units_are_placed l n us content alone =

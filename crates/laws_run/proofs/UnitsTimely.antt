@@ -1,4 +1,4 @@
--- Each unit begins, of all that is sent of it, no earlier than its lead before its decoding time, and no later than that.
+-- Each unit begins no earlier than its lead before its decoding time, and no later than its decoding time, if any packet of it is sent.
 use Rattle.std.proofs.Common.{◌≡◌, ℕ, zero, suc, ◌+◌, ◌-◌, ◌*◌, ◌<◌, ◌≤◌, min, Bool, List, [], ◌∷◌, ◌++◌, length, take, drop, refl, ap, subst, ◌∙◌, arith, All}
 use Rattle.std.proofs.Common.{inl, inr}
 use Rattle.std.proofs.Math.Nat.{mul-le-mul_right}
@@ -20,7 +20,7 @@ use Rattle.unit_timing.proofs.PacketsInSlots.{slots_of-cut, pes_left-append}
 use Rattle.unit_timing.proofs.ArrivalLemmas.{after_unit}
 use Rattle.laws_run.proofs.UnitHeads.{head_in}
 
--- ---- no earlier than its release
+-- Begins that are no earlier than the release
 
 pub from_release : (own : ℕ → Bool) (e s n m : ℕ) → own_before own e ≤ m + own_before own s → All (λ t. e ≤ t) (drop m (own_slots own s n))
 unfolding own_slots
@@ -38,7 +38,7 @@ from_release own e s (suc n) (suc m) h = elim (cases_Bool (own s)) [
   | inr o ↦ rw o (from_release own e (suc s) n (suc m) (omega (arith, h, own_before_other own s o)))
 ]
 
--- the release is the first slot that begins at the DTS less the lead or later
+-- A slot that is not before the release begins at the DTS less the lead, or later.
 pub reached : (rate lead dts slot : ℕ) → release rate lead dts ≤ slot → dts * rate ≤ slot * 135360000 + lead * rate
 reached rate lead dts slot le =
     let from : (dts - lead) * rate ≤ slot * 135360000 = omega (arith, le) in
@@ -46,7 +46,7 @@ reached rate lead dts slot le =
     let scaled : dts * rate ≤ ((dts - lead) + lead) * rate = mul-le-mul_right rate most in
     omega (arith, from, scaled)
 
--- ---- in the run
+-- Own slots in the run
 
 pub in_run : (own : ℕ → Bool) (s n e : ℕ) → s + n ≤ e → All (λ t. t < e) (own_slots own s n)
 unfolding own_slots
@@ -55,7 +55,7 @@ in_run own s (suc n) e le =
     let rest = in_run own (suc s) n e (omega (arith, le)) in
     elim (cases_Bool (own s)) [ inl y ↦ rw y (All-cons (λ t. t < e) s (own_slots own (suc s) n) (omega (arith, le)) rest) | inr k ↦ rw k rest ]
 
--- ---- by its decoding time
+-- Begins by the decoding time
 
 first_byte : (low high size : ℕ) (xs ys : List ℕ) → 0 < length xs → 0 < size → All (λ d. low ≤ d) xs → All (λ d. d * 720000 ≤ high) (take size (xs ++ ys)) →
     low * 720000 ≤ high
@@ -66,7 +66,7 @@ first_byte low high (suc size) (x ∷ xs) ys some pos from to =
     let b = All-head (λ d. d * 720000 ≤ high) x (take size (xs ++ ys)) to in
     omega (arith, a, b)
 
--- a slot in whose packet the first bytes of a unit stand, all of whose bytes have left by its stamp
+-- The slot of a unit's first bytes begins by the stamp, if all bytes of the unit have left by the stamp.
 left_by_stamp : (rate r prev s high front size : ℕ) (more later : List ℕ) → 0 < size → front < 184 →
     All (λ d. d * 720000 ≤ high) (take size (pes_left rate r prev (cut front size (s ∷ more)) ++ later)) → 188 * s * r * 720000 ≤ high
 unfolding cut
@@ -84,7 +84,7 @@ left_by_stamp rate r prev s high front size more later pos small all =
     let low = first_byte (188 * s * r + rate) high size (drop k ds) (rest ++ later) some pos (All-drop (λ d. 188 * s * r + rate ≤ d) k ds from) whole in
     omega (arith, low)
 
--- of these units, the first `free` own slots being taken
+-- Each of these units begins by its decoding time, if the first `free` own slots are taken.
 unfoldable pub Timely : (ℕ → Bool) → ℕ → ℕ → ℕ → List PesPacket → List ℕ → Type 0
 Timely own rate lead free [] slots = Unit {0}
 Timely own rate lead free (unit ∷ units) slots =
@@ -97,7 +97,7 @@ by_due r s high pos le = elim (cases_lt high (s * 135360000)) [
   | inr fine ↦ fine
 ]
 
--- a PES packet that has bytes in its first transport packet
+-- A PES packet with bytes in its first transport packet
 abbrev pub IsCarried : PesPacket → Type 0
 IsCarried unit = (0 < unit.size) × (unit.front < 184)
 

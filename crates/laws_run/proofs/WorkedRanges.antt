@@ -9,10 +9,10 @@ use Rattle.description_parts.specs.Ranges.{IsPid, IsBytes, IsLanguage, IsNetwork
 use Rattle.description_parts.specs.Ranges.{IsListed, IsSharing, IsInRange, program_numbers, longest_section}
 use Rattle.laws_run.specs.WorkedService.{worked_stream, worked_program, worked_service}
 
-pid : (n : ℕ) → 32 ≤ n → n ≤ 8190 → IsPid n
+pub pid : (n : ℕ) → 32 ≤ n → n ≤ 8190 → IsPid n
 pid n low high = record { low = low; high = high }
 
-no_bytes : (most : ℕ) → IsBytes most []
+pub no_bytes : (most : ℕ) → IsBytes most []
 no_bytes most = record { fits = omega arith; octets = All-nil (λ (b : ℕ). b < 256) }
 
 stream_is : IsStream worked_stream

@@ -47,7 +47,7 @@ unfolding max_stream_units or_cause unit_refused first_refused feed_cause or_fee
     pes_start_bytes packet_length stamp_bytes pts_header pts_dts_header header_with pes_header_bytes pes_packet_bytes
 accepted = refl
 
--- ---- the unit is within what its stream declares
+-- The unit, which keeps the declaration of its stream
 
 unit_is : IsUnit (owned_stream worked 0 worked_stream).parameters worked_unit
 unit_is = record { some = omega arith; most = omega arith; later = omega arith; soon = omega arith; last = omega arith }
@@ -69,7 +69,7 @@ kept_at (suc k) s is = absurd (let no : ⊥ = cc in no)
 kept : UnitsKept worked (λ k. units_of k worked_units)
 kept = record { parameters = parameters_known worked worked_in_range; kept = kept_at }
 
--- ---- its bytes
+-- The bytes of the run
 
 bytes : bytes_of worked (job_history worked_units 6) ≡ worked_bytes
 unfolding run_bytes packet_of content_at content_in table_in stream_in pcr_content part_content part_of place_in round_before payloads_before place_at
@@ -80,7 +80,7 @@ unfolding run_bytes packet_of content_at content_in table_in stream_in pcr_conte
     pmt_section entry_bytes
 bytes = refl
 
--- ---- the conclusion
+-- The conclusion
 
 pub worked_run : PlanLaw → WorkedRun
 worked_run law =

@@ -14,7 +14,7 @@ use Rattle.laws_pid.specs.Laws.{all_found, found_on}
 use Rattle.mux_core.specs.Scheduled.{Scheduled}
 use Rattle.mux_core.specs.Histories.{History, empty_history, content_at, bytes_of}
 use Rattle.mux_core.specs.Headline.{UnitsKept}
-use Rattle.mux_core.specs.MuxStates.{MuxState, Stands}
+use Rattle.mux_core.specs.MuxStates.{MuxState, Represents}
 use Rattle.mux_core.specs.Events.{Step, history_after}
 use Rattle.laws_run.specs.Distinguishable.{IsDistinguishable}
 
@@ -67,8 +67,8 @@ CleanLaw = (d : Scheduled) (units : ℕ → List AccessUnit) (n : ℕ) → IsInR
     IsClean d (run_bytes (content_at d units) 0 n)
 
 -- this holds for the history that a multiplexer has, in each number of its slots
-abbrev pub StandingCleanLaw : Type 0
-StandingCleanLaw = (h : History) (m : MuxState) (n : ℕ) → IsInRange m.schedule.description → Stands h m → n ≤ 2 ^ 40 →
+abbrev pub AnyStateCleanLaw : Type 0
+AnyStateCleanLaw = (h : History) (m : MuxState) (n : ℕ) → IsInRange m.schedule.description → Represents h m → n ≤ 2 ^ 40 →
     IsClean m.schedule (run_bytes (content_at m.schedule h.units) 0 n)
 
 -- this holds for the history that any units and slots leave, in any order

@@ -14,7 +14,7 @@ use Rattle.laws_pid.specs.Laws.{all_found, found_on, InOrder}
 use Rattle.mux_core.specs.Scheduled.{Scheduled}
 use Rattle.mux_core.specs.Histories.{History, empty_history, owned_stream, table_of, content_at, bytes_of}
 use Rattle.mux_core.specs.Headline.{UnitsKept}
-use Rattle.mux_core.specs.MuxStates.{MuxState, Stands}
+use Rattle.mux_core.specs.MuxStates.{MuxState, Represents}
 use Rattle.mux_core.specs.Events.{Step, history_after}
 use Rattle.laws_run.specs.Placed.{sent_units, sent_sections}
 use Rattle.laws_run.specs.Distinguishable.{IsDistinguishable}
@@ -57,8 +57,8 @@ GivenBackLaw = (d : Scheduled) (units : ℕ → List AccessUnit) (n : ℕ) → I
     GivenBack d units n (run_bytes (content_at d units) 0 n)
 
 -- this holds for the history that a multiplexer has, in each number of its slots
-abbrev pub StandingLaw : Type 0
-StandingLaw = (h : History) (m : MuxState) (n : ℕ) → IsInRange m.schedule.description → Stands h m → n ≤ 2 ^ 40 →
+abbrev pub AnyStateLaw : Type 0
+AnyStateLaw = (h : History) (m : MuxState) (n : ℕ) → IsInRange m.schedule.description → Represents h m → n ≤ 2 ^ 40 →
     GivenBack m.schedule h.units n (run_bytes (content_at m.schedule h.units) 0 n)
 
 -- this holds for the history that any units and slots leave, in any order, if `capacity` units of a stream may wait; refused units are no part

@@ -10,5 +10,7 @@ pub mod PtsSpacing
 pub mod WorkedService
 pub mod WorkedBytes
 pub mod WorkedRun
+pub mod WorkedVideo
+pub mod WorkedSwitch
 pub mod FollowedTables
 pub mod TablesFirst

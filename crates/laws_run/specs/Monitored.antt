@@ -12,7 +12,7 @@ use Rattle.monitor.specs.Faults.{packet_faults, cut_faults, finding_faults, pat_
 use Rattle.mux_core.specs.Scheduled.{Scheduled}
 use Rattle.mux_core.specs.Histories.{History, content_at}
 use Rattle.mux_core.specs.Headline.{UnitsKept}
-use Rattle.mux_core.specs.MuxStates.{MuxState, Stands}
+use Rattle.mux_core.specs.MuxStates.{MuxState, Represents}
 use Rattle.mux_core.specs.WholeJobs.{first_refused, capacity_for, job_history, output_of}
 
 -- ---- faults of packets and of findings by themselves
@@ -31,8 +31,8 @@ SoundLaw = (d : Scheduled) (units : ℕ → List AccessUnit) (n : ℕ) → IsInR
     IsSound (run_bytes (content_at d units) 0 n)
 
 -- this holds for the history that a multiplexer has
-abbrev pub StandingSoundLaw : Type 0
-StandingSoundLaw = (h : History) (m : MuxState) (n : ℕ) → IsInRange m.schedule.description → Stands h m → n ≤ 2 ^ 40 →
+abbrev pub AnyStateSoundLaw : Type 0
+AnyStateSoundLaw = (h : History) (m : MuxState) (n : ℕ) → IsInRange m.schedule.description → Represents h m → n ≤ 2 ^ 40 →
     IsSound (run_bytes (content_at m.schedule h.units) 0 n)
 
 -- and for a whole job
@@ -69,9 +69,9 @@ InTimeLaw = (d : Scheduled) (units : ℕ → List AccessUnit) (n limit : ℕ) �
     IsWide d.description limit → n < 2 ^ 64 - 1 → IsInTime d limit (run_bytes (content_at d units) 0 n)
 
 -- this holds for the history that a multiplexer has
-abbrev pub StandingInTimeLaw : Type 0
-StandingInTimeLaw = (h : History) (m : MuxState) (n limit : ℕ) → IsInRange m.schedule.description → Promised m.schedule.description m.schedule.schedule →
-    Stands h m →
+abbrev pub AnyStateInTimeLaw : Type 0
+AnyStateInTimeLaw = (h : History) (m : MuxState) (n limit : ℕ) → IsInRange m.schedule.description → Promised m.schedule.description m.schedule.schedule →
+    Represents h m →
     IsWide m.schedule.description limit → n ≤ 2 ^ 40 → IsInTime m.schedule limit (run_bytes (content_at m.schedule h.units) 0 n)
 
 -- and for a whole job

@@ -12,7 +12,7 @@ use Rattle.monitor.specs.Faults.{faults_of}
 use Rattle.mux_core.specs.Scheduled.{Scheduled}
 use Rattle.mux_core.specs.Histories.{History, content_at}
 use Rattle.mux_core.specs.Headline.{UnitsKept}
-use Rattle.mux_core.specs.MuxStates.{MuxState, Stands}
+use Rattle.mux_core.specs.MuxStates.{MuxState, Represents}
 use Rattle.mux_core.specs.WholeJobs.{first_refused, capacity_for, job_history, output_of}
 use Rattle.laws_run.specs.Distinguishable.{IsDistinguishable}
 use Rattle.laws_run.specs.Monitored.{IsWide}
@@ -42,9 +42,9 @@ PtsSpacingLaw = (d : Scheduled) (units : ℕ → List AccessUnit) (n limit : ℕ
     HasPtsSpacing d units → IsWide d.description limit → n < 2 ^ 64 - 1 → faults_of d.description.rate limit (run_bytes (content_at d units) 0 n) ≡ []
 
 -- this holds for the history that a multiplexer has
-abbrev pub StandingPtsSpacingLaw : Type 0
-StandingPtsSpacingLaw = (h : History) (m : MuxState) (n limit : ℕ) → IsInRange m.schedule.description → Promised m.schedule.description m.schedule.schedule →
-    Stands h m →
+abbrev pub AnyStatePtsSpacingLaw : Type 0
+AnyStatePtsSpacingLaw = (h : History) (m : MuxState) (n limit : ℕ) → IsInRange m.schedule.description → Promised m.schedule.description m.schedule.schedule →
+    Represents h m →
     HasPtsSpacing m.schedule h.units → IsWide m.schedule.description limit → n ≤ 2 ^ 40 →
     faults_of m.schedule.description.rate limit (run_bytes (content_at m.schedule h.units) 0 n) ≡ []
 

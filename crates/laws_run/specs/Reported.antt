@@ -10,7 +10,7 @@ use Rattle.monitor.specs.Faults.{on_each, packet_pids, pts_late, faults_of}
 use Rattle.mux_core.specs.Scheduled.{Scheduled}
 use Rattle.mux_core.specs.Histories.{History, content_at}
 use Rattle.mux_core.specs.Headline.{UnitsKept}
-use Rattle.mux_core.specs.MuxStates.{MuxState, Stands}
+use Rattle.mux_core.specs.MuxStates.{MuxState, Represents}
 use Rattle.mux_core.specs.WholeJobs.{first_refused, capacity_for, job_history, output_of}
 use Rattle.laws_run.specs.Monitored.{IsWide}
 
@@ -28,9 +28,9 @@ ReportedLaw = (d : Scheduled) (units : ℕ → List AccessUnit) (n limit : ℕ) 
     IsWide d.description limit → n < 2 ^ 64 - 1 → IsReported d limit (run_bytes (content_at d units) 0 n)
 
 -- this holds for the history that a multiplexer has
-abbrev pub StandingReportedLaw : Type 0
-StandingReportedLaw = (h : History) (m : MuxState) (n limit : ℕ) → IsInRange m.schedule.description → Promised m.schedule.description m.schedule.schedule →
-    Stands h m →
+abbrev pub AnyStateReportedLaw : Type 0
+AnyStateReportedLaw = (h : History) (m : MuxState) (n limit : ℕ) → IsInRange m.schedule.description → Promised m.schedule.description m.schedule.schedule →
+    Represents h m →
     IsWide m.schedule.description limit → n ≤ 2 ^ 40 → IsReported m.schedule limit (run_bytes (content_at m.schedule h.units) 0 n)
 
 -- and for a whole job

@@ -1,16 +1,17 @@
 //! What a demultiplexer finds in the finished bytes of a run. Each function does nothing: its contract is
 //! the law.
-ghost use Rattle.laws_run.specs.GivenBack.{GivenBackLaw, StandingLaw, DrivenLaw};
-ghost use Rattle.laws_run.specs.Clean.{CleanLaw, StandingCleanLaw, DrivenCleanLaw};
+ghost use Rattle.laws_run.specs.GivenBack.{GivenBackLaw, AnyStateLaw, DrivenLaw};
+ghost use Rattle.laws_run.specs.Clean.{CleanLaw, AnyStateCleanLaw, DrivenCleanLaw};
 ghost use Rattle.laws_run.specs.Jobs.{JobLaw, JobCleanLaw};
-ghost use Rattle.laws_run.specs.Monitored.{SoundLaw, StandingSoundLaw, JobSoundLaw};
-ghost use Rattle.laws_run.specs.Monitored.{InTimeLaw, StandingInTimeLaw, JobInTimeLaw};
-ghost use Rattle.laws_run.specs.Reported.{ReportedLaw, StandingReportedLaw, JobReportedLaw};
-ghost use Rattle.laws_run.specs.PtsSpacing.{PtsSpacingLaw, StandingPtsSpacingLaw, JobPtsSpacingLaw};
+ghost use Rattle.laws_run.specs.Monitored.{SoundLaw, AnyStateSoundLaw, JobSoundLaw};
+ghost use Rattle.laws_run.specs.Monitored.{InTimeLaw, AnyStateInTimeLaw, JobInTimeLaw};
+ghost use Rattle.laws_run.specs.Reported.{ReportedLaw, AnyStateReportedLaw, JobReportedLaw};
+ghost use Rattle.laws_run.specs.PtsSpacing.{PtsSpacingLaw, AnyStatePtsSpacingLaw, JobPtsSpacingLaw};
 ghost use Rattle.laws_run.specs.CarriedBack.{CarriedBackLaw, AcceptedUnitsFit};
 ghost use Rattle.laws_run.specs.FollowedTables.{FollowedLaw};
 ghost use Rattle.laws_run.specs.TablesFirst.{TablesFirstLaw};
 ghost use Rattle.laws_run.specs.WorkedRun.{WorkedRun};
+ghost use Rattle.laws_run.specs.WorkedSwitch.{WorkedSwitch};
 
 /// States that the bytes of a run, demultiplexed with their end, give back on each stream's PID exactly its units,
 /// in order: each unit that was sent whole with its stream_id, its stamps as on the wire and its data, then
@@ -21,7 +22,7 @@ ghost use Rattle.laws_run.specs.WorkedRun.{WorkedRun};
 /// refused.
 pub fn given_back()
     ensures whole { GivenBackLaw }
-    ensures standing { StandingLaw }
+    ensures any_state { AnyStateLaw }
     ensures driven { DrivenLaw }
 {}
 
@@ -29,7 +30,7 @@ pub fn given_back()
 /// repeated, each continuity_counter follows, and no section is refused (ETSI TR 101 290, 5.2.1).
 pub fn clean()
     ensures whole { CleanLaw }
-    ensures standing { StandingCleanLaw }
+    ensures any_state { AnyStateCleanLaw }
     ensures driven { DrivenCleanLaw }
 {}
 
@@ -51,7 +52,7 @@ pub fn carried_back()
 /// continuity_counter follows on its PID, and no section is refused. In the definitions of `monitor`.
 pub fn monitored()
     ensures whole { SoundLaw }
-    ensures standing { StandingSoundLaw }
+    ensures any_state { AnyStateSoundLaw }
     ensures jobs { JobSoundLaw }
 {}
 
@@ -61,7 +62,7 @@ pub fn monitored()
 /// conditions and for two, whatever sections are ready-made.
 pub fn monitored_times()
     ensures whole { InTimeLaw }
-    ensures standing { StandingInTimeLaw }
+    ensures any_state { AnyStateInTimeLaw }
     ensures jobs { JobInTimeLaw }
 {}
 
@@ -69,7 +70,7 @@ pub fn monitored_times()
 /// TR 101 290, 5.2.2), which depend on the units alone.
 pub fn monitored_whole()
     ensures whole { ReportedLaw }
-    ensures standing { StandingReportedLaw }
+    ensures any_state { AnyStateReportedLaw }
     ensures jobs { JobReportedLaw }
 {}
 
@@ -77,7 +78,7 @@ pub fn monitored_whole()
 /// the unit before, and no ready-made section is taken for a PES packet or for stuffing.
 pub fn monitored_pts_spacing()
     ensures whole { PtsSpacingLaw }
-    ensures standing { StandingPtsSpacingLaw }
+    ensures any_state { AnyStatePtsSpacingLaw }
     ensures jobs { JobPtsSpacingLaw }
 {}
 
@@ -101,4 +102,13 @@ pub fn worked_run()
     ensures { WorkedRun }
 {
     plan_timing::laws::accepted_plan();
+}
+
+/// States the same of a run of two plans in turn, with video that has a multiplexing buffer and sound in PES packets of
+/// two access units: all units of both streams are sent and due in it, and the slots of both streams change with the
+/// plan.
+pub fn worked_switch()
+    ensures { WorkedSwitch }
+{
+    plan_timing::laws::accepted_switch();
 }

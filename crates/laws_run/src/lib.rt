@@ -9,7 +9,8 @@
 //! sections are taken for something else, `GivenBack` the findings of all, `Clean` the findings that never occur;
 //! `Jobs` has the same for a job, `CarriedBack` for `carry`; `Monitored` says what a monitor never reports, `Reported`
 //! and `PtsSpacing` which rules may have faults; `FollowedTables` what a decoder learns from PAT and PMT, `TablesFirst`
-//! when; `WorkedService`, `WorkedBytes` and `WorkedRun` are a run that meets all premises.
+//! when; `WorkedService`, `WorkedBytes` and `WorkedRun` are a run that meets all premises, `WorkedVideo` and
+//! `WorkedSwitch` one of two plans with video and sound.
 #![tactic(auto)]
 
 pub mod laws;

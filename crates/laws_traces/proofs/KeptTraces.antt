@@ -1,4 +1,4 @@
--- What is kept around the greatest excess of a buffer.
+-- The rows that a trace keeps around the greatest excess of a buffer.
 use Rattle.std.proofs.Common.{ltb-true, ltb-false, eqb-true}
 use Rattle.std.proofs.Common.{◌≡◌, ◌≢◌, ◌∙◌, sym, ℕ, suc, ◌+◌, ◌-◌, ◌==◌, ◌&&◌, ◌<◌, ◌≤◌, ◌⊎◌, inl, inr, nat_lt, Bool, true, false, cond, List, [], ◌∷◌, ◌++◌}
 use Rattle.std.proofs.Common.{length, take, drop, refl, ap, subst, arith}
@@ -17,7 +17,7 @@ use Rattle.fault_traces.specs.Traces.{ring_of, settled, trace_after, trace_rows,
 use Rattle.laws_traces.specs.KeptRows.{IsKept, IsNone, StateLaw, all_after, kept_after, ring_after}
 use Rattle.laws_traces.proofs.Rings.{ring_rows}
 
--- 1. Rows that are bounded
+-- 1. Rows below a bound
 
 weaker : (most : TraceRow → ℕ) (a b : ℕ) → a < b → (xs : List TraceRow) → All (λ r. most r ≤ a) xs → All (λ r. most r < b) xs
 weaker most a b lt xs h = All-weaker (λ r. most r ≤ a) (λ r. most r < b) (λ r le. omega (arith, le, lt)) xs h
@@ -54,7 +54,7 @@ record Fits (most : TraceRow → ℕ) (size : ℕ) (rows : List TraceRow) (t : T
   value : t.greatest ≡ 0
   left : t.later ≡ 0
 
--- a row with more than any before
+-- A row with a greater value than all rows before it
 new_greatest : (most : TraceRow → ℕ) (size : ℕ) (rows : List TraceRow) (r : TraceRow) (ring : Ring) → size < most r → All (λ x. most x < most r) rows →
     Around most size (r ∷ rows) (record { greatest = most r; later = 32; ring = ring })
 new_greatest most size rows r ring over first = record {
@@ -78,7 +78,7 @@ less_before most size rows t m a lt =
     (All-append (λ x. most x < m) a.later (a.greatest ∷ a.before) (weaker most (most a.greatest) m over a.later a.none_more)
     (All-cons (λ x. most x < m) a.greatest a.before over (stricter most (most a.greatest) m over a.before a.first)))
 
--- another row
+-- A row that does not have a greater value
 one_later : (most : TraceRow → ℕ) (size : ℕ) (rows : List TraceRow) (r : TraceRow) (t u : Trace) (a : Around most size rows t) → most r ≤ most a.greatest →
     u.greatest ≡ t.greatest → u.later ≡ t.later - 1 →
     (32 ≤ suc (length a.later) → u.ring ≡ ring_after (drop (suc (length a.later) - 32) (r ∷ rows))) → Around most size (r ∷ rows) u
@@ -172,7 +172,7 @@ state most size (r ∷ before) = by (state most size before)
     by (inl a) = inl (around_next most size before r t (ring_after (r ∷ before)) refl _ _ _ refl refl refl a)
     by (inr f) = fits_next most size before r t (ring_after (r ∷ before)) _ _ _ refl refl refl f
 
--- the rows that are kept
+-- The kept rows
 zero_or_more : (g : ℕ) (xs : List TraceRow) → 0 < g → cond (g == 0) [] xs ≡ xs
 zero_or_more g xs some = by (g == 0) refl
   where
@@ -191,7 +191,7 @@ kept_ring most size rows t a = by (t.later == 0) refl
         let none : length a.later - 32 ≡ 0 = omega (arith, a.left, some) in
         ap (λ (k : ℕ). ring_after (drop k rows)) (sym none)
 
--- the greatest is among 64 rows that begin at most 32 after it
+-- The 64 kept rows contain the greatest row and at most 32 rows after it.
 among_kept : (later : List TraceRow) (greatest : TraceRow) (before rows : List TraceRow) → rows ≡ later ++ greatest ∷ before →
     Contains (reverse (take 64 (drop (length later - 32) rows))) greatest
 among_kept later greatest before rows are =
@@ -236,7 +236,7 @@ kept_rows most size rows = by (state most size rows)
         })
     by (inr f) = inr (record { fits = f.fits; is = rw f.value refl })
 
--- both buffers of a stream
+-- Both buffers of a stream
 pub both_buffers : StateLaw
 unfolding all_after kept_after ring_after
 both_buffers transport main [] = refl

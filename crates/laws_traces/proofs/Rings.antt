@@ -16,7 +16,7 @@ use Rattle.fault_traces.specs.Rings.{rows_of}
 reversed_more : (r : TraceRow) (xs : List TraceRow) → reverse (r ∷ xs) ≡ reverse xs ++ r ∷ []
 reversed_more r xs = reverse_onto xs r []
 
--- without the oldest of 64 rows
+-- The last 64 rows without the oldest row
 without_oldest : (xs : List TraceRow) → 64 ≤ length xs → drop 1 (reverse (take 64 xs)) ≡ reverse (take 63 xs)
 without_oldest xs many =
     let oldest = take 1 (drop 63 xs) in
@@ -55,7 +55,7 @@ below_all false n rows xs r h below =
     ap reverse (take_all 64 xs (omega (arith, few))) ∙ ap reverse (sym (take_all 63 xs few)) in
     right ∙ ap (λ (ys : List TraceRow). ys ++ r ∷ []) (h.all ∙ same) ∙ sym (reversed_more r (take 63 xs))
 
--- the rows before the last place, once that is written, without the oldest one
+-- After the last place is written, the rows before it are the last rows without the oldest one.
 last_rest : (full : Bool) (n : ℕ) (rows xs : List TraceRow) → Holds full n rows xs → n ≡ 63 → take n rows ≡ reverse (take 63 xs)
 last_rest true n rows xs h last =
     let a = drop n rows in
@@ -93,7 +93,7 @@ last full n rows xs r h is = record {
   long = λ e. omega (arith, many full n rows xs h is);
 }
 
--- 3. A row more
+-- 3. One more row
 
 is_number : (a b : ℕ) → (a == b) ≡ true → a ≡ b
 is_number a b e = grind (arith, nat_tests)

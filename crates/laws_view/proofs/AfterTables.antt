@@ -1,4 +1,4 @@
--- The buffers of a stream of a run begin with the first packet of its PID, where the tables come before it.
+-- The buffers of a stream of a run begin with the first packet of its PID if the tables come before that packet.
 use Rattle.std.proofs.Common.{◌≡◌, ◌∙◌, sym, ℕ, zero, suc, ◌+◌, ◌^◌, ◌≤◌, ◌<◌, ◌&&◌, not, is_some, Bool, true, false, List, [], ◌∷◌, ◌++◌, length, map, Option}
 use Rattle.std.proofs.Common.{Some, None, if◌then◌else◌, refl, ap, subst, inl, inr, nat_eq, arith, append_assoc, append-nil, eqb-true}
 use Rattle.std.specs.Prelude.{slice_get}
@@ -58,7 +58,7 @@ use Rattle.laws_view.proofs.SentUnits.{AllSent, entry_packet}
 use Rattle.laws_view.proofs.Steps.{after_sound, next, packet_is, sound_agrees, sound_packets}
 use Rattle.laws_view.proofs.Whole.{entry_stays, index_all, knows_all, none_agree}
 
--- ---- what packets leave as it is: the streams once they are known, which are viewed, and the places of those whose buffers have begun
+-- What a packet does not change: the known streams, the choice, and the places of streams whose buffers have begun
 
 named_sound : (s : ViewState) (o : Option PacketView) → (after_sound s o).seen.named ≡ s.seen.named
 unfolding after_sound
@@ -137,7 +137,7 @@ place_stays s packets pid j agree few there =
     let of = (agree_stays s packets agree).of j later.0 later.1.0 in
     ap (λ (q : ℕ). lookup (nat_eq q) (after_all s packets).table.places) (sym (later.1.1 ∙ entry.1.1)) ∙ of
 
--- ---- a stream begins as soon as it can
+-- The buffers of a stream begin as soon as they can.
 
 begins_place : (s : ViewState) (packet : PacketView) (stream : FoundStreamView) → beginning s.seen.named s.table packet ≡ Some stream →
     lookup (nat_eq packet.header.pid) (with_packet s packet).table.places ≡ Some (length s.table.entries)
@@ -167,7 +167,7 @@ table_next : (s : ViewState) (bytes : List ℕ) (packet : PacketView) → sound_
 unfolding after_sound
 table_next s bytes packet sound = ap (λ (o : Option PacketView). (after_sound s o).table) sound
 
--- so not with a later packet than the first one that begins something once the streams are known
+-- If a unit begins on a PID once the streams are known, no later packet of this PID begins a stream.
 not_later : (s : ViewState) (bytes : List ℕ) (post : List (List ℕ)) (first packet : PacketView) (found : FoundProgramsView) (stream : FoundStreamView) →
     Agree s.table →
     s.seen.packets + length (bytes ∷ post) < 2 ^ 64 → s.seen.named.streams ≡ Some found → sound_packet (packet_at bytes) ≡ Some first →
@@ -203,7 +203,7 @@ not_later s bytes post first packet found stream agree few known sound starts sa
         nothing_there later.table.places first.header.pid (length s.table.entries) new
         (ap (λ (x : ViewState). lookup (nat_eq first.header.pid) x.table.places) (all_next s bytes post) ∙ kept)
 
--- ---- the first packet of a PID
+-- The first packet of a PID
 
 record FirstEntry (pid i : ℕ) (chunks : List (List ℕ)) (e : Entry) : Type 0 where
   pre : List (List ℕ)
@@ -258,7 +258,7 @@ first_entry pid i (x ∷ chunks) e es is =
     entry_here pid i x chunks (sound_packet (packet_at x)) e (entries_from pid (i + 1) chunks) es refl is
     (λ rest. entry_later pid i x chunks e (first_entry pid (i + 1) chunks e es rest))
 
--- it carries the begin of a unit
+-- The first packet of a PID that carries units begins a unit.
 first_starts : (base0 n : ℕ) (e : Entry) (es : List Entry) (us : List AccessUnit) → AllSent base0 n None (e ∷ es) us →
     e.packet.header.payload_unit_start_indicator ≡ true
 unfolding AllSent
@@ -268,7 +268,7 @@ first_starts base0 n e es (u ∷ us) sent = elim sent.0.begins [
   | inr goes ↦ absurd (let none : None ≡ Some u = goes.1 in (let no : ⊥ = cc in no))
 ]
 
--- ---- the slots before it
+-- The slots before the first packet
 
 run_front : (content : ℕ → Content) (s n : ℕ) (pre rest : List (List ℕ)) → Fits content → cut_packets (run_bytes content s n) ≡ pre ++ rest →
     concat pre ≡ run_bytes content s (length pre)
@@ -282,7 +282,7 @@ run_front content s (suc n) (x ∷ pre) rest fits e =
     let others : cut_packets (run_bytes content (suc s) n) ≡ pre ++ rest = cc in
     ap (λ (y : List ℕ). y ++ concat pre) (sym same) ∙ ap (λ (y : List ℕ). packet_of (content s) ++ y) (run_front content (suc s) n pre rest fits others)
 
--- the streams that are known after packets, the last of which is first
+-- Puts packets onto earlier packets, so that the last packet is first.
 unfoldable onto : List (List ℕ) → List (List ℕ) → List (List ℕ)
 onto [] earlier = earlier
 onto (bytes ∷ packets) earlier = onto packets (bytes ∷ earlier)
@@ -327,7 +327,7 @@ unfolding after_all
 all_two s [] ys = refl
 all_two s (x ∷ xs) ys = all_next s x (xs ++ ys) ∙ all_two (next s x) xs ys ∙ ap (λ (y : ViewState). after_all y ys) (sym (all_next s x xs))
 
--- ---- so the buffers of a stream whose units are due late begin with the first packet of its PID
+-- The buffers of a stream whose units are due late begin with the first packet of its PID.
 
 from_the_first : (d : Scheduled) (units : ℕ → List AccessUnit) (slots : ℕ) (request : RequestView) (e : EntryState) (k : ℕ) → IsInRange d.description →
     Promised d.description d.schedule →

@@ -1,4 +1,4 @@
--- The figures of a stream that carries units are those that measuring its bytes finds.
+-- In a view, the figures of a stream that carries units equal the figures that measuring its bytes finds.
 use Rattle.std.proofs.Common.{◌≡◌, ◌∙◌, sym, ℕ, ◌+◌, ◌&&◌, false, is_some, Bool, true, List, [], ◌∷◌, ◌++◌, length, map, take, Option, Some, None, refl, ap}
 use Rattle.std.proofs.Common.{subst, inl, inr, nat_eq, arith}
 use Rattle.std.proofs.lemmas.List.{length-append}
@@ -50,7 +50,7 @@ use Rattle.laws_view.proofs.CarriedMain.{carried_sizes, from_begin, main_is, mod
 use Rattle.laws_view.proofs.RunUnits.{cuts_of, run_carries, same_units}
 use Rattle.laws_view.proofs.MuxedMain.{none_entries, run_viewed}
 
--- ---- a unit is under way from the first packet on, where a clock reference has come
+-- If a clock reference has come, a unit is open from the first packet on.
 
 some_due : (options : ViewOptions) (rx : ℕ) (clock : Option PcrSample) (dts : ℕ) → is_some clock ≡ true → is_some (due_by options rx clock (Stamped dts)) ≡ true
 unfolding due_by
@@ -85,7 +85,7 @@ under_way f b packet first later dts sound own none clocked begins =
     (not_none (arriving f.options b.index f.rx b.counter (clock_with f.options f.clock_pid b.index packet b.clock) packet).begins
     (begins_some f.options b.index f.rx b.counter (clock_with f.options f.clock_pid b.index packet b.clock) packet dts none clocked begins))
 
--- the first packet of a stream begins a unit
+-- The first packet of a stream begins a unit.
 first_begins : (base0 n pid index : ℕ) (packet : PacketView) (first : List ℕ) (later : List (List ℕ)) (us : List AccessUnit) →
     sound_packet (packet_at first) ≡ Some packet →
     nat_eq pid packet.header.pid ≡ true → AllSent base0 n None (entries_from pid index (first ∷ later)) us → (dts : ℕ) × (beginning_of packet ≡ Stamped dts)
@@ -105,7 +105,7 @@ first_begins base0 n pid index packet first later us sound own sent = by us (rw 
     by [] sent = absurd sent
     by (u ∷ us) sent = of u sent.0
 
--- the last clock reference with a packet
+-- Packets in two parts leave the same known state.
 pub known_two : (f : Followed) (b : Before) (xs ys : List (List ℕ)) → known_after_all f b (xs ++ ys) ≡ known_after_all f (known_after_all f b xs) ys
 unfolding known_after_all
 known_two f b [] ys = refl
@@ -119,7 +119,7 @@ clock_here f before first packet sound =
     ap (λ (b : Before). b.clock) (known_two f nothing_known before (first ∷ []))
     ∙ ap (λ (o : Option PacketView). (known_after f (known_after_all f nothing_known before) o).clock) sound
 
--- ---- so the main buffer has at each moment what the model has
+-- At each moment the main buffer of the view holds what the model's holds.
 
 pub as_measured_law : AsMeasuredLaw
 as_measured_law request rate base0 bytes e s cuts f at_rate few same drained whole first clocked carries keeps full =
@@ -172,7 +172,7 @@ as_measured_law request rate base0 bytes e s cuts f at_rate few same drained who
       main = omega (arith, one, other);
     }
 
--- ---- and so of a run that a multiplexer wrote
+-- The same for a run that a multiplexer wrote
 
 pub run_as_measured_law : RunAsMeasuredLaw
 run_as_measured_law d units slots request e k ranges promised kept few viewed whole first clocked f full =

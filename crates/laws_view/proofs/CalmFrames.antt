@@ -1,4 +1,4 @@
--- A main buffer that is viewed by access units, and never holds more than its size, has no excess.
+-- A main buffer that is viewed by access units and never holds more than its size has no excess.
 use Rattle.std.proofs.Common.{◌≡◌, ◌∙◌, ℕ, ◌+◌, ◌-◌, ◌*◌, ◌^◌, ◌≤◌, ◌==◌, min, Bool, true, false, List, [], ◌∷◌, length, Option, Some, None, if◌then◌else◌}
 use Rattle.std.proofs.Common.{refl, ap, arith}
 use Rattle.sound_frames.specs.declared.frame_walk.FramePart.{FramePart}
@@ -22,7 +22,7 @@ use Rattle.es_events.specs.Tallies.{in_window, more, tally_after, tally_with, wi
 use Rattle.laws_view.proofs.EnteredBytes.{Alike, alike_trans, begin_arrives, payload_alike}
 use Rattle.laws_view.proofs.MainExcesses.{Quiet, begin_main, most_begin, most_begun, most_payload, quiet_payload, same_main}
 
--- ---- what is counted
+-- The counts of a window
 
 in_window_mains : (t : Tally) (window : ℕ) → (in_window t window).main_excesses ≡ t.main_excesses
 in_window_mains t window = by (t.window == window)
@@ -56,7 +56,7 @@ none_more t window unread v none quiet = tally_mains t window unread v ∙ zero 
     zero : (n m : ℕ) → n ≡ 0 → m ≡ 0 → min (n + m) (2 ^ 64 - 1) ≡ 0
     zero n m a b = omega (arith, a, b)
 
--- ---- a packet with the first bytes of its payload
+-- A packet with the first bytes of its payload
 
 first_parts : (h : Held) (arrival : Arrival) (p : Arriving) (size lead count : ℕ) →
     Quiet h (with_first h arrival p size lead count) (ended_first h arrival p size lead count).main
@@ -113,7 +113,7 @@ first_alike h arrival p count = by (takes_in h arrival p)
         alike_trans h a d first (alike_trans a b d second (alike_trans b c d third fourth))
     by false = record { rate = refl; rx = refl; size = refl }
 
--- ---- a frame
+-- One frame
 
 part_quiet : (h : Held) (arrival : Arrival) (p : UnitPart) → Quiet h (after_part h arrival p) (entered_part h arrival p).main
 unfolding after_part entered_part
@@ -143,9 +143,9 @@ part_alike h arrival p = by (takes_part h arrival p)
     by true = record { rate = of.rate; rx = of.rx; size = of.size }
     by false = record { rate = refl; rx = refl; size = refl }
 
--- ---- none is counted while the bytes find room
+-- No excess is counted while the bytes find room.
 
--- if no more was ever in the main buffer than its size, no excess has ended, and none is under way
+-- If the main buffer never held more than its size, no excess has ended, and none is open.
 pub record Calm (h : Held) (t : Tally) : Type 0 where
   pub none : main_most h ≤ h.main.size → t.main_excesses ≡ 0
   pub quiet : main_most h ≤ h.main.size → h.main.under_way ≡ None
@@ -186,7 +186,7 @@ calm_frames options limit y tick window c [] calm = calm
 calm_frames options limit y tick window c (p ∷ ps) calm =
     calm_frames options limit y tick window (frame_after options (place_of limit y tick) window c p) ps (calm_frame options limit y tick window c p calm)
 
--- with a packet
+-- A packet keeps `Calm`.
 pub calm_packet : (options : ViewOptions) (index window : ℕ) (clock : Option PcrSample) (limit : ℕ) (counter : Option ℕ) (delayed : ℕ) (packet : PacketView)
     (f : Framed) →
     Calm f.held f.tally →

@@ -1,4 +1,4 @@
--- What the packets of a PID that carries units leave in the main buffer of a view.
+-- What the packets of a PID that carries units leave in the main buffer of a view
 use Rattle.std.proofs.Common.{◌≡◌, ◌∙◌, sym, ℕ, zero, suc, ◌+◌, ◌≤◌, List, [], ◌∷◌, ◌++◌, length, map, take, drop, Option, None, refl, ap, subst, inl, arith}
 use Rattle.std.proofs.Common.{All}
 use Rattle.std.proofs.lemmas.List.{length-append}
@@ -30,7 +30,7 @@ use Rattle.laws_view.proofs.PidEntries.{seen_packets}
 use Rattle.laws_view.proofs.StreamIndices.{they_come}
 use Rattle.laws_view.proofs.Whole.{index_all}
 
--- ---- the sizes of its packets are those of the payloads that its units are cut into
+-- The sizes of the packets are the sizes of the payloads that the units are cut into.
 
 sizes_entries : (es : List Entry) → packet_sizes (map entry_packet es) ≡ sizes_of (map payload_in es)
 sizes_entries [] = refl
@@ -48,9 +48,9 @@ carried_sizes id base0 pid cuts bytes c =
     sizes_entries es ∙ ap (λ (ps : List BegunPayload). sizes_of ps) c.pieces ∙ sizes_front (length es) (cut_pieces cuts)
     ∙ ap (λ (n : ℕ). take n (sizes_of (cut_pieces cuts))) (sym (many_packets es))
 
--- ---- what they leave in a main buffer that was empty
+-- What the packets leave in an empty main buffer
 
--- it is no more than a model has of them and of those before, where its transport buffer begins empty with them too
+-- The main buffer holds no more than a model's that also has the packets before, if the model's transport buffer is empty again when these packets begin.
 pub later_within : (rate rx size low x id base0 : ℕ) (cuts : List CutUnit) (ps : List Arriving) (front back : List Packet) → ComeFrom low ps →
     Follows rate rx None ps (drop (length front) (cut_senders cuts)) → map timed_packet ps ≡ back → All (λ p. p.size ≤ 188) front →
     All (λ p. p.size ≤ 188) back →
@@ -70,7 +70,7 @@ later_within rate rx size low x id base0 cuts ps front back come follows same sm
     omega (arith, length-append before after_it, many_left rate rx 0 front small, many_left rate rx 0 back small_too, total_two front back) in
     omega (arith, all, here, more, kept_units rate rx x id base0 cuts (front ++ back) (pes_left rate rx 0 front ++ pes_left rate rx 0 back) cut sizes many)
 
--- and just what a model has of them where a unit is under way from the first of them on
+-- If a unit is open from the first packet on, the main buffer holds exactly what the model's holds.
 pub main_is : (rate rx size low x id base0 : ℕ) (cuts : List CutUnit) (ps : List Arriving) (qs : List Packet) → ComeFrom low ps →
     Follows rate rx None ps (cut_senders cuts) →
     UnderWay None ps → map timed_packet ps ≡ qs → All (λ p. p.size ≤ 188) qs → All (IsCut id base0) cuts →
@@ -85,11 +85,11 @@ main_is rate rx size low x id base0 cuts ps qs come follows under_way same small
     ap (λ (xs : List Packet). kept_each rate rx x vs xs (pes_left rate rx 0 xs)) same in
     omega (arith, all, here, kept_units rate rx x id base0 cuts qs (pes_left rate rx 0 qs) cut sizes (many_left rate rx 0 qs small))
 
--- what a model has at each moment in the main buffer of a stream whose PID carries these units
+-- The fullness of the model's main buffer at each moment, for a stream whose PID carries these units
 abbrev pub model_of : ℕ → ℕ → DescribedStream → List AccessUnit → List ℕ → (ℕ → ℕ)
 model_of rate base0 s us bytes = λ x. mb_fullness rate s.rx x (timed_pes_packets s.stream_id base0 us) (pes_left rate s.rx 0 (packets_on s.pid bytes))
 
--- ---- the packets from the one on with which the buffers begin
+-- The packets from the begin of the buffers on
 
 pub record FromBegin (rate : ℕ) (us : List AccessUnit) (request : RequestView) (e : EntryState) (pid : ℕ) (before rest : List (List ℕ)) : Type 0 where
   pub come : ComeFrom (known_at_begin (followed request e) before).index (stream_packets request e before rest)

@@ -1,4 +1,4 @@
--- The clock references of a program as a view keeps the last of them: each says the clock at its byte, and the next is never far.
+-- A view keeps the last clock reference of a program: each reference gives the clock at its byte, and the next is never far.
 use Rattle.std.proofs.Common.{◌≡◌, ◌∙◌, ◌⊎◌, ℕ, ◌+◌, ◌-◌, ◌*◌, ◌/◌, ◌%◌, ◌≤◌, ◌<◌, Bool, true, false, List, [], ◌∷◌, map, Option, Some, None, if◌then◌else◌}
 use Rattle.std.proofs.Common.{refl, ap, inl, inr, nat_eq, arith}
 use Rattle.std.specs.Option.{option_or}
@@ -15,7 +15,7 @@ use Rattle.es_events.specs.Clocks.{base_byte, place_of, sample_at, sample_in}
 use Rattle.laws_view.specs.StreamPackets.{Before, Followed, known_after, most_packets, reference_in, sound_packet}
 use Rattle.laws_view.proofs.DueByClock.{reference_at}
 
--- ---- the packets of a PID among these, the first of which has this index
+-- The packets of a PID in a list whose first packet has this index
 
 unfoldable pub listed : ℕ → ℕ → List ℕ → Option PacketView → List Entry → List Entry
 listed pid index bytes None es = es
@@ -25,7 +25,7 @@ unfoldable pub entries_from : ℕ → ℕ → List (List ℕ) → List Entry
 entries_from pid index [] = []
 entries_from pid index (bytes ∷ chunks) = listed pid index bytes (sound_packet (packet_at bytes)) (entries_from pid (index + 1) chunks)
 
--- none comes before its index
+-- No entry has a lower index.
 unfoldable pub NoneBefore : ℕ → List Entry → Type 0
 NoneBefore index [] = Unit {0}
 NoneBefore index (e ∷ es) = index ≤ e.index
@@ -51,7 +51,7 @@ none_before pid index [] = unfold NoneBefore in tt
 none_before pid index (bytes ∷ chunks) =
     none_listed pid index bytes (sound_packet (packet_at bytes)) (entries_from pid (index + 1) chunks) (none_before pid (index + 1) chunks)
 
--- ---- a clock reference
+-- One clock reference
 
 abbrev pub places : List Entry → List ℕ
 places es = map (λ (e : Entry). 188 * e.index + 10) es
@@ -73,19 +73,19 @@ sample_is rate base0 pid index options at_rate few =
     let ticks = ticks_again (pcr_ticks rate base0 (188 * index + 10)) (ticks_low rate base0 (188 * index + 10)) in
     rw (at_rate, byte, ticks) refl
 
--- ---- the last one, and those to come
+-- The last clock reference and the later ones
 
 unfoldable pub IsReference : ℕ → ℕ → ℕ → ℕ → ℕ → Option PcrSample → List Entry → Type 0
 IsReference rate base0 limit slots index None es = Recur rate limit 0 (places es) (188 * slots)
 IsReference rate base0 limit slots index (Some clock) es =
     (m : ℕ) × ((clock ≡ reference_at rate base0 m) × ((m < index) × Recur rate limit (188 * m + 10) (places es) (188 * slots)))
 
--- each packet on the PID is one
+-- Each packet on the PID is a clock reference.
 unfoldable pub AreClocks : ℕ → ℕ → ℕ → List Entry → Type 0
 AreClocks rate base0 pid [] = Unit {0}
 AreClocks rate base0 pid (e ∷ es) = (e.packet ≡ clock_packet rate base0 pid e.index) × AreClocks rate base0 pid es
 
--- or none has one
+-- No packet has a clock reference.
 unfoldable pub NoClocks : ViewOptions → List Entry → Type 0
 NoClocks options [] = Unit {0}
 NoClocks options (e ∷ es) = (reference_in options e.index e.packet ≡ None) × NoClocks options es
@@ -107,25 +107,29 @@ unfolding IsReference Recur
 next_reference rate base0 limit slots index None e es is h = (index, (refl, (omega arith, rw is at h.1)))
 next_reference rate base0 limit slots index (Some clock) e es is h = (index, (refl, (omega arith, rw is at h.1.1.1.1)))
 
--- a packet that is on the PID, and one that is not
+-- A packet on the PID of the clock, and a packet on another PID
 own_clock : (options : ViewOptions) (rate base0 limit slots pid index : ℕ) (bytes : List ℕ) (packet : PacketView) (clock : Option PcrSample) (es : List Entry) →
     options.arrival ≡ AtRate rate → index < most_packets →
     ClockIs options rate base0 limit slots pid index clock (record { index = index; bytes = bytes; packet = packet } ∷ es) →
     ClockIs options rate base0 limit slots pid (index + 1) (option_or (reference_in options index packet) clock) es
 unfolding ClockIs AreClocks NoClocks
-own_clock options rate base0 limit slots pid index bytes packet clock es at_rate few (inl told) =
+own_clock options rate base0 limit slots pid index bytes packet clock es at_rate few (inl reported) =
     let sample : reference_in options index packet ≡ Some (reference_at rate base0 index) =
-    ap (λ (q : PacketView). reference_in options index q) told.0.0 ∙ sample_is rate base0 pid index options at_rate few in
-    inl (told.0.1, rw sample (next_reference rate base0 limit slots index clock (record { index = index; bytes = bytes; packet = packet }) es refl told.1))
+    ap (λ (q : PacketView). reference_in options index q) reported.0.0 ∙ sample_is rate base0 pid index options at_rate few in
+    inl (
+      reported.0.1,
+      rw sample (next_reference rate base0 limit slots index clock (record { index = index; bytes = bytes; packet = packet }) es refl reported.1),
+    )
 own_clock options rate base0 limit slots pid index bytes packet clock es at_rate few (inr quiet) = inr (rw (quiet.1.0, quiet.0) refl, quiet.1.1)
 
 pub other_clock : (options : ViewOptions) (rate base0 limit slots pid index : ℕ) (clock : Option PcrSample) (es : List Entry) →
     ClockIs options rate base0 limit slots pid index clock es → ClockIs options rate base0 limit slots pid (index + 1) clock es
 unfolding ClockIs
-other_clock options rate base0 limit slots pid index clock es (inl told) = inl (told.0, later_reference rate base0 limit slots index clock es told.1)
+other_clock options rate base0 limit slots pid index clock es (inl reported) =
+    inl (reported.0, later_reference rate base0 limit slots index clock es reported.1)
 other_clock options rate base0 limit slots pid index clock es (inr quiet) = inr quiet
 
--- a packet more
+-- One more packet keeps `ClockIs`.
 pub clock_step : (f : Followed) (b : Before) (rate base0 limit slots : ℕ) (bytes : List ℕ) (o : Option PacketView) (es : List Entry) →
     f.options.arrival ≡ AtRate rate → b.index < most_packets →
     ClockIs f.options rate base0 limit slots f.clock_pid b.index b.clock (listed f.clock_pid b.index bytes o es) →
@@ -144,7 +148,7 @@ clock_step f b rate base0 limit slots bytes (Some packet) es at_rate few h = by 
     by true own h = rw own (own_clock f.options rate base0 limit slots f.clock_pid b.index bytes packet b.clock es at_rate few (rw own at h))
     by false other h = rw other (other_clock f.options rate base0 limit slots f.clock_pid b.index b.clock es (rw other at h))
 
--- the last reference is near
+-- The last clock reference is near.
 pub near_reference : (rate limit slots m i : ℕ) (es : List Entry) → NoneBefore i es → i ≤ slots → Recur rate limit (188 * m + 10) (places es) (188 * slots) →
     (188 * i - (188 * m + 10)) * 8000 ≤ limit * rate
 unfolding NoneBefore Recur

@@ -1,4 +1,4 @@
--- A program's clock reference has come before a stream whose units are due late.
+-- If the units of a stream are due late, a clock reference of its program comes before its packets.
 use Rattle.std.proofs.Common.{◌≡◌, ◌∙◌, ◌⊎◌, sym, ℕ, ◌+◌, ◌*◌, ◌≤◌, ◌<◌, false, is_some, Bool, true, List, [], ◌∷◌, ◌++◌, length, Option, Some, None}
 use Rattle.std.proofs.Common.{if◌then◌else◌, refl, ap, subst, inl, inr, nat_eq, arith}
 use Rattle.std.specs.Prelude.{slice_get}
@@ -44,7 +44,7 @@ use Rattle.laws_view.proofs.PidEntries.{entries_two, pid_entries}
 use Rattle.laws_view.proofs.ProgramClocks.{clocks_kept, program_range}
 use Rattle.laws_view.proofs.StreamIndices.{index_more}
 
--- ---- once one has come, one is known
+-- Once a clock reference has come, a clock is known.
 
 some_clock : (options : ViewOptions) (clock_pid index : ℕ) (packet : PacketView) (clock : Option PcrSample) → is_some clock ≡ true →
     is_some (clock_with options clock_pid index packet clock) ≡ true
@@ -67,7 +67,7 @@ stays_some f b (bytes ∷ chunks) e =
     let o : Option PacketView = sound_packet (packet_at bytes) in
     stays_some f (known_after f b o) chunks (known_some f b o e)
 
--- a packet on the PID has one
+-- After a packet a clock is known, or the packet is not on the clock's PID.
 abbrev One : ℕ → ℕ → Followed → Before → List ℕ → Option PacketView → List Entry → Type 0
 One rate base0 f b bytes o es =
     (is_some (known_after f b o).clock ≡ true) ⊎ ((listed f.clock_pid b.index bytes o es ≡ es) × AreClocks rate base0 f.clock_pid es)
@@ -86,8 +86,8 @@ one_seen rate base0 f b bytes (Some packet) es at_rate few clocks = by (nat_eq f
         AreClocks rate base0 f.clock_pid (if nat_eq f.clock_pid packet.header.pid then e ∷ es else es) →
         One rate base0 f b bytes (Some packet) es
     by true own h =
-        let told = rw own at h in
-        let sample = ap (λ (q : PacketView). reference_in f.options b.index q) told.0 ∙ sample_is rate base0 f.clock_pid b.index f.options at_rate few in
+        let reported = rw own at h in
+        let sample = ap (λ (q : PacketView). reference_in f.options b.index q) reported.0 ∙ sample_is rate base0 f.clock_pid b.index f.options at_rate few in
         inl (rw (own, sample) refl)
     by false other h = inr (rw other refl, rw other at h)
 
@@ -117,7 +117,7 @@ unfolding AreClocks
 clocks_front rate base0 pid [] fs h = tt
 clocks_front rate base0 pid (e ∷ es) fs h = (h.0, clocks_front rate base0 pid es fs h.1)
 
--- ---- within its limit
+-- A clock reference comes within its limit.
 
 none_within : (rate limit slots i : ℕ) (es : List Entry) → NoneBefore i es → i ≤ slots → limit ≤ 100 → 100000 ≤ rate → 1000 * rate ≤ i * 1504000 →
     Recur rate limit 0 (places es) (188 * slots) → ⊥

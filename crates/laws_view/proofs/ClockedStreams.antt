@@ -1,4 +1,4 @@
--- A report on packets that arrive by clock references: what it says of a stream at the end is about all packets of its PID.
+-- In a report on packets that arrive by clock references, the last lines of a stream are about all packets of its PID.
 use Rattle.std.proofs.Common.{◌≡◌, ◌∙◌, sym, ℕ, ◌+◌, Bool, true, false, List, [], ◌∷◌, ◌++◌, length, Option, Some, None, refl, ap, subst, arith, All}
 use Rattle.std.specs.Prelude.{slice_get}
 use Rattle.std.proofs.lemmas.List.{length-map}
@@ -33,7 +33,7 @@ use Rattle.laws_view.specs.TimedStreams.{ClockedStreamLaw, InOrder, view_by}
 use Rattle.laws_view.proofs.Steps.{after_sound, finished, next, packet_is, sound_options}
 use Rattle.laws_view.proofs.TimedWhole.{timed_stream_law}
 
--- ---- two views that know the same of their streams
+-- Two views that know the same of their streams
 
 pub record Like (s s' : ViewState) : Type 0 where
   pub options : s'.seen.options ≡ s.seen.options
@@ -73,9 +73,9 @@ unfolding views.after_all
 all_options s [] = refl
 all_options s (bytes ∷ packets) = all_options (views.after_packet s bytes) packets ∙ packet_options s bytes
 
--- ---- packets that arrive so, all at once and one by one
+-- Packets with one arrival, all at once and one by one
 
--- what is said twice of an arrival is said
+-- Setting an arrival twice equals setting it once.
 pub again : (o : ViewOptions) (arrival : Arrival) → (arrival ≡ Unknown → o.arrival ≡ Unknown) →
     with_arrival (with_arrival o arrival) arrival ≡ with_arrival o arrival
 unfolding origin_after origin_on
@@ -123,7 +123,7 @@ unfolding view_by
 view_two s [] qs = refl
 view_two s (p ∷ ps) qs = view_two (views.after_packet (views.arriving s p.arrival 1) p.bytes) ps qs
 
--- ---- packet by packet
+-- A queue, packet by packet
 
 held_is : (q : QueueState) (o : Option Arrival) → held_after q o ≡ waiting o q.held
 unfolding held_after waiting
@@ -147,27 +147,27 @@ pub not_empty : (held : List (List ℕ)) (bytes : List ℕ) → held ++ bytes �
 not_empty [] bytes e = cc
 not_empty (b ∷ held) bytes e = cc
 
--- how the view was told that packets arrive, where no line is known
-abbrev pub Untold : QueueState → ViewState → Type 0
-Untold q v = q.before ≡ None → v.seen.options.arrival ≡ Unknown
+-- While the queue knows no line, the arrival of the view is `Unknown`.
+abbrev pub IsUntimed : QueueState → ViewState → Type 0
+IsUntimed q v = q.before ≡ None → v.seen.options.arrival ≡ Unknown
 
--- what is so at the end
+-- At the end the view knows the same of its streams as a view of the packets one by one.
 abbrev Ends : QueueState → List (List ℕ) → Type 0
-Ends q packets = (v v' : ViewState) (first here : ℕ) → Waits q first here → Untold q v → (q.held ≡ [] → ⊥) → Like v v' →
+Ends q packets = (v v' : ViewState) (first here : ℕ) → Waits q first here → IsUntimed q v → (q.held ≡ [] → ⊥) → Like v v' →
     Like (last_view (clocked.after_all (record { view = v; queue = Some q }) packets).view
     (clocked.after_all (record { view = v; queue = Some q }) packets).queue)
     (view_by v' (timed_from q packets))
 
--- a packet more: those that wait go on waiting, or arrive
+-- With one more packet the waiting packets still wait, or they arrive.
 one_view : (q : QueueState) (bytes : List ℕ) (packets : List (List ℕ)) → Ends (with_one q bytes) packets → (v v' : ViewState) (first here : ℕ) →
-    Waits q first here → Untold q v →
+    Waits q first here → IsUntimed q v →
     (q.held ≡ [] → ⊥) → Like v v' → (b : Bool) → still_wait q (reference_in q bytes) ≡ b →
     Like
     (last_view (clocked.after_all (record { view = view_after v (stepped q bytes) (released q bytes); queue = Some (with_one q bytes) }) packets).view
     (clocked.after_all (record { view = view_after v (stepped q bytes) (released q bytes); queue = Some (with_one q bytes) }) packets).queue)
     (view_by v' (arrived (released q bytes) q.held ++ timed_from (with_one q bytes) packets))
 unfolding view_after arrived
-one_view q bytes packets later v v' first here w untold some l true h =
+one_view q bytes packets later v v' first here w untimed some l true h =
     let c : Comes q (reference_in q bytes) first here = comes_with q bytes first here w in
     let none : released q bytes ≡ None = rw h refl in
     let then_before : (with_one q bytes).before ≡ q.before = rw h refl in
@@ -175,9 +175,9 @@ one_view q bytes packets later v v' first here w untold some l true h =
     (last_view (clocked.after_all (record { view = view_after v (stepped q bytes) o; queue = Some (with_one q bytes) }) packets).view
     (clocked.after_all (record { view = view_after v (stepped q bytes) o; queue = Some (with_one q bytes) }) packets).queue)
     (view_by v' (arrived o q.held ++ timed_from (with_one q bytes) packets))) (sym none)
-    (later v v' first (here + 1) (one_waits q bytes first here w c h) (λ e. untold (sym then_before ∙ e)) (not_empty (waiting (released q bytes) q.held) bytes)
+    (later v v' first (here + 1) (one_waits q bytes first here w c h) (λ e. untimed (sym then_before ∙ e)) (not_empty (waiting (released q bytes) q.held) bytes)
     l)
-one_view q bytes packets later v v' first here w untold some l false h =
+one_view q bytes packets later v v' first here w untimed some l false h =
     let c : Comes q (reference_in q bytes) first here = comes_with q bytes first here w in
     let line : Option Line = (clock_by q (reference_in q bytes)).line in
     let a : Arrival = arrival_by q.before line in
@@ -185,10 +185,10 @@ one_view q bytes packets later v v' first here w untold some l false h =
     let then_line : (with_one q bytes).before ≡ line = rw h refl in
     let v1 : ViewState = view_with v (stepped q bytes) a in
     let v1' : ViewState = view_by v' (timed.arriving_so a q.held) in
-    let now : Like v1 v1' = each_so v v' a (length q.held) q.held some l (λ e. untold (w.before ∙ c.none (unknown_line q.before line e))) in
-    let told : Untold (with_one q bytes) v1 = λ e.
+    let now : Like v1 v1' = each_so v v' a (length q.held) q.held some l (λ e. untimed (w.before ∙ c.none (unknown_line q.before line e))) in
+    let reported : IsUntimed (with_one q bytes) v1 = λ e.
     ap (λ (o : ViewOptions). o.arrival) (all_options (views.arriving v a (length q.held)) q.held) ∙ no_line q.before line (sym then_line ∙ e) in
-    let rest = later v1 v1' here (here + 1) (alone_waits q bytes first here w c h) told (not_empty (waiting (released q bytes) q.held) bytes) now in
+    let rest = later v1 v1' here (here + 1) (alone_waits q bytes first here w c h) reported (not_empty (waiting (released q bytes) q.held) bytes) now in
     let joined = subst (λ (x : ViewState). Like
     (last_view (clocked.after_all (record { view = v1; queue = Some (with_one q bytes) }) packets).view
     (clocked.after_all (record { view = v1; queue = Some (with_one q bytes) }) packets).queue) x)
@@ -200,16 +200,16 @@ one_view q bytes packets later v v' first here w untold some l false h =
 
 end_of : (packets : List (List ℕ)) (q : QueueState) → Ends q packets
 unfolding clocked.after_all clocked.after_in last_view timed_from
-end_of [] q v v' first here w untold some l =
-    each_so v v' (last_arrival q) (length q.held) q.held some l (λ e. untold (w.before ∙ unknown_line q.before q.clock.line e))
-end_of (bytes ∷ packets) q v v' first here w untold some l =
+end_of [] q v v' first here w untimed some l =
+    each_so v v' (last_arrival q) (length q.held) q.held some l (λ e. untimed (w.before ∙ unknown_line q.before q.clock.line e))
+end_of (bytes ∷ packets) q v v' first here w untimed some l =
     subst (λ (x : QueueState). Like
     (last_view (clocked.after_all (record { view = view_after v (stepped q bytes) (released q bytes); queue = Some x }) packets).view
     (clocked.after_all (record { view = view_after v (stepped q bytes) (released q bytes); queue = Some x }) packets).queue)
     (view_by v' (timed_from q (bytes ∷ packets)))) (sym (queue_is q bytes))
-    (one_view q bytes packets (end_of packets (with_one q bytes)) v v' first here w untold some l (still_wait q (reference_in q bytes)) refl)
+    (one_view q bytes packets (end_of packets (with_one q bytes)) v v' first here w untimed some l (still_wait q (reference_in q bytes)) refl)
 
--- ---- from the first packet on
+-- A report from its first packet on
 
 pub first_waits : (pid : ClockPid) (o : Option (ℕ × PcrSample)) → still_wait (no_packet pid) o ≡ true
 unfolding line_by line_from step_after
@@ -239,7 +239,7 @@ first_view pid v bytes packets unknown =
     (clocked.after_all (record { view = view_after v (stepped q bytes) o; queue = Some (with_one q bytes) }) packets).queue)
     (view_by v (arrived o q.held ++ timed_from (with_one q bytes) packets))) (sym none) rest)
 
--- ---- each byte takes the same step
+-- Each byte takes the same step.
 
 line_step : (before line : Option Line) → step_of (arrival_by before line) ≡ byte_ticks_at_1bps
 unfolding arrival_by step_of
@@ -270,7 +270,7 @@ all_step q (bytes ∷ packets) =
     (arrived_step q bytes (still_wait q (reference_in q bytes)) refl)
     (all_step (with_one q bytes) packets)
 
--- ---- each stream of the report
+-- Each stream of the report
 
 pub once : (pid : ClockPid) (packets : List (List ℕ)) → length (timed_packets pid packets) ≡ length packets
 once pid packets = sym (length-map (timed_packets pid packets) (λ p. p.bytes)) ∙ ap (λ (l : List (List ℕ)). length l) (each_once pid packets)

@@ -1,4 +1,4 @@
--- The streams of a report on packets that arrive by clock references, once each packet has been viewed.
+-- The streams of a report on packets that arrive by clock references, once each packet has been viewed
 use Rattle.std.proofs.Common.{◌≡◌, ◌∙◌, sym, ℕ, ◌+◌, Bool, true, false, List, [], ◌∷◌, ◌++◌, length, Option, Some, None, refl, ap, subst}
 use Rattle.std.specs.Prelude.{slice_get}
 use Rattle.arrival.specs.declared.line.Line.{Line}
@@ -17,10 +17,11 @@ use Rattle.ts_report.specs.Views.{ViewState}
 use Rattle.ts_report.specs.Views as views
 use Rattle.laws_view.specs.ClockedWindows.{ClockedTablesLaw, last_tables, tables_after, tables_all, tables_in, tables_released}
 use Rattle.laws_view.specs.TimedStreams.{view_by}
-use Rattle.laws_view.proofs.ClockedStreams.{Like, Untold, again, all_options, each_so, first_waits, like_packet, no_line, not_empty, packet_options, queue_is}
+use Rattle.laws_view.proofs.ClockedStreams.{Like, IsUntimed, again, all_options, each_so, first_waits, like_packet, no_line, not_empty, packet_options}
+use Rattle.laws_view.proofs.ClockedStreams.{queue_is}
 use Rattle.laws_view.proofs.ClockedStreams.{unknown_line}
 
--- ---- packets one by one
+-- The tables after each packet
 
 tables_by : ViewState → List Timed → List TableState
 tables_by s [] = []
@@ -39,7 +40,7 @@ unfolding view_by tables_by
 table_at s [] later = refl
 table_at s (p ∷ before) later = table_at (views.after_packet (views.arriving s p.arrival 1) p.bytes) before later
 
--- ---- packets that arrive so, all at once and one by one
+-- Packets with one arrival, all at once and one by one
 
 more_tables : (s s' : ViewState) (arrival : Arrival) (packets : List (List ℕ)) → Like s s' → with_arrival s.seen.options arrival ≡ s.seen.options →
     tables_after s packets ≡ tables_by s' (arriving_so arrival packets)
@@ -81,30 +82,30 @@ so_tables v v' arrival n (bytes ∷ packets) l unknown =
     ∙ ap (λ (l : List TableState). (views.after_packet s' bytes).table ∷ l)
     (more_tables (views.after_packet s bytes) (views.after_packet s' bytes) arrival packets now stays)
 
--- ---- packet by packet
+-- A queue, packet by packet
 
-abbrev Tells : QueueState → List (List ℕ) → Type 0
-Tells q packets = (v v' : ViewState) (first here : ℕ) → Waits q first here → Untold q v → (q.held ≡ [] → ⊥) → Like v v' →
+abbrev PassesTables : QueueState → List (List ℕ) → Type 0
+PassesTables q packets = (v v' : ViewState) (first here : ℕ) → Waits q first here → IsUntimed q v → (q.held ≡ [] → ⊥) → Like v v' →
     tables_all (record { view = v; queue = Some q }) packets ≡ tables_by v' (timed_from q packets)
 
--- a packet more: those that wait go on waiting, or arrive
-one_tables : (q : QueueState) (bytes : List ℕ) (packets : List (List ℕ)) → Tells (with_one q bytes) packets → (v v' : ViewState) (first here : ℕ) →
-    Waits q first here → Untold q v →
+-- With one more packet the waiting packets still wait, or they arrive.
+one_tables : (q : QueueState) (bytes : List ℕ) (packets : List (List ℕ)) → PassesTables (with_one q bytes) packets → (v v' : ViewState) (first here : ℕ) →
+    Waits q first here → IsUntimed q v →
     (q.held ≡ [] → ⊥) → Like v v' → (b : Bool) → still_wait q (reference_in q bytes) ≡ b →
     tables_released v (stepped q bytes) (released q bytes)
     ++ tables_all (record { view = view_after v (stepped q bytes) (released q bytes); queue = Some (with_one q bytes) }) packets
     ≡ tables_by v' (arrived (released q bytes) q.held ++ timed_from (with_one q bytes) packets)
 unfolding tables_released view_after arrived
-one_tables q bytes packets later v v' first here w untold some l true h =
+one_tables q bytes packets later v v' first here w untimed some l true h =
     let c : Comes q (reference_in q bytes) first here = comes_with q bytes first here w in
     let none : released q bytes ≡ None = rw h refl in
     let then_before : (with_one q bytes).before ≡ q.before = rw h refl in
     subst (λ (o : Option Arrival).
     tables_released v (stepped q bytes) o ++ tables_all (record { view = view_after v (stepped q bytes) o; queue = Some (with_one q bytes) }) packets
     ≡ tables_by v' (arrived o q.held ++ timed_from (with_one q bytes) packets)) (sym none)
-    (later v v' first (here + 1) (one_waits q bytes first here w c h) (λ e. untold (sym then_before ∙ e)) (not_empty (waiting (released q bytes) q.held) bytes)
+    (later v v' first (here + 1) (one_waits q bytes first here w c h) (λ e. untimed (sym then_before ∙ e)) (not_empty (waiting (released q bytes) q.held) bytes)
     l)
-one_tables q bytes packets later v v' first here w untold some l false h =
+one_tables q bytes packets later v v' first here w untimed some l false h =
     let c : Comes q (reference_in q bytes) first here = comes_with q bytes first here w in
     let line : Option Line = (clock_by q (reference_in q bytes)).line in
     let a : Arrival = arrival_by q.before line in
@@ -113,11 +114,11 @@ one_tables q bytes packets later v v' first here w untold some l false h =
     let v1 : ViewState = view_with v (stepped q bytes) a in
     let v1' : ViewState = view_by v' (arriving_so a q.held) in
     let rests : List TableState = tables_all (record { view = v1; queue = Some (with_one q bytes) }) packets in
-    let known : a ≡ Unknown → v.seen.options.arrival ≡ Unknown = λ e. untold (w.before ∙ c.none (unknown_line q.before line e)) in
+    let known : a ≡ Unknown → v.seen.options.arrival ≡ Unknown = λ e. untimed (w.before ∙ c.none (unknown_line q.before line e)) in
     let now : Like v1 v1' = each_so v v' a (length q.held) q.held some l known in
-    let told : Untold (with_one q bytes) v1 = λ e.
+    let reported : IsUntimed (with_one q bytes) v1 = λ e.
     ap (λ (o : ViewOptions). o.arrival) (all_options (views.arriving v a (length q.held)) q.held) ∙ no_line q.before line (sym then_line ∙ e) in
-    let rest = later v1 v1' here (here + 1) (alone_waits q bytes first here w c h) told (not_empty (waiting (released q bytes) q.held) bytes) now in
+    let rest = later v1 v1' here (here + 1) (alone_waits q bytes first here w c h) reported (not_empty (waiting (released q bytes) q.held) bytes) now in
     let joined = ap (λ (l : List TableState). l ++ rests) (so_tables v v' a (length q.held) q.held l known)
     ∙ ap (λ (l : List TableState). tables_by v' (arriving_so a q.held) ++ l) rest
     ∙ sym (tables_two v' (arriving_so a q.held) (timed_from (with_one q bytes) packets)) in
@@ -125,18 +126,18 @@ one_tables q bytes packets later v v' first here w untold some l false h =
     tables_released v (stepped q bytes) o ++ tables_all (record { view = view_after v (stepped q bytes) o; queue = Some (with_one q bytes) }) packets
     ≡ tables_by v' (arrived o q.held ++ timed_from (with_one q bytes) packets)) (sym leave) joined
 
-tell : (packets : List (List ℕ)) (q : QueueState) → Tells q packets
+pass_tables : (packets : List (List ℕ)) (q : QueueState) → PassesTables q packets
 unfolding tables_all tables_in last_tables timed_from clocked.after_in
-tell [] q v v' first here w untold some l =
-    so_tables v v' (last_arrival q) (length q.held) q.held l (λ e. untold (w.before ∙ unknown_line q.before q.clock.line e))
-tell (bytes ∷ packets) q v v' first here w untold some l =
+pass_tables [] q v v' first here w untimed some l =
+    so_tables v v' (last_arrival q) (length q.held) q.held l (λ e. untimed (w.before ∙ unknown_line q.before q.clock.line e))
+pass_tables (bytes ∷ packets) q v v' first here w untimed some l =
     subst (λ (x : QueueState).
     tables_released v (stepped q bytes) (released q bytes)
     ++ tables_all (record { view = view_after v (stepped q bytes) (released q bytes); queue = Some x }) packets
     ≡ tables_by v' (timed_from q (bytes ∷ packets))) (sym (queue_is q bytes))
-    (one_tables q bytes packets (tell packets (with_one q bytes)) v v' first here w untold some l (still_wait q (reference_in q bytes)) refl)
+    (one_tables q bytes packets (pass_tables packets (with_one q bytes)) v v' first here w untimed some l (still_wait q (reference_in q bytes)) refl)
 
--- ---- from the first packet on
+-- A report from its first packet on
 
 first_tables : (pid : ClockPid) (v : ViewState) (packets : List (List ℕ)) → v.seen.options.arrival ≡ Unknown →
     tables_all (record { view = v; queue = Some (no_packet pid) }) packets ≡ tables_by v (timed_packets pid packets)
@@ -148,7 +149,7 @@ first_tables pid v (bytes ∷ packets) unknown =
     let none : released q bytes ≡ None = rw h refl in
     let c : Comes q (reference_in q bytes) 0 0 = comes_with q bytes 0 0 (waits_first pid) in
     let itself : Like v v = record { options = refl; packets = refl; clocks = refl; named = refl; table = refl } in
-    let rest = tell packets (with_one q bytes) v v 0 (0 + 1) (one_waits q bytes 0 0 (waits_first pid) c h) (λ e. unknown)
+    let rest = pass_tables packets (with_one q bytes) v v 0 (0 + 1) (one_waits q bytes 0 0 (waits_first pid) c h) (λ e. unknown)
     (not_empty (waiting (released q bytes) q.held) bytes) itself in
     subst (λ (x : QueueState).
     tables_released v (stepped q bytes) (released q bytes)

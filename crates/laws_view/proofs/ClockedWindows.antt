@@ -1,4 +1,4 @@
--- What a line `held` of a report on packets that arrive by clock references says of the buffers.
+-- What a line `held` says of the buffers, in a report on packets that arrive by clock references
 use Rattle.std.proofs.Common.{◌≡◌, ◌∙◌, sym, ℕ, ◌+◌, ◌<◌, List, ◌++◌, length, Option, Some, None, ap, subst, arith, All, append_assoc}
 use Rattle.std.specs.Prelude.{slice_get}
 use Rattle.std.proofs.lemmas.List.{length-append}
@@ -24,7 +24,7 @@ use Rattle.laws_view.proofs.HeldWindows.{timed_high_law, timed_window_law, timed
 use Rattle.laws_view.proofs.Lists.{some_is}
 use Rattle.laws_view.proofs.OrderedWindows.{first_all, first_in_order, ordered_transport, step_is}
 
--- ---- a stream at both ends of a window, as one views the packets one by one
+-- A stream at both ends of a window, in a view of the packets one by one
 
 record InView (request : RequestView) (packets : List (List ℕ)) (before now later : List Timed) (place : ℕ) (o o' : Option EntryState) : Type 0 where
   there : slice_get (view_by (start request) before).table.entries place ≡ o
@@ -84,10 +84,10 @@ clocked_first_law request packets before now later window place t t' e unknown f
     first_high_law request before now window place e (omega (arith, v.many, few)) v.there v.then_there all (omega (arith, step))
 
 pub clocked_transport_law : ClockedTransportLaw
-clocked_transport_law request packets before now later window place e e' w told whole few some =
+clocked_transport_law request packets before now later window place e e' w reported whole few some =
     let split : timed_in request packets ≡ (before ++ now) ++ later = w.split ∙ sym (append_assoc before now later) in
     let order : InOrder byte_ticks_at_1bps ((before ++ now) ++ later) =
     subst (λ (l : List Timed). InOrder byte_ticks_at_1bps l) split (clocked_order (clock_for request.choice.programs) packets whole) in
-    ordered_transport request byte_ticks_at_1bps before now window place e e' (of_window request packets before now later window place e e' w).0 told
+    ordered_transport request byte_ticks_at_1bps before now window place e e' (of_window request packets before now later window place e e' w).0 reported
     (omega arith)
     (first_in_order byte_ticks_at_1bps (before ++ now) later order) few some

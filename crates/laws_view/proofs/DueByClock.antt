@@ -1,4 +1,4 @@
--- When a view finds a unit due: at its stamp by each clock reference that it goes by, as by those of a run that a multiplexer wrote.
+-- A view finds a unit due at its stamp by each clock reference that the unit goes by, such as the references of a run that a multiplexer wrote.
 use Rattle.std.proofs.Common.{◌≡◌, ℕ, ◌+◌, ◌-◌, ◌*◌, ◌/◌, ◌%◌, ◌^◌, ◌≤◌, ◌<◌, max, nat_lt, true, false, refl, inl, inr, arith}
 use Rattle.std.proofs.Math.Nat.{div-le_of_le-mul, le-div_iff_mul-le, mul-le-mul_left, mul-le-mul_right}
 use Rattle.std.proofs.lemmas.Bool.{cases_lt, le-ltb, lt-ltb}
@@ -12,17 +12,17 @@ use Rattle.tstd_rows.specs.ConstantRate.{due_time}
 use Rattle.laws_view.specs.CarriedStreams.{GoesBy}
 use Rattle.laws_view.specs.StreamPackets.{most_packets}
 
--- from the ticks t of the clock to those of the stamp, both after the same begin
+-- If the stamp is not before the clock, the difference is the ticks from the clock to the stamp.
 ahead_is : (t dts base0 : ℕ) → t ≤ 300 * dts → 300 * dts - t < 2576980377600 →
     ((dts + base0) % 8589934592 % 8589934592 * 300 + 2576980377600 - (t + 300 * base0) % 2576980377600) % 2576980377600 ≡ 300 * dts - t
 ahead_is t dts base0 le near = omega (arith, le, near)
 
--- and where the stamp comes first
+-- If the stamp is before the clock, the difference wraps around.
 behind_is : (t dts base0 : ℕ) → 300 * dts < t → t - 300 * dts < 2576980377600 →
     ((dts + base0) % 8589934592 % 8589934592 * 300 + 2576980377600 - (t + 300 * base0) % 2576980377600) % 2576980377600 ≡ 2576980377600 - (t - 300 * dts)
 behind_is t dts base0 lt near = omega (arith, lt, near)
 
--- a unit that goes by it is due at its stamp
+-- A unit that goes by a clock reference is due at its stamp.
 tick_is : (rate base0 : ℕ) (clock : PcrSample) (u : AccessUnit) → GoesBy rate base0 clock u → due_tick rate clock (on_wire (u.dts + base0)) ≡ 300 * u.dts
 tick_is rate base0 clock u goes =
     let t : ℕ = tick_of rate clock in
@@ -53,13 +53,13 @@ due_by_clock rate rx base0 clock u goes =
     let both = units_same (u.dts * rate * rx) in
     rw (due, parts, both.0, both.1) refl
 
--- ---- in a run
+-- Units and clock references in a run
 
--- the clock reference in the packet at an index
+-- The clock reference in the packet at this index
 abbrev pub reference_at : ℕ → ℕ → ℕ → PcrSample
 reference_at rate base0 m = record { byte = 188 * m + 10; ticks = pcr_ticks rate base0 (188 * m + 10); discontinuity = false }
 
--- the whole ticks to byte i are no more than the stamp's where the byte comes by then, and not long before it
+-- If a byte comes by the stamp, its whole ticks are at most the stamp's; if it comes shortly before, they are not much less.
 tick_le : (rate a g : ℕ) → a ≤ g * rate → a / rate ≤ g
 tick_le rate a g le = div-le_of_le-mul rate (let turned : a ≤ rate * g = omega (arith, le) in turned)
 
@@ -73,13 +73,13 @@ tick_near rate a g k some le = elim (cases_lt (a / rate + k + 1) g) [
   | inr fine ↦ fine
 ]
 
--- the ticks of a byte of the first 2^40 are below the last one
+-- The ticks of a byte in the first 2^40 bytes are at most 2^60.
 tick_low : (rate m : ℕ) → 100000 ≤ rate → m < most_packets → 216000000 * (188 * m + 10) / rate ≤ 2 ^ 60
 tick_low rate m least few =
     let le : 216000000 * (188 * m + 10) ≤ 2 ^ 60 * rate = omega (arith, few, mul-le-mul_left (2 ^ 60) least) in
     tick_le rate (216000000 * (188 * m + 10)) (2 ^ 60) le
 
--- a unit with a packet at index i goes by the last reference, in a packet up to that one
+-- A unit with a packet at index i goes by the last clock reference, which is in a packet up to index i.
 pub run_goes_by : (rate base0 m i : ℕ) (u : AccessUnit) → 100000 ≤ rate → m ≤ i → i < most_packets → (188 * (i + 1) - (188 * m + 10)) * 8000 ≤ 100 * rate →
     i * slot_units_at_1bps ≤ u.dts * rate → u.dts * rate ≤ i * slot_units_at_1bps + 90000 * rate → GoesBy rate base0 (reference_at rate base0 m) u
 run_goes_by rate base0 m i u least before few near on_time soon =

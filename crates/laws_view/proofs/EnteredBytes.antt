@@ -1,4 +1,4 @@
--- Packets that enter buffers at a constant rate: when their bytes arrive.
+-- When the bytes of packets arrive if the packets enter buffers at a constant rate
 use Rattle.std.proofs.Common.{◌≡◌, ◌∙◌, sym, ℕ, suc, ◌+◌, ◌-◌, ◌*◌, ◌^◌, ◌≤◌, ◌<◌, ◌&&◌, nat_le, nat_lt, Bool, true, false, List, [], ◌∷◌, ◌++◌, length, Option}
 use Rattle.std.proofs.Common.{Some, None, if◌then◌else◌, refl, ap, subst, inl, inr, arith}
 use Rattle.std.proofs.lemmas.Bool.Decides.{eqb_tells, nat_tests}
@@ -16,13 +16,13 @@ use Rattle.tstd_rows.specs.Entering.{after, after_begin, after_bytes, after_head
 use Rattle.tstd_rows.specs.Entering.{with_packet}
 use Rattle.laws_view.specs.StreamPackets.{most_packets}
 
--- what does not change
+-- The rate, the drain rate and the size do not change.
 pub record Alike (h h' : Held) : Type 0 where
   pub rate : h'.rate ≡ h.rate
   pub rx : h'.rx ≡ h.rx
   pub size : h'.main.size ≡ h.main.size
 
--- and the bytes that have arrived
+-- Bytes with these times have arrived.
 pub record Arrives (h h' : Held) (times : List ℕ) : Type 0 where
   pub alike : Alike h h'
   pub arrivals : arrivals_of h'.parts ≡ arrivals_of h.parts ++ times
@@ -58,7 +58,7 @@ arrives_trans a b c ts us p q = record {
   arrivals = q.arrivals ∙ rw p.arrivals (append_assoc (arrivals_of a.parts) ts us);
 }
 
--- the bytes of a packet in three parts
+-- The bytes of a packet in three parts
 pub three_rows : (r i lead size : ℕ) → lead + size ≤ 188 →
     bytes_from r i lead ++ (bytes_from r (i + lead) (188 - size - lead) ++ ([] ++ bytes_from r (i + (188 - size)) size)) ≡ bytes_from r i 188
 three_rows r i lead size le =
@@ -69,7 +69,7 @@ three_rows r i lead size le =
     let last = rw (rest, place) at (row_split r (i + lead) (188 - size - lead) size) in
     sym (first ∙ ap (λ (l : List ℕ). bytes_from r i lead ++ l) last)
 
--- n bytes of the stream from byte i on
+-- The n bytes of the stream from byte i on arrive.
 pub bytes_arrive : (h : Held) (rate rx : ℕ) (enters : Bool) (i n : ℕ) → h.rx ≡ rx → Arrives h (after_bytes h (AtRate rate) enters i n) (bytes_from rx i n)
 unfolding times_at
 bytes_arrive h rate rx enters i n e =
@@ -98,7 +98,7 @@ unfolding after
 packet_arrives h rate p e =
     rw e (with_parts h rate p (size_of p) (lead_in (AtRate rate) p) (omega arith))
 
--- each packet of the first 2^40 bytes is taken in
+-- Each packet in the first 2^40 bytes is taken in.
 pub taken_in : (h : Held) (rate : ℕ) (p : Arriving) → p.index < most_packets → length (arrivals_of h.parts) ≤ 188 * p.index → takes_in h (AtRate rate) p ≡ true
 unfolding has_times
 taken_in h rate p early few =
@@ -108,12 +108,12 @@ taken_in h rate p early few =
     by_tests : (a b c d e f : ℕ) → a < b → c ≤ d → e ≤ f → (nat_lt a b && nat_le c d && nat_le e f) ≡ true
     by_tests a b c d e f lt le le' = grind (arith, nat_tests)
 
--- these packets come one after another, none of them before this index
+-- These packets come one after another, none of them before this index.
 unfoldable pub ComeFrom : ℕ → List Arriving → Type 0
 ComeFrom low [] = Unit {0}
 ComeFrom low (p ∷ ps) = (low ≤ p.index) × (p.index < most_packets) × ComeFrom (suc p.index) ps
 
--- whatever the arrival
+-- A payload changes neither rate nor size, whatever its times.
 pub payload_alike : (h : Held) (enters : Bool) (n : ℕ) (times : List ℕ) → Alike h (after_payload h enters n times)
 unfolding after_payload
 payload_alike h enters n times = elim (eqb_tells n 0) [

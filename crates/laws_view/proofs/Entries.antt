@@ -1,4 +1,4 @@
--- The streams whose buffers have begun, packet by packet: each has one entry, and each packet of its PID enters it.
+-- Each stream whose buffers have begun has one entry, and each packet of its PID enters this entry.
 use Rattle.std.proofs.Common.{◌≡◌, ◌∙◌, sym, ℕ, ◌⊎◌, ◌&&◌, not, is_some, Bool, true, false, [], ◌∷◌, ◌++◌, length, Option, Some, None, if◌then◌else◌, refl, ap}
 use Rattle.std.proofs.Common.{inl, inr, nat_eq}
 use Rattle.std.specs.Prelude.{set, slice_get}
@@ -16,7 +16,7 @@ use Rattle.ts_report.specs.StreamTables.{TableState, beginning, begun, begun_if,
 use Rattle.ts_report.specs.StreamTables.{stream_rates, taken, taken_at, taken_if, with_entry}
 use Rattle.laws_view.proofs.Lists.{get_either, get_first, get_last, lookup_other, lookup_same, set_other, set_same, some_is}
 
--- the place of a PID is that of its entry, and the entry of a place is of the PID that has it
+-- The place of a PID is the place of its entry, and each entry is at the place of its PID.
 pub record Agree (t : TableState) : Type 0 where
   pub at : (pid j : ℕ) → lookup (nat_eq pid) t.places ≡ Some j → (e : EntryState) × ((slice_get t.entries j ≡ Some e) × (e.pid ≡ pid))
   pub of : (j : ℕ) (e : EntryState) → slice_get t.entries j ≡ Some e → lookup (nat_eq e.pid) t.places ≡ Some j
@@ -53,7 +53,7 @@ with_entry_agrees t pid e agree is new = record { at = there; of = placed }
           ∙ lookup_same t.places pid many ∙ ap (λ (i : ℕ). Some i) (sym last.0)
     ]
 
--- a stream begins where its PID has no place
+-- A stream begins only if its PID has no place.
 pub new_place : (named : NamedView) (t : TableState) (packet : PacketView) (stream : FoundStreamView) → beginning named t packet ≡ Some stream →
     lookup (nat_eq packet.header.pid) t.places ≡ None
 new_place named t packet stream h =
@@ -65,7 +65,7 @@ new_place named t packet stream h =
     none_if true (Some j) c s h = none_some s h
     none_if false (Some j) c s h = none_some s h
 
--- the entry of a stream that begins
+-- The entry of a stream that begins
 abbrev pub entry_begun : ViewOptions → NamedView → TableState → PacketView → FoundStreamView → EntryState
 entry_begun options named t packet stream =
     new_entry options packet.header.pid (program_clock named stream.program) (stream_buffers t stream packet) (stream_rates t stream packet)
@@ -79,7 +79,7 @@ begun_agrees options named t packet agree = by (beginning named t packet) refl
     by None h = agree
     by (Some stream) h = with_entry_agrees t packet.header.pid (entry_begun options named t packet stream) agree refl (new_place named t packet stream h)
 
--- those that have begun stay
+-- An entry keeps its place when a stream begins.
 pub begun_keeps : (options : ViewOptions) (named : NamedView) (t : TableState) (packet : PacketView) (j : ℕ) (e : EntryState) → slice_get t.entries j ≡ Some e →
     slice_get (begun options named t packet).entries j ≡ Some e
 unfolding begun_if
@@ -89,7 +89,7 @@ begun_keeps options named t packet j e there = by (beginning named t packet)
     by None = there
     by (Some stream) = get_first t.entries (entry_begun options named t packet stream ∷ []) j e there
 
--- and any other begins with the packet
+-- A new entry begins with the packet.
 pub record BeginsWith (options : ViewOptions) (named : NamedView) (t : TableState) (packet : PacketView) (e : EntryState) : Type 0 where
   pub stream : FoundStreamView
   pub begins : beginning named t packet ≡ Some stream
@@ -108,7 +108,7 @@ begun_or_before options named t packet j e there = by (beginning named t packet)
       | inr last ↦ inr (record { stream = stream; begins = h; is = sym last.1 })
     ]
 
--- ---- a packet enters
+-- A packet enters its stream's buffers.
 
 set_agrees : (t : TableState) (place : ℕ) (e e' : EntryState) → Agree t → slice_get t.entries place ≡ Some e → e'.pid ≡ e.pid →
     Agree (record t { entries = set t.entries place e' })
@@ -161,7 +161,7 @@ taken_agrees options index window clocks t packet agree = by (lookup (nat_eq pac
         rw (one_taken options index window clocks t packet place found.0 h found.1.0)
         (set_agrees t place found.0 (entry_taken options index window clocks packet found.0) agree found.1.0 refl)
 
--- what it does to an entry
+-- An entry after a packet
 abbrev pub entry_with : ViewOptions → ℕ → ℕ → ClockEntries → EntryState → PacketView → EntryState
 entry_with options index window clocks e packet = if nat_eq e.pid packet.header.pid then entry_taken options index window clocks packet e else e
 
@@ -185,7 +185,7 @@ taken_entry options index window clocks t packet j e agree there = elim (eqb_tel
         rw (one_taken options index window clocks t packet place found.0 h found.1.0)
         (set_other t.entries place j (entry_taken options index window clocks packet found.0) apart ∙ there)
 
--- it begins no other
+-- A packet that enters begins no entry.
 pub taken_before : (options : ViewOptions) (index window : ℕ) (clocks : ClockEntries) (t : TableState) (packet : PacketView) (j : ℕ) (e' : EntryState) →
     Agree t →
     slice_get (taken options index window clocks t packet).entries j ≡ Some e' →

@@ -1,4 +1,4 @@
--- The excesses of a transport buffer that end with bytes in two parts, and how many there are.
+-- The excesses of a transport buffer that end with bytes in two parts, and how many there are
 use Rattle.std.proofs.Common.{◌≡◌, ◌∙◌, sym, ℕ, ◌+◌, ◌≤◌, max, Bool, true, false, List, [], ◌∷◌, ◌++◌, length, Option, Some, None, if◌then◌else◌, refl, inl}
 use Rattle.std.proofs.Common.{inr, arith}
 use Rattle.std.proofs.lemmas.Bool.Decides.{eqb_tells}
@@ -15,7 +15,7 @@ use Rattle.tstd_rows.specs.Held.{Held, transport_ended}
 use Rattle.tstd_rows.specs.Entering.{payload_transport}
 use Rattle.laws_view.proofs.EnteredBytes.{Arrives, no_times}
 
--- the excesses that end with bytes in two parts
+-- Bytes in two parts end the excesses of the first part, then the excesses of the second.
 pub ended_two : (h h' : Held) (ts us : List ℕ) → Arrives h h' ts → transport_ended h (ts ++ us) ≡ transport_ended h ts ++ transport_ended h' us
 ended_two h h' ts us a =
     let old : List ℕ = arrivals_of h.parts in
@@ -27,14 +27,14 @@ pub none_ended : (h : Held) → transport_ended h [] ≡ []
 unfolding excesses_ended
 none_ended h = refl
 
-pub payload_told : (h : Held) (n : ℕ) (times : List ℕ) → length times ≡ n → payload_transport h n times ≡ transport_ended h times
+pub payload_reported : (h : Held) (n : ℕ) (times : List ℕ) → length times ≡ n → payload_transport h n times ≡ transport_ended h times
 unfolding payload_transport
-payload_told h n times e = elim (eqb_tells n 0) [
+payload_reported h n times e = elim (eqb_tells n 0) [
   | inl none ↦ rw (none.0, no_times times (e ∙ none.1)) (sym (none_ended h))
   | inr some ↦ rw some.0 refl
 ]
 
--- no more end than bytes come
+-- At most as many excesses end as bytes come.
 few_ended : (step size prev : ℕ) (under_way : Option Excess) (ts : List ℕ) → length (excesses_ended step size prev under_way ts) ≤ length ts
 unfolding excesses_ended
 few_ended step size prev under_way [] = omega arith
@@ -53,5 +53,5 @@ few_ended step size prev under_way (t ∷ ts) =
     one false None = omega arith
     one false (Some e) = omega arith
 
-pub few_told : (h : Held) (ts : List ℕ) → length (transport_ended h ts) ≤ length ts
-few_told h ts = few_ended h.rate tb_size _ _ ts
+pub few_reported : (h : Held) (ts : List ℕ) → length (transport_ended h ts) ≤ length ts
+few_reported h ts = few_ended h.rate tb_size _ _ ts

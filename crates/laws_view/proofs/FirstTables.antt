@@ -1,4 +1,4 @@
--- The streams that the first slots of a run name: once each section of PAT and of the PMTs has begun twice, they are known.
+-- The streams that the first slots of a run name are known once each section of the PAT and of the PMTs has begun twice.
 use Rattle.std.proofs.Common.{◌≡◌, ◌∙◌, ◌⊎◌, sym, ℕ, suc, ◌+◌, ◌*◌, ◌/◌, ◌-◌, ◌^◌, ◌≤◌, ◌<◌, ◌==◌, ◌||◌, is_some, Bool, true, false, List, [], ◌∷◌, ◌++◌}
 use Rattle.std.proofs.Common.{length, map, take, drop, Option, Some, None, Result, Ok, Err, if◌then◌else◌, refl, ap, subst, inl, inr, arith, All, append-nil}
 use Rattle.std.specs.Prelude.{reverse, slice_get}
@@ -67,7 +67,7 @@ use Rattle.stream_programs.proofs.TablesAlone.{of_the_map, pid_zero}
 use Rattle.ts_tables.specs.NamedStreams.{have_maps, streams_at, streams_by}
 use Rattle.laws_view.proofs.Lists.{apart, itself}
 
--- ---- what is found on a PID, and what the end of the stream adds: no section
+-- The findings of a PID, without sections at the end of the stream
 
 abbrev IsNoSection : FindingView → Type 0
 IsNoSection f = section_bytes f.what ≡ None
@@ -113,7 +113,7 @@ is_section : (f : FindingView) (text : List ℕ) → f.what ≡ IsSection text �
 unfolding section_bytes
 is_section f text e = rw e refl
 
--- a section that is found first is found before the end
+-- The first section is found before the end of the stream.
 first_before : (xs ends more : List FindingView) (f : FindingView) (text : List ℕ) → All IsNoSection ends → section_bytes f.what ≡ Some text →
     xs ++ ends ≡ f ∷ more →
     (rest : List FindingView) × (xs ≡ f ∷ rest)
@@ -125,7 +125,7 @@ first_before [] (y ∷ ends) more f text none is e =
     absurd (let no : ⊥ = cc in no)
 first_before (y ∷ xs) ends more f text none is e = let same : y ≡ f = cc in (xs, ap (λ (x : FindingView). x ∷ xs) same)
 
--- ---- a table of which all packets of the first section have come
+-- A table whose first section has all its packets
 
 record FirstOf (n : ℕ) (section : List ℕ) (rest : List (List ℕ)) (packets : List ℕ) : Type 0 where
   at : PidFinding
@@ -149,7 +149,7 @@ first_of n section rest packets enough = by (take (section_packets section) pack
       | inr less ↦ absurd (omega (arith, enough, less.1, length-take (section_packets section) packets, ap (λ (l : List ℕ). length l) e))
     ]
 
--- the section that is found first, and all that is found
+-- The first section that is found on a PID, and the later findings
 record TableFound (P : List ℕ → Type 0) (n pid : ℕ) (bytes : List ℕ) : Type 0 where
   text : List ℕ
   is : P text
@@ -195,13 +195,13 @@ table_found : (P : List ℕ → Type 0) (d : Scheduled) (units : ℕ → List Ac
     TwoStarts (section_starts d.description d.schedule t 0) n →
     (table_pid d.description t == 8191) ≡ false → ((j moment : ℕ) → j < length (section_lengths d.description t) → P (table_bytes d.description t j moment)) →
     TableFound P n (table_pid d.description t) (run_bytes (content_at d units) 0 n)
-table_found P d units n t r kept few h lt told two other each =
+table_found P d units n t r kept few h lt reported two other each =
     let bytes : List ℕ = run_bytes (content_at d units) 0 n in
     let pid : ℕ = table_pid d.description t in
     let table : Table = table_of d t in
     let slots : List ℕ = own_slots (starts table.own (round_places table.lengths) 0) 0 n in
     let given : All IsRecognized (sections_of_rounds table n) =
-    rounds_all IsRecognized table slots (λ j moment within. section_distinguishable d.description t j moment r lt told within) in
+    rounds_all IsRecognized table slots (λ j moment within. section_distinguishable d.description t j moment r lt reported within) in
     let back = tables_come_back table n (content_at d units) (is_run d units n r kept few) (one_table d units t r kept lt) (has_places d t r lt)
     (has_room d t r) given in
     let sent = table_sent d t n bytes r lt (sections_law d.description t r lt).0 (h.tables t lt) two in
@@ -209,7 +209,7 @@ table_found P d units n t r kept few h lt told two other each =
     found_by P n pid bytes (sections_of_rounds table n) (packets_on pid bytes) other (omega (arith, few, h.size))
     (subst (λ (m : ℕ). FirstSent (sections_of_rounds table n) m) many sent) (rounds_all P table slots each) back
 
--- ---- PAT
+-- The PAT
 
 abbrev SaysPrograms : Described → List ℕ → Type 0
 SaysPrograms d text = pat_in text ≡ Some (pat_says d)
@@ -226,7 +226,7 @@ pat_there : (d : Described) (f : FindingView) (text : List ℕ) → f.pid ≡ So
 unfolding pat_found section_on section_bytes
 pat_there d f text on what says = rw (on, what) says
 
--- an entry names the network, or a program of the description
+-- The entry is the PAT entry of a program in the description.
 abbrev OfProgram : Described → Program → Type 0
 OfProgram d p = (i : ℕ) × (q : DescribedProgram) × (slice_get d.programs i ≡ Some q) × (p ≡ pat_entry q)
 
@@ -246,7 +246,7 @@ says_entries : (d : Described) → All (IsEntry d) (pat_says d).programs
 says_entries d =
     All-append (IsEntry d) (network_entries d) (map pat_entry d.programs) (network_is d d.network) (programs_are d d.programs (λ i p e. (i, p, e, refl)))
 
--- a finding on PID 0 has no table, or the description's
+-- A finding on PID 0 has no PAT, or the PAT of the description.
 abbrev HasIts : Described → FindingView → Type 0
 HasIts d f = (pat_found f ≡ None) ⊎ (pat_found f ≡ Some (pat_says d))
 
@@ -291,7 +291,7 @@ entries_are d version (f ∷ fs) h =
     one (inl none) = rw none (All-nil (IsEntry d))
     one (inr some) = rw some (those (0 == version))
 
--- so the programs that are named are the description's
+-- All programs that are named are programs of the description.
 program_with : (d : Described) (named : List Program) (p : Program) → All (OfProgram d) named → IsEntry d p → All (OfProgram d) (with_program named p)
 unfolding with_program
 program_with d named p all (inl network) = rw network all
@@ -307,7 +307,7 @@ programs_with d named [] all h = all
 programs_with d named (p ∷ ps) all h =
     programs_with d (with_program named p) ps (program_with d named p all (All-head (IsEntry d) p ps h)) (All-tail (IsEntry d) p ps h)
 
--- ---- a program's map
+-- The map of a program
 
 abbrev SaysStreams : Described → DescribedProgram → List ℕ → Type 0
 SaysStreams d p text = pmt_in p.number text ≡ Some (pmt_says d p)
@@ -332,12 +332,12 @@ has_map d n p bytes t =
     ap (λ o. is_some o) (sym (of_the_map (pat_entry p) (pushed start bytes).found) ∙ ap (λ (fs : List FindingView). program_map (pat_entry p) fs) t.first)
     ∙ rw here (some_of (program_map (pat_entry p) t.more) (pmt_says d p))
 
--- ---- so the streams are known
+-- The streams of a run are known.
 
 pub record RunTables (d : Scheduled) (n : ℕ) : Type 0 where
   pub twice : (t : ℕ) → t < table_count d.description → table_limit d.description t ≡ 500 → TwoStarts (section_starts d.description d.schedule t 0) n
 
--- its PID is not that of null packets
+-- The PID of a program map is not the PID of null packets.
 map_apart : (d : Described) (i : ℕ) (p : DescribedProgram) (pid : ℕ) → IsInRange d → slice_get d.programs i ≡ Some p → pid ≡ p.pmt_pid → (pid == 8191) ≡ false
 map_apart d i p pid r is same =
     let program = at_place IsProgram d.programs i p r.programs is in
@@ -352,9 +352,9 @@ map_known d units n r kept few h tables i q is =
     let lt : i + 1 < table_count d.description = slice_get_within (table_kinds d.description) (i + 1) (Pmt i) m.kind in
     let limit : table_limit d.description (i + 1) ≡ 500 = let kind = m.kind in rw (kind, table_limit) refl in
     let fits = map_fits d.description (i + 1) i q r lt m.kind is in
-    let told : IsDistinguishable d.description (i + 1) = let kind = m.kind in rw kind (All-nil (λ (text : List ℕ). is_mistaken text ≡ false)) in
+    let reported : IsDistinguishable d.description (i + 1) = let kind = m.kind in rw kind (All-nil (λ (text : List ℕ). is_mistaken text ≡ false)) in
     let other : (table_pid d.description (i + 1) == 8191) ≡ false = map_apart d.description i q (table_pid d.description (i + 1)) r is m.same in
-    let t = table_found (SaysStreams d.description q) d units n (i + 1) r kept few h lt told (tables.twice (i + 1) lt limit) other
+    let t = table_found (SaysStreams d.description q) d units n (i + 1) r kept few h lt reported (tables.twice (i + 1) lt limit) other
     (λ j moment within. subst (SaysStreams d.description q) (sym (map_bytes d.description (i + 1) i j moment q m.kind is)) (pmt_read d.description q fits)) in
     has_map d.description n q bytes (subst (λ (pid : ℕ). TableFound (SaysStreams d.description q) n pid bytes) m.same t)
 

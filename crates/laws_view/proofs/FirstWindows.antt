@@ -1,4 +1,4 @@
--- In the window in which a stream's buffers begin the least that its line `held` says is 0, and the greatest that of all its packets so far.
+-- In the window where the buffers of a stream begin, the line `held` has 0 as its least, and as its most the most of all packets so far.
 use Rattle.std.proofs.Common.{◌≡◌, ◌∙◌, sym, ℕ, ◌+◌, ◌-◌, ◌*◌, ◌^◌, ◌<◌, ◌⊎◌, min, Bool, true, false, List, [], ◌∷◌, ◌++◌, length, Option, Some, None}
 use Rattle.std.proofs.Common.{if◌then◌else◌, refl, ap, ap₂, subst, inl, inr, nat_eq, arith}
 use Rattle.std.specs.Prelude.{◌==◌, slice_get}
@@ -48,7 +48,7 @@ use Rattle.laws_view.proofs.Whole.{none_agree}
 use Rattle.laws_view.proofs.WindowHighs.{each_most, packet_most}
 use Rattle.laws_view.proofs.WindowLows.{Comes, each_comes, each_least, packet_comes, packet_least}
 
--- ---- the first byte finds nothing in the main buffer
+-- The first byte finds an empty main buffer.
 
 no_less : (n : ℕ) → min 0 n ≡ 0
 no_less n = omega arith
@@ -71,7 +71,7 @@ unfolding least_of_both
 zero_first None = refl
 zero_first (Some n) = ap Some (no_less n)
 
--- none is found, and nothing is in it; or the first one finds nothing
+-- The least is 0, or no byte has found a fullness and the main buffer is empty.
 abbrev Starts : ℕ → List Part → Type 0
 Starts step ps = (least_of step ps [] ≡ Some 0) ⊎ ((least_of step ps [] ≡ None) × ((x : ℕ) → main_fullness step ps x ≡ 0))
 
@@ -98,7 +98,7 @@ parts_start step (Passes ts ∷ ps) = parts_start step ps
 parts_start step (Carries ts ∷ ps) = carries_start step ts ps (parts_start step ps)
 parts_start step (Begins due ∷ ps) = parts_start step ps
 
--- so the line says 0, whether one is found or not
+-- The line has 0 as its least, whether or not a byte has found a fullness.
 least_zero : (most : ℕ) (h : Held) (ps : List Part) (least : Option ℕ) → h.parts ≡ ps → least ≡ least_of h.rate ps [] → (main_held most h least).1 ≡ 0
 unfolding main_held
 least_zero most h ps least same is = elim (parts_start h.rate ps) [
@@ -112,7 +112,7 @@ unfolding greatest_at
 none_greatest f [] none = refl
 none_greatest f (t ∷ ts) none = omega (arith, none t, none_greatest f ts none)
 
--- and as the most that of all packets so far
+-- The line has as its most the most of all packets so far.
 most_so_far : (most : ℕ) (h : Held) (ps : List Part) (least : Option ℕ) → h.parts ≡ ps → least ≡ least_of h.rate ps [] → most ≡ main_most h →
     (main_held most h least).0 ≡ main_most h
 unfolding main_held
@@ -123,9 +123,9 @@ most_so_far most h ps least same is most_is = elim (parts_start h.rate ps) [
       rw (is ∙ none.0) (empty (last_of h.rate h.parts) ∙ sym (none_greatest (main_fullness h.rate h.parts) (payload_left h.rate h.parts) empty))
 ]
 
--- ---- the packet with which buffers begin
+-- The packet where the buffers begin
 
--- what is counted of a window is of all that came since its buffers were empty
+-- The counts of the window cover all packets since the buffers were empty.
 record Counts (window : ℕ) (e : EntryState) : Type 0 where
   from : Held
   none : from.parts ≡ []
@@ -133,7 +133,7 @@ record Counts (window : ℕ) (e : EntryState) : Type 0 where
   arrive : Arrives from e.held e.tally.window_transport
   in_it : e.tally.window ≡ window
 
--- before that nothing is
+-- Before the buffers begin, the window counts nothing.
 record CountsNone (t : Tally) : Type 0 where
   least : t.window_least ≡ None
   main : t.window_main ≡ 0
@@ -194,9 +194,9 @@ first_counts r (Some packet) window j e agree none in_it there =
           (begun_counts c.seen.options c.seen.packets (next_window c.seen) c.seen.clocks c.seen.named c.table packet begins.stream))
     ]
 
--- ---- and the others of the window
+-- The later packets of the window
 
--- what its line then says
+-- What the line of the window then says
 record FirstSays (e : EntryState) : Type 0 where
   least : (main_held e.tally.window_main e.held e.tally.window_least).1 ≡ 0
   transport : e.tally.window_transport ≡ transport_most e.held

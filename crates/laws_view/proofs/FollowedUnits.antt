@@ -1,5 +1,5 @@
--- Each packet of a PID that carries units goes with its unit in a view: the view reads its stamp, and finds it due by the clock then, once a
--- clock reference has come.
+-- In a view each packet of a PID that carries units goes with its unit. Once a clock reference has come, the view reads the stamp of a unit that begins and
+-- finds it due by the clock.
 use Rattle.std.proofs.Common.{◌≡◌, ◌∙◌, ◌⊎◌, sym, ℕ, zero, suc, ◌+◌, ◌%◌, Bool, true, false, List, [], ◌∷◌, ◌++◌, Option, Some, None, if◌then◌else◌, refl, ap}
 use Rattle.std.proofs.Common.{subst, inl, inr, nat_eq, arith}
 use Rattle.std.specs.Prelude.{is_some, slice_get}
@@ -30,7 +30,7 @@ use Rattle.laws_view.proofs.SentUnits.{AllSent, IsSent, number_after, wire_dts}
 use Rattle.laws_view.proofs.DueByClock.{due_by_clock}
 use Rattle.laws_view.proofs.ClockAhead.{entries_from, listed}
 
--- ---- by which clock reference a unit goes that begins with a packet
+-- The clock reference of a unit that begins with a packet
 
 abbrev pub BeginsBy : ℕ → ℕ → Entry → AccessUnit → Option PcrSample → Type 0
 BeginsBy rate base0 e u clock = (k : PcrSample) → e.packet.header.payload_unit_start_indicator ≡ true → clock ≡ Some k → GoesBy rate base0 k u
@@ -41,7 +41,7 @@ Clocked rate base0 (e ∷ es) [] clocks = Unit {0}
 Clocked rate base0 (e ∷ es) (u ∷ us) [] = Unit {0}
 Clocked rate base0 (e ∷ es) (u ∷ us) (clock ∷ clocks) = BeginsBy rate base0 e u clock × Clocked rate base0 es us clocks
 
--- the same by numbers
+-- `Clocked` by the numbers of the entries
 abbrev pub ClockedAt : ℕ → ℕ → List Entry → List AccessUnit → List (Option PcrSample) → Type 0
 ClockedAt rate base0 es us clocks = (j : ℕ) (e : Entry) (u : AccessUnit) (k : PcrSample) → slice_get es j ≡ Some e → slice_get us j ≡ Some u →
     e.packet.header.payload_unit_start_indicator ≡ true → slice_get clocks j ≡ Some (Some k) → GoesBy rate base0 k u
@@ -72,14 +72,13 @@ number_clocked rate base0 (f ∷ es) (v ∷ us) (clock ∷ clocks) h zero e u k 
 number_clocked rate base0 (f ∷ es) (v ∷ us) (clock ∷ clocks) h (suc j) e u k found sender starts is =
     number_clocked rate base0 es us clocks h.1 j e u k found sender starts is
 
--- ---- what is known before packet number n of those with a payload: its counter, when the unit goes of which the last packet was, and that none
--- has begun before a clock reference
+-- Before payload packet n of the PID: the last counter, the unit of the last packet, and no open unit before the first clock reference.
 pub record Known (rate : ℕ) (f : Followed) (n : ℕ) (b : Before) (before : Option AccessUnit) (due : Option DueTime) : Type 0 where
   pub counter : (b.counter ≡ None) ⊎ (b.counter ≡ Some ((n + 15) % 16))
   pub goes : (due ≡ None) ⊎ ((u : AccessUnit) × ((before ≡ Some u) × (due ≡ Some (due_time rate f.rx u.dts))))
   pub none : b.clock ≡ None → due ≡ None
 
--- its counter is another than the last one's
+-- The counter of the packet differs from the last one.
 other_counter : (n : ℕ) (o : Option ℕ) → (o ≡ None) ⊎ (o ≡ Some ((n + 15) % 16)) → same_counter o (n % 16) ≡ false
 unfolding same_counter
 other_counter n o (inl none) = rw none refl
@@ -101,13 +100,13 @@ next_counter n o index bytes packet counter known = elim (cases_Bool (is_some pa
   | inr none ↦ rw none known
 ]
 
--- when the unit is due that begins with it
-due_told : (rate base0 : ℕ) (f : Followed) (clock : Option PcrSample) (u : AccessUnit) → f.options.arrival ≡ AtRate rate →
+-- When a unit that begins with the packet is due
+due_reported : (rate base0 : ℕ) (f : Followed) (clock : Option PcrSample) (u : AccessUnit) → f.options.arrival ≡ AtRate rate →
     ((k : PcrSample) → clock ≡ Some k → GoesBy rate base0 k u) →
     (clock ≡ None) ⊎ (due_by f.options f.rx clock (Stamped (wire_dts base0 u)) ≡ Some (due_time rate f.rx u.dts))
 unfolding due_by step_of
-due_told rate base0 f None u at_rate goes = inl refl
-due_told rate base0 f (Some k) u at_rate goes = inr (rw (at_rate, due_by_clock rate f.rx base0 k u (goes k refl)) refl)
+due_reported rate base0 f None u at_rate goes = inl refl
+due_reported rate base0 f (Some k) u at_rate goes = inr (rw (at_rate, due_by_clock rate f.rx base0 k u (goes k refl)) refl)
 
 no_due : (options : ViewOptions) (rx : ℕ) (clock : Option PcrSample) → due_by options rx clock Nothing ≡ None
 unfolding due_by
@@ -118,20 +117,20 @@ none_due : (options : ViewOptions) (rx : ℕ) (clock : Option PcrSample) (beginn
 unfolding due_by
 none_due options rx clock beginning e = rw e refl
 
--- no clock reference has come where none has with the packet
+-- If no clock is known with the packet, none was known before it.
 earlier : (w : Bool) (o c : Option PcrSample) → (if w then option_or o c else c) ≡ None → c ≡ None
 earlier true None c e = e
 earlier true (Some s) c e = absurd (let no : ⊥ = cc in no)
 earlier false o c e = e
 
--- so the packet goes with its unit, or none has begun
+-- The packet goes with its unit, or no unit has begun.
 goes_with : (rate base0 : ℕ) (f : Followed) (n : ℕ) (b : Before) (before : Option AccessUnit) (due : Option DueTime) (e : Entry) (u : AccessUnit)
     (now : Option PcrSample) →
     f.options.arrival ≡ AtRate rate → Known rate f n b before due → (now ≡ None → due ≡ None) → IsSent base0 n before e u → BeginsBy rate base0 e u now →
     (due_with (due_by f.options f.rx now (beginning_of e.packet)) due ≡ None) ⊎
     (due_with (due_by f.options f.rx now (beginning_of e.packet)) due ≡ Some (due_time rate f.rx u.dts))
 goes_with rate base0 f n b before due e u now at_rate known nothing_yet sent clock = elim sent.begins [
-  | inl stamped ↦ elim (due_told rate base0 f now u at_rate (λ k is. clock k stamped.0 is)) [
+  | inl stamped ↦ elim (due_reported rate base0 f now u at_rate (λ k is. clock k stamped.0 is)) [
     | inl nothing ↦ inl (rw (none_due f.options f.rx now (beginning_of e.packet) nothing, nothing_yet nothing) refl)
     | inr some ↦ inr (rw (stamped.1, some) refl)
   ]
@@ -146,7 +145,7 @@ goes_with rate base0 f n b before due e u now at_rate known nothing_yet sent clo
       ]
 ]
 
--- and what is known after it
+-- The packet enters and goes with its unit, and the next packet finds `Known`.
 pub record Goes (rate : ℕ) (f : Followed) (n : ℕ) (b : Before) (packet : PacketView) (due : Option DueTime) (u : AccessUnit) (p : Arriving) : Type 0 where
   pub enters : p.enters ≡ true
   pub unit : (due_with p.begins due ≡ None) ⊎ (due_with p.begins due ≡ Some (due_time rate f.rx u.dts))
@@ -181,7 +180,7 @@ packet_goes rate base0 f n b before due bytes packet u at_rate own known sent cl
       };
     }
 
--- a packet of another PID changes nothing of it
+-- A packet of another PID keeps `Known`.
 other_known : (rate : ℕ) (f : Followed) (n : ℕ) (b : Before) (before : Option AccessUnit) (due : Option DueTime) (packet : PacketView) →
     nat_eq f.pid packet.header.pid ≡ false →
     Known rate f n b before due → Known rate f n (known_after f b (Some packet)) before due
@@ -192,7 +191,7 @@ other_known rate f n b before due packet other known = record {
   none = λ nothing. known.none (earlier (nat_eq f.clock_pid packet.header.pid) (reference_in f.options b.index packet) b.clock nothing);
 }
 
--- ---- all of them
+-- All packets of the PID
 
 abbrev Rest : ℕ → ℕ → Followed → Before → List (List ℕ) → Type 0
 Rest rate base0 f b chunks = (n : ℕ) (before : Option AccessUnit) (due : Option DueTime) (us : List AccessUnit) →
@@ -271,4 +270,4 @@ all_follow rate base0 f n b before due (bytes ∷ chunks) us at_rate known sent 
     subst (λ (i : ℕ). Clocked rate base0 (listed f.pid b.index bytes o (entries_from f.pid i chunks)) us (clock_in f b o ++ clocks_seen f b' chunks)) (sym more)
     clock in
     one_follows rate base0 f n b before due bytes o chunks us at_rate known sent_is clock_is
-    (λ m v d vs all told k. all_follow rate base0 f m b' v d chunks vs at_rate k all told)
+    (λ m v d vs all reported k. all_follow rate base0 f m b' v d chunks vs at_rate k all reported)

@@ -1,4 +1,4 @@
--- The frames that a walk finds in a payload come one after another, and are all its bytes from the first of them on.
+-- The frames that a walk finds in a payload are consecutive, and cover all bytes from the first frame on.
 use Rattle.std.proofs.Common.{◌≡◌, ℕ, zero, suc, ◌+◌, ◌-◌, ◌<◌, ◌≤◌, min, Bool, true, false, List, [], ◌∷◌, length, drop}
 use Rattle.std.proofs.Common.{if◌then◌else◌, refl, subst, inl, inr, arith}
 use Rattle.std.proofs.lemmas.Bool.Decides.{eqb_tells}
@@ -6,12 +6,12 @@ use Rattle.std.proofs.lemmas.List.{length-drop}
 use Rattle.sound_frames.specs.declared.frame_walk.FramePart.{FramePart}
 use Rattle.sound_frames.specs.FrameWalks.{WalkView, begun, count_by, count_passed, frames_in, headed, missing, parts_from, passed}
 
--- these frames are n bytes from this place on
+-- These frames are consecutive, and make up the n bytes from this place on.
 unfoldable pub InTurn : ℕ → ℕ → List FramePart → Type 0
 InTurn place n [] = n ≡ 0
 InTurn place n (p ∷ ps) = (p.place ≡ place) × (p.size ≤ n) × InTurn (place + p.size) (n - p.size) ps
 
--- ---- a step of the walk
+-- One step of the walk
 
 pub count_le : (w : WalkView) (bytes : List ℕ) → count_passed w bytes ≤ length bytes
 unfolding count_passed
@@ -34,7 +34,7 @@ count_le w bytes = by w.lost
     by true = omega arith
     by false = unfold count_by in counted v.lost
 
--- a frame that begins has a byte or more
+-- A frame that begins has at least one byte.
 pub count_some : (w : WalkView) (bytes : List ℕ) → 0 < length bytes → 0 < count_passed (begun w) bytes
 unfolding count_passed
 count_some w bytes some = by w.lost
@@ -53,7 +53,7 @@ count_some w bytes some = by w.lost
     by true = some
     by false = unfold count_by in counted v.lost
 
--- ---- all of them
+-- All frames of a walk
 
 pub parts_in_turn : (n : ℕ) (w : WalkView) (place : ℕ) (bytes : List ℕ) → length bytes ≤ n → InTurn place (length bytes) (parts_from n w place bytes)
 unfolding parts_from InTurn
@@ -74,7 +74,7 @@ parts_in_turn (suc n) w place bytes few = elim (eqb_tells (length bytes) 0) [
     positive zero some = absurd (some refl)
     positive (suc m) some = omega arith
 
--- those of a payload's bytes, after the bytes of the frame before
+-- The frames of a payload follow the rest of the frame before.
 pub frames_in_turn : (w : WalkView) (bytes : List ℕ) → InTurn (count_passed w bytes) (length bytes - count_passed w bytes) (frames_in w bytes)
 frames_in_turn w bytes =
     let c : ℕ = count_passed w bytes in

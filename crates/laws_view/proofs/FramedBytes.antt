@@ -1,4 +1,4 @@
--- The bytes of a payload that enter buffers frame by frame: they come, and leave the transport buffer, as those of a payload in one part.
+-- The bytes of a payload that enter buffers frame by frame arrive and leave the transport buffer like a payload in one part.
 use Rattle.std.proofs.Common.{◌≡◌, ◌∙◌, sym, ℕ, ◌+◌, ◌-◌, ◌*◌, ◌^◌, ◌≤◌, ◌<◌, ◌&&◌, min, nat_le, true, false, List, [], ◌∷◌, ◌++◌, length, refl}
 use Rattle.std.proofs.Common.{ap, ap₂, subst, arith}
 use Rattle.std.proofs.lemmas.Bool.Decides.{nat_tests}
@@ -23,7 +23,7 @@ use Rattle.laws_view.proofs.EnteredBytes.{Arrives, arrives_trans, begin_arrives,
 use Rattle.laws_view.proofs.FrameRows.{InTurn}
 use Rattle.laws_view.proofs.VideoBytes.{begin_left, carried_left, passed_left}
 
--- bytes that arrive at these times and go on to the main buffer, and no others, have come
+-- Bytes arrive at these times, and all of them pass on to the main buffer.
 pub record Row (rate : ℕ) (g g' : Held) (times : List ℕ) : Type 0 where
   pub come : Arrives g g' times
   pub left : payload_left rate g'.parts ≡ payload_left rate g.parts ++ left_after rate g.parts times
@@ -48,7 +48,7 @@ no_row rate g = record {
   left = sym (append-nil (payload_left rate g.parts));
 }
 
--- n bytes of the stream from byte i on
+-- The n bytes of the stream from byte i on pass on to the main buffer.
 pub bytes_row : (rate rx : ℕ) (g : Held) (i n : ℕ) → g.rx ≡ rx → Row rate g (after_bytes g (AtRate rate) true i n) (bytes_from rx i n)
 unfolding times_at
 bytes_row rate rx g i n e =
@@ -58,7 +58,7 @@ bytes_row rate rx g i n e =
       left = carried_left g n (bytes_from g.rx i n) rate (length-row g.rx i n);
     })
 
--- those that go no further, and where a unit begins
+-- Bytes arrive at these times, and none of them passes on to the main buffer.
 pub record Ahead (rate : ℕ) (g c : Held) (times : List ℕ) : Type 0 where
   pub come : Arrives g c times
   pub left : payload_left rate c.parts ≡ payload_left rate g.parts
@@ -71,7 +71,7 @@ passed_ahead rate rx g i n e =
 ahead_trans : (rate : ℕ) (a b c : Held) (ts us : List ℕ) → Ahead rate a b ts → Ahead rate b c us → Ahead rate a c (ts ++ us)
 ahead_trans rate a b c ts us p q = record { come = arrives_trans a b c ts us p.come q.come; left = q.left ∙ p.left }
 
--- what comes before a packet's payload of that size
+-- The times of the bytes before a payload of this size
 abbrev pub ahead_times : ℕ → ℕ → ℕ → List ℕ
 ahead_times rx index size = bytes_from rx (188 * index) 0 ++ (bytes_from rx (188 * index + 0) (188 - size - 0) ++ [])
 
@@ -87,7 +87,7 @@ unit_ahead rate rx g p size e =
     let three : Ahead rate b c [] = record { come = begin_arrives b p.begins; left = begin_left b p.begins rate } in
     ahead_trans rate g a c _ _ one (ahead_trans rate a b c _ _ two three)
 
--- ---- a frame
+-- One frame
 
 begun_row : (rate : ℕ) (g g' : Held) (due : DueTime) (times : List ℕ) → Row rate (begun g due) g' times → Row rate g g' times
 unfolding arrivals_of payload_left
@@ -117,9 +117,9 @@ frame_row rate rx g p e near few small =
     rw (frame_taken rate g p near few small)
     (begun_row rate g (after_bytes (begun g p.due) (AtRate rate) true p.byte p.size) p.due (bytes_from rx p.byte p.size) one)
 
--- ---- frames in turn
+-- Consecutive frames
 
--- the first byte of a payload among which frames begin
+-- The first byte of a payload where a frame may begin
 abbrev pub base_of : FramedPayload → ℕ
 base_of y = min (y.base + header_size y) (2 ^ 64 - 1)
 

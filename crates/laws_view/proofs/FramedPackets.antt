@@ -1,4 +1,4 @@
--- A packet of a stream that is viewed by access units: its bytes come, and leave the transport buffer, as in a view by PES packets.
+-- The bytes of a packet that is viewed by access units arrive and leave the transport buffer as in a view by PES packets.
 use Rattle.std.proofs.Common.{◌≡◌, ◌∙◌, sym, ℕ, suc, ◌+◌, ◌-◌, ◌*◌, ◌≤◌, ◌<◌, Bool, true, false, List, [], ◌++◌, length}
 use Rattle.std.proofs.Common.{refl, ap, ap₂, subst, arith}
 use Rattle.std.proofs.lemmas.List.{length-append}
@@ -20,14 +20,14 @@ use Rattle.laws_view.proofs.MainBytes.{no_lead}
 use Rattle.laws_view.proofs.FrameRows.{InTurn}
 use Rattle.laws_view.proofs.FramedBytes.{Ahead, Row, ahead_times, base_of, bytes_row, frames_row, passed_ahead, row_trans, unit_ahead}
 
--- two buffers to which the same bytes have come, no more than those of n packets, and from which the same bytes have gone on
+-- Two buffers with the same arrivals, from at most n packets, and with the same bytes passed on to the main buffer
 pub record Together (rate n : ℕ) (h g : Held) : Type 0 where
   pub alike : Alike h g
   pub arrivals : arrivals_of g.parts ≡ arrivals_of h.parts
   pub few : length (arrivals_of h.parts) ≤ 188 * n
   pub left : payload_left rate g.parts ≡ payload_left rate h.parts
 
--- bytes that go no further, and then others that do
+-- Some bytes arrive and do not pass on, then further bytes arrive and pass on.
 record Come (rate : ℕ) (g g' : Held) (ts us : List ℕ) : Type 0 where
   alike : Alike g g'
   arrivals : arrivals_of g'.parts ≡ arrivals_of g.parts ++ (ts ++ us)
@@ -63,9 +63,9 @@ both_ahead rate n m h g h' g' ts t p q few = record {
   left = q.left ∙ t.left ∙ sym p.left;
 }
 
--- ---- a packet whose payload goes on
+-- A packet whose payload passes on to the main buffer
 
--- its first bytes, up to the first frame that begins among them
+-- The payload bytes before the first frame that begins pass on.
 first_row : (rate rx : ℕ) (g : Held) (p : Arriving) (size count : ℕ) → g.rx ≡ rx → p.enters ≡ true →
     Row rate (after_unit g (AtRate rate) p size 0) (with_first g (AtRate rate) p size 0 count) (bytes_from rx (188 * p.index + (188 - size)) count)
 first_row rate rx g p size count e enters =
@@ -83,7 +83,7 @@ packet_is : (g : Held) (rate : ℕ) (p : Arriving) → takes_in g (AtRate rate) 
 unfolding after
 packet_is g rate p takes = rw (takes, no_lead rate p) refl
 
--- a payload in frames, and in one part
+-- A payload in frames and the same payload in one part keep the buffers `Together`.
 pub packet_together : (options : ViewOptions) (limit : ℕ) (y : FramedPayload) (tick : ℕ) (rate n : ℕ) (h g : Held) (p : Arriving) (count place : ℕ)
     (ps : List FramePart) →
     options.arrival ≡ AtRate rate → Together rate n h g → n ≤ p.index → p.index < most_packets → p.enters ≡ true → count ≤ size_of p →
@@ -152,7 +152,7 @@ packet_together options limit y tick rate n h g p count place ps is t first earl
     subst (λ (k : Held). Together rate (suc p.index) k (frames_held options (place_of limit y tick) (after_first g a p count) ps)) (sym h_is)
     (subst (λ (k : Held). Together rate (suc p.index) h' (frames_held options (place_of limit y tick) k ps)) (sym (first_is g rate p count g_takes)) both)
 
--- ---- a packet that repeats another one: no byte of it goes on
+-- If a packet repeats another, none of its bytes passes on.
 
 passes_ahead : (rate rx : ℕ) (g : Held) (p : Arriving) (size : ℕ) → g.rx ≡ rx → p.enters ≡ false →
     Ahead rate (after_unit g (AtRate rate) p size 0) (with_packet g (AtRate rate) p size 0) (bytes_from rx (188 * p.index + (188 - size)) size)

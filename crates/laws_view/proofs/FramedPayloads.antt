@@ -1,4 +1,4 @@
--- A payload among whose bytes frames begin, as a walk over frames cuts it.
+-- A payload where frames begin, as a walk over frames cuts it
 use Rattle.std.proofs.Common.{◌≡◌, ◌∙◌, sym, ℕ, suc, ◌+◌, ◌-◌, ◌*◌, ◌^◌, ◌≤◌, ◌<◌, min, not, Bool, true, false, List, [], ◌∷◌, length, Option, Some, None}
 use Rattle.std.proofs.Common.{if◌then◌else◌, refl, ap, subst, arith}
 use Rattle.std.specs.Prelude.{slice_get, unwrap_or}
@@ -22,7 +22,7 @@ use Rattle.laws_view.proofs.FrameRows.{InTurn, count_le, frames_in_turn}
 use Rattle.laws_view.proofs.FramedBytes.{base_of, no_frames_held}
 use Rattle.laws_view.proofs.FramedPackets.{Together, packet_together, repeat_together}
 
--- ---- the bytes of frames are bytes of the payload
+-- The bytes of frames are bytes of the payload.
 
 unit_after_fewer : (payload : List ℕ) (o : Option ℕ) → length (unit_after payload o) ≤ length payload
 unfolding unit_after
@@ -36,7 +36,7 @@ frame_bytes_fewer packet = by packet.header.payload_unit_start_indicator
     by true = unit_after_fewer (unwrap_or packet.payload []) (slice_get (unwrap_or packet.payload []) 8)
     by false = omega arith
 
--- ---- how many come before the first frame that begins among them
+-- The number of bytes before the first frame that begins
 
 front_is : (before size place n : ℕ) (ps : List FramePart) → InTurn place n ps → before + place + n ≡ size → size ≤ 184 → front_count before size ps ≡ size - n
 unfolding front_count InTurn
@@ -51,9 +51,9 @@ no_frames : (w : WalkView) → frames_in w [] ≡ []
 unfolding parts_from
 no_frames w = refl
 
--- ---- a packet
+-- One packet that is viewed by access units
 
--- one that repeats another has no bytes of frames: all its bytes come before the first
+-- If a packet repeats another, it has no bytes of frames: all its bytes come before the first frame.
 front_repeat : (before size : ℕ) (w : WalkView) → front_count before size (frames_in w []) ≡ size
 unfolding front_count
 front_repeat before size w = ap (λ (ps : List FramePart). front_count before size ps) (no_frames w)
@@ -70,7 +70,7 @@ base_low index size early small = omega (arith, early, small)
 place_low : (base more : ℕ) → base + more < 2 ^ 64 - 1 → min (base + more) (2 ^ 64 - 1) ≡ base + more
 place_low base more low = omega (arith, low)
 
--- what the buffers of a view by access units hold after a packet
+-- What the buffers of a view by access units hold after a packet
 abbrev pub held_framed : ViewOptions → ℕ → FramedPayload → Framed → Held
 held_framed options limit p f =
     frames_held options (place_of limit p f.tick) (after_first f.held options.arrival p.arriving (min (count_of p f.walk) (size_of p.arriving)))
@@ -86,7 +86,7 @@ framed_held options index window clock limit counter delayed packet f =
     (front_after options window (is_unread (beginning_in counter packet)) p.arriving (count_of p f.walk)
     (record { held = f.held; tally = f.tally; delayed = delayed })) (frames_among p f.walk)
 
--- the same bytes come to it as to one by PES packets
+-- A packet brings the same bytes to the buffers of both views.
 payload_together : (options : ViewOptions) (rate n index rx : ℕ) (clock : Option PcrSample) (limit : ℕ) (counter : Option ℕ) (packet : PacketView) (h : Held)
     (f : Framed) →
     options.arrival ≡ AtRate rate → Together rate n h f.held → n ≤ index → index < most_packets → length (unwrap_or packet.payload []) ≤ 184 →
@@ -157,7 +157,7 @@ payload_together options rate n index rx clock limit counter packet h f is t fir
     by true r = repeats r
     by false r = goes_on r
 
--- in the entry of a stream
+-- The entry of a stream keeps the buffers `Together`.
 pub entry_together : (options : ViewOptions) (rate n index window : ℕ) (clock : Option PcrSample) (limit : ℕ) (counter : Option ℕ) (delayed : ℕ)
     (packet : PacketView) (h : Held) (f : Framed) →
     options.arrival ≡ AtRate rate → Together rate n h f.held → n ≤ index → index < most_packets → length (unwrap_or packet.payload []) ≤ 184 →

@@ -1,4 +1,4 @@
--- The streams of a view by access units, over the packets of a run: what their buffers hold by access units and by PES packets.
+-- The streams of a view by access units, over the packets of a run: what their buffers hold by access units and by PES packets
 use Rattle.std.proofs.Common.{◌≡◌, ◌∙◌, sym, ℕ, suc, ◌+◌, ◌≤◌, ◌<◌, ◌^◌, Bool, true, false, List, [], ◌∷◌, length, Option, Some, None, if◌then◌else◌, refl}
 use Rattle.std.proofs.Common.{ap, subst, inl, inr, nat_eq, arith, All}
 use Rattle.std.specs.Prelude.{slice_get, unwrap_or}
@@ -30,7 +30,7 @@ use Rattle.laws_view.proofs.ShortPayloads.{sound_most}
 use Rattle.laws_view.proofs.Steps.{after_sound, next, packet_is, sound_agrees, sound_options, sound_packets}
 use Rattle.laws_view.proofs.Whole.{none_agree}
 
--- a stream of which no more than n packets have come: the same bytes have come to both, and no excess is counted while bytes find room
+-- At most n packets have come: both views of the stream have the same bytes, and no excess is counted while bytes find room.
 pub record Fits (rate n : ℕ) (h : Held) (f : Framed) : Type 0 where
   pub together : Together rate n h f.held
   pub calm : Calm f.held f.tally
@@ -41,7 +41,7 @@ fits_later rate n m h f le k = record {
   calm = k.calm;
 }
 
--- before its first packet
+-- Before the first packet of the stream both views fit.
 new_fits : (rate n step rx size : ℕ) (kind : Option FrameKind) (f : Framed) → new_framed (empty step rx size) kind ≡ Some f → Fits rate n (empty step rx size) f
 unfolding new_framed
 new_fits rate n step rx size None f is = absurd (let no : ⊥ = cc in no)
@@ -59,7 +59,7 @@ new_fits rate n step rx size (Some kind) f is =
       calm = record { none = λ few. refl; quiet = λ few. refl };
     })
 
--- with a packet of it
+-- A packet of the stream keeps `Fits`.
 framed_fits : (options : ViewOptions) (rate n index window : ℕ) (clock : Option PcrSample) (packet : PacketView) (e : EntryState) (o : Option Framed)
     (f : Framed) → options.arrival ≡ AtRate rate →
     n ≤ index → index < most_packets → length (unwrap_or packet.payload []) ≤ 184 → ((g : Framed) → o ≡ Some g → Fits rate n e.held g) →
@@ -83,7 +83,7 @@ taken_fits : (options : ViewOptions) (rate n index window : ℕ) (clocks : Clock
 taken_fits options rate n index window clocks packet e f is first early small fits there =
     framed_fits options rate n index window (clock_of clocks e.clock_pid) packet e e.framed f is first early small fits there
 
--- or of another
+-- A packet of any PID keeps `Fits`.
 with_fits : (options : ViewOptions) (rate n index window : ℕ) (clocks : ClockEntries) (packet : PacketView) (e e' : EntryState) (f : Framed) →
     options.arrival ≡ AtRate rate → n ≤ index →
     index < most_packets → length (unwrap_or packet.payload []) ≤ 184 → ((g : Framed) → e.framed ≡ Some g → Fits rate n e.held g) →
@@ -100,7 +100,7 @@ with_fits options rate n index window clocks packet e e' f is first early small 
         subst (λ (y : EntryState). Fits rate (suc index) y.held f) (sym same)
         (fits_later rate n (suc index) e.held f (omega (arith, first)) (fits f (ap (λ (y : EntryState). y.framed) (sym same) ∙ found)))
 
--- ---- all streams
+-- All streams of a view
 
 pub record AllFit (rate n : ℕ) (s : ViewState) : Type 0 where
   pub each : (j : ℕ) (e : EntryState) (f : Framed) → slice_get s.table.entries j ≡ Some e → e.framed ≡ Some f → Fits rate n e.held f
@@ -158,7 +158,7 @@ all_fit s rate (bytes ∷ packets) agree is few sizes all =
     subst (λ (x : ViewState). AllFit rate (s.seen.packets + length (bytes ∷ packets)) (after_all x packets)) (sym (packet_is s bytes))
     (subst (λ (n : ℕ). AllFit rate n (after_all (next s bytes) packets)) total rest)
 
--- of a view from its begin
+-- After all packets of a run both views of a stream fit.
 pub run_fits : (request : RequestView) (rate : ℕ) (packets : List (List ℕ)) (place : ℕ) (e : EntryState) (f : Framed) → request.options.arrival ≡ AtRate rate →
     length packets ≤ most_packets → All (λ bytes. length bytes ≡ 188) packets → slice_get (after_all (start request) packets).table.entries place ≡ Some e →
     e.framed ≡ Some f →

@@ -1,4 +1,4 @@
--- Bytes of a main buffer, each with the moment from which on it is gone.
+-- The bytes of a main buffer, each with the moment when it is gone
 use Rattle.std.proofs.Common.{◌≡◌, ◌∙◌, sym, ℕ, zero, suc, ◌+◌, ◌≤◌, cond, List, [], ◌∷◌, ◌++◌, length, take}
 use Rattle.std.proofs.Common.{drop, replicate, refl, ap, ap₂, arith, All}
 use Rattle.std.specs.List.{sum}
@@ -16,13 +16,13 @@ use Rattle.tstd_rows.specs.History.Part.{Passes, Carries, Begins}
 use Rattle.laws_view.specs.FrameExcesses.{GoneBy, gone_cut, gone_seen, gone_units}
 use Rattle.laws_view.proofs.KeptBytes.{entered_kept}
 
--- how many of the bytes that leave the transport buffer at these times are in the main buffer at x
+-- The number of bytes in the main buffer at x, if bytes leave the transport buffer at the times `left` and are gone at the times `us`
 unfoldable pub bytes_held : ℕ → List ℕ → List ℕ → ℕ
 bytes_held x [] left = 0
 bytes_held x (u ∷ us) [] = 0
 bytes_held x (u ∷ us) (d ∷ left) = cond (has_entered u x d) 1 0 + bytes_held x us left
 
--- ---- in two parts
+-- Bytes in two parts
 
 none_left : (x : ℕ) (us : List ℕ) → bytes_held x us [] ≡ 0
 unfolding bytes_held
@@ -42,7 +42,7 @@ held_two x us vs left more same =
     held_split x us vs (left ++ more)
     ∙ ap₂ (λ (l m : List ℕ). bytes_held x us l + bytes_held x vs m) (take_at left more (length us) (sym same)) (drop_at left more (length us) (sym same))
 
--- those of one unit
+-- The bytes of one unit in the main buffer
 entered_more : (u x d : ℕ) (ds : List ℕ) → entered u x (d ∷ ds) ≡ cond (has_entered u x d) 1 0 + entered u x ds
 entered_more u x d ds = sum_by-cons (λ t. cond (has_entered u x t) 1 0) d ds
 
@@ -63,9 +63,9 @@ held_all x u left =
     ap (λ (l : List ℕ). bytes_held x (replicate (length left) u) l) (sym (take_whole left)) ∙ held_one x u (length left) left
     ∙ ap (λ (l : List ℕ). entered u x l) (take_whole left)
 
--- ---- a view's
+-- The bytes of a view
 
--- each byte that goes on to the main buffer has its moment
+-- Each byte that passes on to the main buffer has a moment when it is gone.
 pub many_gone : (rate : ℕ) (parts : List Part) → length (gone_seen parts) ≡ length (payload_left rate parts)
 unfolding gone_seen payload_left
 many_gone rate [] = refl
@@ -98,7 +98,7 @@ view_held rate x (Carries times ∷ before) =
     ap (λ (n : ℕ). bytes_held x (replicate n u) ds) (sym many) ∙ held_all x u ds in
     omega (arith, view_held rate x before, two, last)
 
--- ---- a cut's
+-- The bytes of a cut
 
 pub many_units : (rate r apart due : ℕ) (sizes : List ℕ) → length (gone_units rate r apart due sizes) ≡ sum sizes
 unfolding gone_units
@@ -150,7 +150,7 @@ cut_held rate r x apart (p ∷ packets) left whole =
       cut_held rate r x apart packets (drop p.packet.size left) (All-tail (λ p. sum p.access_units ≡ p.packet.size) p packets whole),
     )
 
--- ---- and so no more in the view
+-- The view holds no more bytes than the cut.
 
 later_gone : (x t u d : ℕ) → t ≤ u → (let n : ℕ = cond (has_entered t x d) 1 0 in n) ≤ (let n : ℕ = cond (has_entered u x d) 1 0 in n)
 later_gone x t u d le = grind (arith, nat_tests)
@@ -162,7 +162,7 @@ held_by x (t ∷ ts) [] left by = absurd by
 held_by x (t ∷ ts) (u ∷ us) [] by = omega arith
 held_by x (t ∷ ts) (u ∷ us) (d ∷ left) by = omega (arith, later_gone x t u d by.0, held_by x ts us left by.1)
 
--- of later bytes
+-- Later bytes alone are at most as many as all bytes.
 pub held_later : (x : ℕ) (us left more : List ℕ) → bytes_held x (drop (length left) us) more ≤ bytes_held x us (left ++ more)
 unfolding bytes_held
 held_later x us [] more = omega arith

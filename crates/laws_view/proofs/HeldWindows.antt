@@ -1,4 +1,4 @@
--- What a report counts of a stream while the packets of one window come.
+-- The counts of a stream in a report while the packets of one window come
 use Rattle.std.proofs.Common.{◌≡◌, ◌∙◌, sym, ℕ, ◌+◌, ◌^◌, ◌<◌, false, Bool, true, List, [], ◌∷◌, ◌++◌, length, map, Option, Some, None, if◌then◌else◌, refl, ap}
 use Rattle.std.proofs.Common.{subst, nat_eq, arith, inl, inr}
 use Rattle.std.specs.Prelude.{◌==◌, slice_get}
@@ -39,9 +39,9 @@ use Rattle.laws_view.proofs.Whole.{none_agree}
 use Rattle.laws_view.proofs.WindowHighs.{after_none, whole_high_law}
 use Rattle.laws_view.proofs.WindowLows.{whole_window_law, window_without_law}
 
--- ---- a packet more
+-- One more packet
 
--- what is seen with a packet, and whether its header was not read
+-- What the buffers show for a packet, with whether its header could not be read
 views_of : ViewState → EntryState → Option PacketView → List (Bool × EnteredView)
 views_of s e None = []
 views_of s e (Some packet) =
@@ -65,7 +65,7 @@ views_same s e (Some packet) = by (nat_eq e.pid packet.header.pid) refl
     by true own = rw own refl
     by false other = rw other refl
 
--- all that is counted is the same, beside the rows that are kept of the last packets
+-- The same counts with other traces of the last packets
 abbrev pub with_kept : Tally → Traces → Tally
 with_kept t kept = record t { traces = kept }
 
@@ -127,7 +127,7 @@ tally_more s (Some packet) window j e e1 agree there in_it later =
     by true own = rw (own, clock, in_it) refl
     by false other = rw other refl
 
--- ---- all of them
+-- All packets of the window
 
 counted_append : (t : Tally) (window : ℕ) (vs ws : List (Bool × EnteredView)) →
     counted_each t window (vs ++ ws) ≡ counted_each (counted_each t window vs) window ws
@@ -193,7 +193,7 @@ counted_in s (p ∷ packets) window j e e' agree few there all later =
           ∙ sym (entered_then e.held a ps xs);
     }
 
--- ---- so of a report
+-- The window in a report
 
 pub agree_by : (s : ViewState) (packets : List Timed) → Agree s.table → Agree (view_by s packets).table
 unfolding view_by
@@ -203,7 +203,7 @@ agree_by s (p ∷ packets) agree =
     let o : Option PacketView = sound_packet (packet_at p.bytes) in
     subst (λ (x : ViewState). Agree (view_by x packets).table) (sym (came_is s p)) (agree_by (next_by s p) packets (sound_agrees r o agree))
 
--- how a stream is viewed once these packets have come
+-- How a stream is viewed once these packets have come
 pub record ViewedThen (request : RequestView) (before : List Timed) (e : EntryState) : Type 0 where
   pub count : (view_by (start request) before).seen.packets ≡ length before
   pub options : (view_by (start request) before).seen.options ≡ options_then request e before
@@ -238,7 +238,7 @@ grown_held s packets j e e' agree few there later =
     let g = grown_by s packets j e agree few there in
     ap (λ (x : EntryState). x.held) (some_is e' g.0 (sym later ∙ g.1.0)) ∙ g.1.1.held
 
--- what its buffers hold once the packets of a window have come
+-- What the buffers of a stream hold once the packets of a window have come
 pub window_held : (request : RequestView) (before packets : List Timed) (window place : ℕ) (e e' : EntryState) →
     OfWindow request before packets window place e e' →
     e'.held ≡ after_entering e.held (window_entering request before e packets)
@@ -249,7 +249,7 @@ window_held request before packets window place e e' w =
     (subst (λ (x : ViewState). slice_get x.table.entries place ≡ Some e') (view_two (start request) before packets) w.come)
     ∙ ap (λ (g : Followed). after_entering e.held (entering_among g (known s e) packets)) v.same
 
--- what is counted of a stream in a window
+-- The counts of a stream over a window
 pub record CountedOver (t t' : Tally) (window : ℕ) (h : Held) (xs : List Entering) : Type 0 where
   pub vs : List (Bool × EnteredView)
   pub tally : t' ≡ with_kept (counted_each t window vs) t'.traces
@@ -266,7 +266,7 @@ window_counted request before packets window place e e' w =
     (subst (λ (x : ViewState). slice_get x.table.entries place ≡ Some e') (view_two (start request) before packets) w.come) in
     record { vs = c.vs; tally = c.tally; same = c.same ∙ ap (λ (g : Followed). entered_by e.held (entering_among g (known s e) packets)) v.same }
 
--- what a line then says of the main buffer
+-- The line then has the least fullness of the main buffer.
 pub says_low : (t t' : Tally) (window : ℕ) (h : Held) (xs : List Entering) → CountedOver t t' window h xs → (t.window == window) ≡ false → 0 < h.rate →
     HasPayload h xs → SaysLow t' h xs
 says_low t t' window h xs c other pos has =
@@ -283,7 +283,7 @@ says_high t t' window h xs c other pos has =
 not_both : true ≡ false → ⊥
 not_both h = cc
 
--- where none enters, the last of them lies in the window
+-- If no byte enters and the last packet lies in the window, the line has the bytes still held.
 says_held : (t t' : Tally) (window : ℕ) (h : Held) (xs : List Entering) → CountedOver t t' window h xs → (t.window == window) ≡ false →
     (t'.window == window) ≡ true → (HasPayload h xs → ⊥) → SaysHeld t' h xs
 unfolding counted_each

@@ -1,4 +1,4 @@
--- Each section of what a multiplexer wrote is of a table that belongs on its PID.
+-- In a multiplexer's output each section is on a PID where its table belongs.
 use Rattle.std.proofs.Common.{◌≡◌, ◌∙◌, ℕ, ◌+◌, ◌-◌, ◌*◌, ◌/◌, ◌^◌, ◌≤◌, ◌<◌, ◌==◌, Bool, true, false, cond, List, [], ◌∷◌, ◌++◌, length, take, drop, map}
 use Rattle.std.proofs.Common.{filter, nat_le}
 use Rattle.std.proofs.Common.{slice_get, inl, inr, Option, Some, None, refl, sym, ap, ap₂, subst, arith, All, ne_eqb}
@@ -44,7 +44,7 @@ use Rattle.laws_run.proofs.MonitoredJobs.{job_kept}
 use Rattle.laws_run.proofs.NothingElse.{sent_or_silent}
 use Rattle.laws_run.proofs.RunFindings.{given_back, is_run, silent_back}
 use Rattle.laws_run.proofs.ServicesRecur.{kind_on, stream_higher}
-use Rattle.laws_run.proofs.Soundness.{as_told}
+use Rattle.laws_run.proofs.Soundness.{as_reported}
 use Rattle.laws_run.proofs.TableBegins.{made_distinguishable}
 use Rattle.laws_run.proofs.TableIds.{HasId, table_id_of, text_id}
 use Rattle.laws_run.proofs.TablesWritten.{IsMade}
@@ -74,9 +74,9 @@ use Rattle.laws_view.proofs.MuxedFrames.{packet_sizes_are}
 use Rattle.laws_view.proofs.ViewedFindings.{Alike, FindsAlike, Next, next}
 use Rattle.laws_view.proofs.ViewedSections.{alike_first}
 
--- 1. Sections at home have no such event
+-- 1. Sections where their tables belong have no event of another table
 
--- the table of a section belongs on its PID
+-- The table of the section belongs on its PID.
 unfoldable IsHome : Option SectionBegin → Type 0
 IsHome None = Unit {0}
 IsHome (Some s) = belongs s.pid s.table_id ≡ true
@@ -163,7 +163,7 @@ along s o (bytes ∷ packets) h sizes home =
     (along (after_packet s bytes) (taken o bytes) packets n.alike (All-tail (λ b. length b ≡ 188) bytes packets sizes)
     (home_last (found_in o bytes) (found_in_all (taken o bytes) packets) home))
 
--- 2. PID by PID
+-- 2. The findings of each PID
 
 no_pid_home : (begun : Option (ℕ × Kind)) (what : WhatView) → IsHome (section_by None begun what)
 unfolding IsHome section_by
@@ -193,7 +193,7 @@ of_pids (f ∷ fs) h = (by f.pid refl, of_pids fs (λ pid. own_tail f pid fs (h 
 
 -- 3. A PID in a run
 
--- from PID 0x20 on each table belongs
+-- From PID 0x20 on each table belongs.
 high_home : (pid table_id : ℕ) → 0x20 ≤ pid → belongs pid table_id ≡ true
 high_home pid table_id high =
     let a : (pid == 0x00) ≡ false = ne_eqb pid 0x00 (λ e. omega (arith, high, e)) in
@@ -216,7 +216,7 @@ unfolding AllHome
 all_high pid [] high = tt
 all_high pid (x ∷ xs) high = (high_begun pid x.found.begun x.found.what high, all_high pid xs high)
 
--- sections of one table_id
+-- A section belongs on a PID if its table_id does.
 section_home : (pid id : ℕ) (e : Ending) (text : List ℕ) (i : ℕ) (is : List ℕ) → slice_index text 0 ≡ id → belongs pid id ≡ true →
     IsHome (section_begin (with_pid_at pid (section_found e text i is)))
 unfolding section_found section_by begin_of IsHome
@@ -247,7 +247,7 @@ module _ (d : Scheduled) (units : ℕ → List AccessUnit) (slots : ℕ) (ranges
     few_packets : length bytes / 188 < 2 ^ 64 - 1
     few_packets = let size : length bytes ≡ 188 * slots = run_length (content_at d units) 0 slots (contents_fit d units ranges kept) in omega (arith, size, few)
 
-    -- of a table that is not ready-made
+    -- A table that is not ready-made
     of_table : (t : ℕ) (k : TableKind) → table_kind d.description t ≡ Some k → IsMade k → (table_pid d.description t == 8191) ≡ false →
         belongs (table_pid d.description t) (table_id_of k) ≡ true →
         AllHome (map (with_pid_at (table_pid d.description t)) (found_on (table_pid d.description t) bytes))
@@ -257,7 +257,7 @@ module _ (d : Scheduled) (units : ℕ → List AccessUnit) (slots : ℕ) (ranges
         let ids : All (HasId (table_id_of k)) (sections_of_rounds table slots) =
         rounds_all (HasId (table_id_of k)) table (own_slots (starts table.own (round_places table.lengths) 0) 0 slots)
         (λ j moment within. text_id d.description t j moment k is made within) in
-        subst AllHome (sym (sym (as_told (table_pid d.description t) bytes no_null few_packets)
+        subst AllHome (sym (sym (as_reported (table_pid d.description t) bytes no_null few_packets)
         ∙ (given_back d units slots ranges kept few).tables t lt (made_distinguishable d.description t k is made)))
         (all_sent (table_pid d.description t) (table_id_of k) slots (sections_of_rounds table slots) (section_slots table slots) ids h)
 
@@ -271,7 +271,8 @@ module _ (d : Scheduled) (units : ℕ → List AccessUnit) (slots : ℕ) (ranges
     low_pid : (pid : ℕ) → 0 < pid → pid < 32 → Fine pid
     low_pid pid some low = elim (sent_or_silent d.description pid) [
       | inl sent ↦ by sent
-      | inr none ↦ silent pid (sym (as_told pid bytes no_null few_packets) ∙ silent_back d units slots pid (is_run d units slots ranges kept few) no_null none)
+      | inr none ↦ silent pid
+          (sym (as_reported pid bytes no_null few_packets) ∙ silent_back d units slots pid (is_run d units slots ranges kept few) no_null none)
     ]
       where
         no_null : (pid == 8191) ≡ false

@@ -1,4 +1,4 @@
--- The bytes of a stream's packets in its main buffer, each of the unit of which its packet is.
+-- The bytes of a stream's packets in its main buffer, each with the unit of its packet
 use Rattle.std.proofs.Common.{◌≡◌, ◌∙◌, ◌⊎◌, sym, ℕ, suc, ◌+◌, ◌-◌, ◌*◌, ◌≤◌, ◌<◌, cond, true, false, nat_lt, nat_le, List, [], ◌∷◌, length, map, take, drop}
 use Rattle.std.proofs.Common.{Option, Some, None, refl, ap, subst, inl, inr, arith, All}
 use Rattle.std.proofs.lemmas.Bool.{le-ltb, and_right}
@@ -29,7 +29,7 @@ use Rattle.laws_view.specs.StreamPackets.{after_each, most_packets}
 use Rattle.laws_view.proofs.EnteredBytes.{ComeFrom, packet_arrives, taken_in}
 use Rattle.laws_view.proofs.MainBytes.{due_with, packet_enters, payload_of_packet, timed_packet, until_at}
 
--- each packet is of a unit, and its bytes go with it; or no unit has begun
+-- Each packet goes with its unit, or no unit has begun.
 unfoldable pub Follows : ℕ → ℕ → Option DueTime → List Arriving → List AccessUnit → Type 0
 Follows rate rx before [] us = Unit {0}
 Follows rate rx before (p ∷ ps) [] = ⊥
@@ -37,13 +37,13 @@ Follows rate rx before (p ∷ ps) (u ∷ us) = (p.enters ≡ true)
     × ((due_with p.begins before ≡ None) ⊎ (due_with p.begins before ≡ Some (due_time rate rx u.dts)))
     × Follows rate rx (due_with p.begins before) ps us
 
--- the bytes of packets, of units, that are in the main buffer at x
+-- The number of bytes in the main buffer at x, from packets of these units
 unfoldable pub kept_each : ℕ → ℕ → ℕ → List AccessUnit → List Packet → List ℕ → ℕ
 kept_each rate r x us [] left = 0
 kept_each rate r x [] (p ∷ ps) left = 0
 kept_each rate r x (u ∷ us) (p ∷ ps) left = kept rate r x u.dts (take p.size left) + kept_each rate r x us ps (drop p.size left)
 
--- a sum of sizes
+-- The sum of sizes
 unfoldable pub total : List ℕ → ℕ
 total [] = 0
 total (n ∷ ns) = n + total ns
@@ -71,7 +71,7 @@ unfolding until_at
 no_more rate r x due o ds (inl none) = rw none (omega (arith, none_entered x ds))
 no_more rate r x due o ds (inr some) = rw some (omega (arith, entered_kept rate r due x ds))
 
--- the departures of a packet, and of those after it
+-- The departures of a packet, and of the packets after it
 pub left_packet : (rate r prev : ℕ) (p : Packet) → p.size ≤ 188 → length (payload_of_packet rate r prev p) ≡ p.size
 left_packet rate r prev p le =
     omega (
@@ -96,7 +96,7 @@ later_left rate r prev p ps le =
     ∙ drop_at (payload_of_packet rate r prev p) (pes_left rate r (last_left rate prev (bytes_from r (188 * p.slot) 188)) ps) p.size
     (left_packet rate r prev p le)
 
--- a packet more: the bytes of it that are in the main buffer, and those of the packets after it
+-- One more packet: its bytes in the main buffer, and the bytes of the packets after it
 pub record OneMore (rate : ℕ) (h h' : Held) (p : Arriving) (due : Option DueTime) (qs : List Packet) : Type 0 where
   pub rx : h'.rx ≡ h.rx
   pub until : until_of h'.parts ≡ until_at due
@@ -136,7 +136,7 @@ one_more rate low h p qs before first early few enters e =
       later = λ x us. rw (after_it, one.alike.rx) refl;
     }
 
--- what they leave in the main buffer is no more than that
+-- The packets leave no more bytes in the main buffer than their units have there.
 pub main_each : (rate low x : ℕ) (h : Held) (ps : List Arriving) (us : List AccessUnit) (before : Option DueTime) → ComeFrom low ps →
     length (arrivals_of h.parts) ≤ 188 * low →
     Follows rate h.rx before ps us → until_of h.parts ≡ until_at before →
@@ -159,7 +159,7 @@ main_each rate low x h (p ∷ ps) (u ∷ us) before come few follows e =
       no_more rate h.rx x u.dts due (take (timed_packet p).size (pes_left rate h.rx (last_of rate h.parts) (timed_packet p ∷ qs))) follows.1,
     )
 
--- and just that where a unit is under way from the first of them on
+-- A unit is open from the first packet on: then the packets leave exactly as many bytes.
 unfoldable pub UnderWay : Option DueTime → List Arriving → Type 0
 UnderWay before [] = Unit {0}
 UnderWay before (p ∷ ps) = due_with p.begins before ≡ None → ⊥
@@ -202,7 +202,7 @@ main_each_is rate low x h (p ∷ ps) (u ∷ us) before come few follows under_wa
       same_entered rate h.rx x u.dts due (take (timed_packet p).size (pes_left rate h.rx (last_of rate h.parts) (timed_packet p ∷ qs))) under_way follows.1,
     )
 
--- as many bytes leave as the packets have
+-- As many bytes leave as the packets have.
 pub many_left : (rate r prev : ℕ) (ps : List Packet) → All (λ p. p.size ≤ 188) ps → length (pes_left rate r prev ps) ≡ total (map (λ (p : Packet). p.size) ps)
 unfolding total of_payloads
 many_left rate r prev [] small = refl

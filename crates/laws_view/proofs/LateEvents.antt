@@ -1,4 +1,4 @@
--- The events `table_repetition` of a table on a PID, finding by finding: the errors of its sections.
+-- The events `table_repetition` of a table on a PID are the errors of its sections, finding by finding.
 use Rattle.std.proofs.Common.{◌≡◌, ◌∙◌, ℕ, ◌+◌, ◌-◌, ◌*◌, ◌<◌, ◌==◌, ◌&&◌, Bool, true, false, cond, nat_eq, List, [], ◌∷◌, ◌++◌, map, filter, Option, Some}
 use Rattle.std.proofs.Common.{None}
 use Rattle.std.proofs.Common.{refl, sym, ap, ap₂, subst, arith, eq-eqb, ne_eqb}
@@ -43,7 +43,7 @@ use Rattle.laws_view.specs.ViewedTables.{is_late, late_of}
 
 -- 1. Numbers of keys
 
--- a section whose table_id is a byte, and whose part has two
+-- The part of a section, if it has one, is below 65536.
 unfoldable pub IsSmallPart : Option ℕ → Type 0
 IsSmallPart None = Unit {0}
 IsSmallPart (Some part) = part < 65536
@@ -68,7 +68,7 @@ same_key a b s t p q e = omega (arith, p, q, e)
 pub itself : (a : ℕ) → (a == a) ≡ true
 itself a = eq-eqb a a refl
 
--- the error of a section is about it
+-- The error is about this section.
 unfoldable IsAbout : SectionBegin → Option TableError → Type 0
 IsAbout s None = Unit {0}
 IsAbout s (Some e) = e.section ≡ s
@@ -83,7 +83,7 @@ about timing s (Some before) (Some limit) = by (nat_lt limit (time_between timin
     by true = refl
     by false = tt
 
--- at a rate each section has a place
+-- At a constant rate each section has a place.
 at_rate : (rate : ℕ) (o : Option SectionBegin) → option_and_then (placed (AtRate rate)) o ≡ o
 unfolding placed
 at_rate rate None = refl
@@ -93,17 +93,17 @@ cons_first : (o : Option SectionBegin) (xs ys : List SectionBegin) → cons_opti
 cons_first None xs ys = refl
 cons_first (Some s) xs ys = refl
 
--- the sections that begin by these findings
+-- The sections that begin with these findings
 abbrev pub sections_at : List FindingView → List SectionBegin
 sections_at fs = filter_map section_begin fs
 
--- none is of a PID
+-- No finding is on the PID.
 unfoldable pub AllOff : ℕ → List FindingView → Type 0
 AllOff pid [] = Unit {0}
 AllOff pid (f ∷ fs) = (has_pid pid f.pid ≡ false) × AllOff pid fs
 
 module _ (pid table_id : ℕ) where
-  -- a section of the table on the PID
+  -- The section is a section of the table on the PID.
   abbrev pub is_of : SectionBegin → Bool
   is_of s = (s.pid == pid) && (s.table_id == table_id)
 
@@ -131,7 +131,7 @@ module _ (pid table_id : ℕ) where
   key_is : (s : SectionBegin) → IsOf s → section_key s ≡ key
   key_is s h = ap₂ key_of h.pid_is h.table_is
 
-  -- the key of another section is another
+  -- A section of another table has another key.
   other_key : (s : SectionBegin) → is_of s ≡ false → s.table_id < 256 → table_id < 256 → (section_key s == key) ≡ false
   other_key s e small lt = ne_eqb (section_key s) key (λ k.
       let yes : is_of s ≡ true = of_it s (same_pid s.pid pid s.table_id table_id small lt k) (same_table s.pid pid s.table_id table_id small lt k) in
@@ -144,14 +144,14 @@ module _ (pid table_id : ℕ) where
       let yes : is_of s ≡ true = of_it s (same_pid s.pid pid s.table_id table_id small lt same) (same_table s.pid pid s.table_id table_id small lt same) in
       let no : ⊥ = cc in no)
 
-  -- 2. What is kept of the table's sections
+  -- 2. The kept sections of the table
 
   pub record Agree (i j : IntervalState) : Type 0 where
     pub timing : i.timing ≡ j.timing
     pub places : table_id < 256 → places_at i key ≡ places_at j key
     pub parts : (part : ℕ) → table_id < 256 → part < 65536 → part_places_at i (key_with key part) ≡ part_places_at j (key_with key part)
 
-  -- after a section of the table
+  -- After a section of the table both states agree on its places.
   own_places : (i j : IntervalState) (s : SectionBegin) → Agree i j → IsOf s → table_id < 256 → places_at (taken i s) key ≡ places_at (taken j s) key
   own_places i j s h is lt =
       let same : (section_key s == key) ≡ true = ap (λ (n : ℕ). n == key) (key_is s is) ∙ itself key in
@@ -188,7 +188,7 @@ module _ (pid table_id : ℕ) where
     parts = λ part lt few. own_parts i j s s.part part h is small lt few;
   }
 
-  -- after another section
+  -- A section of another table leaves the parts of this table as they are.
   other_parts : (i : IntervalState) (s : SectionBegin) (o : Option ℕ) (part : ℕ) → is_of s ≡ false → s.table_id < 256 → IsSmallPart o → table_id < 256 →
       part < 65536 → lookup (nat_eq (key_with key part)) (parts_after i s o) ≡ part_places_at i (key_with key part)
   unfolding parts_after IsSmallPart
@@ -222,15 +222,15 @@ module _ (pid table_id : ℕ) where
   same_error i j s h is lt small =
       ap₂ (λ (t : TableTiming) (o : Option SectionPlaces). error_if t s o (limit_of s.pid s.table_id)) h.timing (same_before i j s h is lt small)
 
-  -- its event is of its table
-  told : (s : SectionBegin) (o : Option TableError) (b : Bool) → IsAbout s o → is_of s ≡ b → late (error_events o) ≡ cond b (error_events o) []
+  -- The event of an error is an event of the section's table.
+  reported : (s : SectionBegin) (o : Option TableError) (b : Bool) → IsAbout s o → is_of s ≡ b → late (error_events o) ≡ cond b (error_events o) []
   unfolding error_events late_of IsAbout
-  told s None true h e = refl
-  told s None false h e = refl
-  told s (Some x) b h e = ap (λ (t : Bool). cond t (error_event x ∷ []) []) (ap is_of h ∙ e)
+  reported s None true h e = refl
+  reported s None false h e = refl
+  reported s (Some x) b h e = ap (λ (t : Bool). cond t (error_event x ∷ []) []) (ap is_of h ∙ e)
 
-  told_at : (i : IntervalState) (s : SectionBegin) (b : Bool) → is_of s ≡ b → late (error_events (error_at i s)) ≡ cond b (error_events (error_at i s)) []
-  told_at i s b e = told s (error_at i s) b (about i.timing s (before_in i s) (limit_of s.pid s.table_id)) e
+  reported_at : (i : IntervalState) (s : SectionBegin) (b : Bool) → is_of s ≡ b → late (error_events (error_at i s)) ≡ cond b (error_events (error_at i s)) []
+  reported_at i s b e = reported s (error_at i s) b (about i.timing s (before_in i s) (limit_of s.pid s.table_id)) e
 
   -- 4. Other events
 
@@ -264,7 +264,7 @@ module _ (pid table_id : ℕ) where
   in_both : (xs ys : List Event) → late xs ≡ [] → late (xs ++ ys) ≡ late ys
   in_both xs ys e = filter-append (is_late pid table_id) xs ys ∙ ap (λ (l : List Event). l ++ late ys) e
 
-  -- so those of a finding are those of the begin of its section
+  -- The late events of a finding are the late events of the begin of its section.
   begins_alone : (options : ViewOptions) (x : TimesState) (f : FindingView) →
       late (finding_events options x f) ≡ late (begin_events x (section_in options f))
   begins_alone options x f =
@@ -272,12 +272,12 @@ module _ (pid table_id : ℕ) where
       ∙ in_both (other_events (whole_section f)) _ (no_other (whole_section f))
       ∙ in_both (distance_events x.distances (whole_in options f)) (begin_events x (section_in options f)) (no_distance x.distances (whole_in options f))
 
-  -- 5. One section, and those after it
+  -- 5. One section, and the sections after it
 
   abbrev pub own : List SectionBegin → List SectionBegin
   own sections = filter is_of sections
 
-  pub record Told (i j : IntervalState) (events : List Event) (sections rest : List SectionBegin) : Type 0 where
+  pub record ReportsErrors (i j : IntervalState) (events : List Event) (sections rest : List SectionBegin) : Type 0 where
     pub next : IntervalState
     pub agree : Agree i next
     pub events_are : map error_event (errors_from j (own sections)) ≡ late events ++ map error_event (errors_from next (own rest))
@@ -288,7 +288,7 @@ module _ (pid table_id : ℕ) where
   errors_first (Some e) = refl
 
   one : (x y : TimesState) (j : IntervalState) (o : Option SectionBegin) (rest : List SectionBegin) → Agree x.intervals j → Agree y.intervals j → IsSmall o →
-      Told (with_begin y o).intervals j (begin_events x o) (cons_option o rest) rest
+      ReportsErrors (with_begin y o).intervals j (begin_events x o) (cons_option o rest) rest
   unfolding with_begin begin_events IsSmall errors_from
   one x y j None rest h g small = record { next = j; agree = g; events_are = refl }
   one x y j (Some s) rest h g small = by (is_of s) refl
@@ -296,7 +296,7 @@ module _ (pid table_id : ℕ) where
       now : List Event
       now = error_events (error_at x.intervals s)
 
-      by : (b : Bool) → is_of s ≡ b → Told (taken y.intervals s) j now (s ∷ rest) rest
+      by : (b : Bool) → is_of s ≡ b → ReportsErrors (taken y.intervals s) j now (s ∷ rest) rest
       by true e =
           let is : IsOf s = it_is s e in
           let lt : table_id < 256 = subst (λ (n : ℕ). n < 256) is.table_is small.0 in
@@ -306,20 +306,20 @@ module _ (pid table_id : ℕ) where
             events_are = ap (λ (t : Bool). map error_event (errors_from j (cond t (s ∷ own rest) (own rest)))) e
                 ∙ map-append error_event (option_to_list (error_at j s)) (errors_from (taken j s) (own rest))
                 ∙ ap (λ (l : List Event). l ++ map error_event (errors_from (taken j s) (own rest)))
-                (errors_first (error_at j s) ∙ ap error_events (sym (same_error x.intervals j s h is lt small.1)) ∙ sym (told_at x.intervals s true e));
+                (errors_first (error_at j s) ∙ ap error_events (sym (same_error x.intervals j s h is lt small.1)) ∙ sym (reported_at x.intervals s true e));
           }
       by false e = record {
         next = j;
         agree = other_agree y.intervals j s g e small.0 small.1;
         events_are = ap (λ (t : Bool). map error_event (errors_from j (cond t (s ∷ own rest) (own rest)))) e
-            ∙ ap (λ (l : List Event). l ++ map error_event (errors_from j (own rest))) (sym (told_at x.intervals s false e));
+            ∙ ap (λ (l : List Event). l ++ map error_event (errors_from j (own rest))) (sym (reported_at x.intervals s false e));
       }
 
-  -- 6. Findings
+  -- 6. All findings
 
   pub all : (rate : ℕ) (options : ViewOptions) (x : TimesState) (j : IntervalState) (fs : List FindingView) (rest : List SectionBegin) →
       options.arrival ≡ AtRate rate → Agree x.intervals j → AllSmall fs →
-      Told (with_findings options x fs).intervals j (findings_events options x fs) (sections_at fs ++ rest) rest
+      ReportsErrors (with_findings options x fs).intervals j (findings_events options x fs) (sections_at fs ++ rest) rest
   unfolding with_findings findings_events AllSmall
   all rate options x j [] rest at h small = record { next = j; agree = h; events_are = refl }
   all rate options x j (f ∷ fs) rest at h small =
@@ -363,7 +363,7 @@ module _ (pid table_id : ℕ) where
   off_events : (x : TimesState) (o : Option SectionBegin) → IsOff o → late (begin_events x o) ≡ []
   unfolding IsOff begin_events
   off_events x None h = refl
-  off_events x (Some s) h = told_at x.intervals s false h
+  off_events x (Some s) h = reported_at x.intervals s false h
 
   off_placed : (a : Arrival) (o : Option SectionBegin) → IsOff o → IsOff (option_and_then (placed a) o)
   unfolding IsOff placed

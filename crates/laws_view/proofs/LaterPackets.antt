@@ -1,4 +1,4 @@
--- The last packets of a PID leave no more in a transport buffer than all of them.
+-- The last packets of a PID leave no more in a transport buffer than all packets of this PID.
 use Rattle.std.proofs.Common.{◌≡◌, ◌∙◌, sym, ℕ, ◌+◌, ◌*◌, ◌≤◌, max, cond, ◌&&◌, nat_le, nat_lt, Bool, true, false, List, [], ◌∷◌, ◌++◌, length, Option, Some}
 use Rattle.std.proofs.Common.{None, refl, ap, subst, inl, inr, arith}
 use Rattle.std.proofs.lemmas.Bool.{cases_lt, lt-ltb, le-ltb}
@@ -14,7 +14,7 @@ use Rattle.unit_timing.specs.Schedule.{Packet}
 use Rattle.unit_timing.specs.Transport.{slots_of, tb_fullness}
 use Rattle.tstd.specs.PidPackets.{listed, packets_from, size_in}
 
--- a byte that leaves later is there for as long
+-- A byte that leaves later is in the buffer for at least as long.
 still_before : (x d d' : ℕ) → d ≤ d' → nat_lt x d ≡ true → nat_lt x d' ≡ true
 still_before x d d' le e = elim (cases_lt x d) [
   | inl lt ↦ lt-ltb x d' (omega (arith, lt, le))
@@ -30,7 +30,7 @@ there_longer true false c' h = omega arith
 there_longer true true true h = omega arith
 there_longer true true false h = absurd (let no : false ≡ true = h refl in (let bad : ⊥ = cc in bad))
 
--- where the byte before the first leaves later, each leaves no earlier
+-- If the byte before the first leaves later, no byte leaves earlier.
 after_later : (x step p q : ℕ) (ts : List ℕ) → p ≤ q → fullness x ts (departures step p ts) ≤ fullness x ts (departures step q ts)
 unfolding departures fullness
 after_later x step p q [] le = omega arith
@@ -59,7 +59,7 @@ last_slots rate rx x ss ts =
     ∙ ap (λ (l : List ℕ). fullness x (first ++ last) l) (departures-append rate 0 first last) ∙ both in
     omega (arith, later, whole)
 
--- packets of a PID in two parts
+-- The packets of a PID in two parts
 listed_two : (index : ℕ) (size : Option ℕ) (ps qs : List Packet) → listed index size (ps ++ qs) ≡ listed index size ps ++ qs
 listed_two index None ps qs = refl
 listed_two index (Some size) ps qs = refl
@@ -78,6 +78,6 @@ packets_two pid index (x ∷ xs) ys =
 pub slots_two : (ps qs : List Packet) → slots_of (ps ++ qs) ≡ slots_of ps ++ slots_of qs
 slots_two ps qs = map-append (λ (p : Packet). p.slot) ps qs
 
--- peaks
+-- If one function is never greater than another, its peak is not greater.
 pub peak_le : (f g : ℕ → ℕ) (m n : ℕ) → ((x : ℕ) → f x ≤ g x) → IsPeak f m → IsPeak g n → m ≤ n
 peak_le f g m n le p q = omega (arith, p.reached, le p.moment, q.never_more p.moment)

@@ -22,7 +22,7 @@ use Rattle.laws_view.proofs.EnteredBytes.{after_alike}
 use Rattle.laws_view.proofs.MuxedStreams.{room_after, room_ended}
 use Rattle.laws_view.proofs.VideoExcesses.{before_payload}
 
--- bytes in two parts
+-- If bytes in two parts find room, the bytes of each part do.
 over_two : (step size prev : ℕ) (ts us : List ℕ) → AreOver false step size prev (ts ++ us) →
     AreOver false step size prev ts × AreOver false step size (last_left step prev ts) us
 unfolding AreOver last_left
@@ -31,11 +31,11 @@ over_two step size prev (t ∷ ts) us room =
     let rest = over_two step size (max t prev + step) ts us room.1 in
     ((room.0, rest.0), rest.1)
 
--- each byte finds room
+-- Each byte finds room.
 abbrev pub HasRoom : ℕ → ℕ → ℕ → List Part → Type 0
 HasRoom rate leak size parts = AreOver false leak size 0 (payload_left rate parts)
 
--- bytes that have come, and more after them
+-- The bytes that have come, and further bytes
 abbrev Grown : ℕ → Held → Held → Type 0
 Grown rate h h' = (more : List ℕ) × (payload_left rate h'.parts ≡ payload_left rate h.parts ++ more)
 
@@ -90,7 +90,7 @@ grown_each rate h arrival (p ∷ ps) =
     grown_trans rate h (after h arrival p) (after_each (after h arrival p) arrival ps) (grown_packet rate h arrival p)
     (grown_each rate (after h arrival p) arrival ps)
 
--- ---- none ends with a payload whose bytes find room, nor with all packets
+-- No excess ends with a payload whose bytes find room, nor with all packets.
 
 none_carried : (sizes : VideoSizes) (c : Held) (times : List ℕ) → HasRoom c.rate sizes.leak sizes.multiplexing (carried c times).parts →
     (video_found (Some sizes) c.rate c.parts times).multiplexing ≡ []

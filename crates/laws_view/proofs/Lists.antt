@@ -1,4 +1,4 @@
--- Entries of maps and elements of lists.
+-- Entries of maps and elements of lists
 use Rattle.std.proofs.Common.{◌≡◌, ◌∙◌, sym, ℕ, zero, suc, ◌⊎◌, cond, Bool, true, false, List, [], ◌∷◌, ◌++◌, length, Option, Some, refl, ap, inl, inr, nat_eq}
 use Rattle.std.specs.Prelude.{set, slice_get}
 use Rattle.std.specs.Map.{lookup}
@@ -18,7 +18,7 @@ apart a b f = elim (eqb_tells a b) [
   | inr other ↦ other.0
 ]
 
--- what is inserted is found, and no other entry changes
+-- An inserted entry is found, and no other entry changes.
 pub lookup_same : {X : Type 0} (es : List (ℕ × X)) (k : ℕ) (v : X) → lookup (nat_eq k) (insert_entry nat_eq es k v) ≡ Some v
 lookup_same [] k v = rw (itself k) refl
 lookup_same (e ∷ es) k v = by (nat_eq k e.0) refl (lookup_same es k v)
@@ -34,7 +34,7 @@ lookup_other {X = X} (e ∷ es) k q v f = elim (eqb_tells k e.0) [
   | inr other ↦ rw other.0 (ap (λ (o : Option X). cond (nat_eq q e.0) (Some e.1) o) (lookup_other es k q v f))
 ]
 
--- elements of lists
+-- Elements of lists
 pub set_same : {A : Type 0} (xs : List A) (i : ℕ) (x y : A) → slice_get xs i ≡ Some x → slice_get (set xs i y) i ≡ Some y
 set_same [] i x y e = absurd (let no : ⊥ = cc in no)
 set_same (z ∷ xs) zero x y e = refl

@@ -1,4 +1,4 @@
--- What the packets of a stream leave in its main buffer, and its units, as the bytes of each come.
+-- What the packets of a stream leave in its main buffer, and its units, as the bytes of each come
 use Rattle.std.proofs.Common.{◌≡◌, ◌∙◌, sym, ℕ, ◌+◌, ◌-◌, ◌*◌, ◌≤◌, Bool, true, false, List, [], ◌++◌, length, drop, Option, Some, None, if◌then◌else◌, refl}
 use Rattle.std.proofs.Common.{ap, inl, inr, arith}
 use Rattle.std.specs.Option.{option_or}
@@ -19,7 +19,7 @@ use Rattle.tstd_rows.specs.Held.{Held, carried, passed}
 use Rattle.tstd_rows.specs.Entering.{after, after_begin, after_header, after_lead, after_payload, after_unit, lead_in, size_of, takes_in, with_packet}
 use Rattle.laws_view.proofs.EnteredBytes.{Alike, Arrives, begin_arrives, bytes_arrive, no_times, packet_arrives}
 
--- the unit under way once one begins, or none does, and the moment from which its bytes are gone; before the first unit none stays
+-- The moment when the bytes of the open unit are gone: a unit that begins replaces the last one, and before the first unit no byte stays.
 abbrev pub due_with : Option DueTime → Option DueTime → Option DueTime
 due_with begins before = option_or begins before
 
@@ -27,11 +27,11 @@ unfoldable pub until_at : Option DueTime → ℕ
 until_at None = 0
 until_at (Some due) = due.until
 
--- a packet as timing sees it
+-- A packet as timing sees it
 abbrev pub timed_packet : Arriving → Packet
 timed_packet p = record { slot = p.index; size = size_of p }
 
--- ---- the bytes of a packet before its payload, and those of its payload
+-- The bytes of a packet before its payload, and the bytes of its payload
 
 in_two : (r i size : ℕ) → size ≤ 188 → bytes_from r i 188 ≡ bytes_from r i (188 - size) ++ bytes_from r (i + (188 - size)) size
 in_two r i size le =
@@ -49,11 +49,11 @@ left_one rate r prev p le =
     ∙ ap (λ (l : List ℕ). drop (188 - p.size) l) (departures-append rate prev first payload)
     ∙ drop_at (departures rate prev first) (departures rate (last_left rate prev first) payload) (188 - p.size) many)
 
--- those of the payload as they leave
+-- The departures of the payload bytes
 abbrev pub payload_of_packet : ℕ → ℕ → ℕ → Packet → List ℕ
 payload_of_packet rate r prev p = drop (188 - p.size) (departures rate prev (bytes_from r (188 * p.slot) 188))
 
--- ---- bytes that go no further
+-- Bytes that do not pass on to the main buffer
 
 same_passed : (h : Held) (n : ℕ) (times : List ℕ) (rate x : ℕ) → main_fullness rate (after_payload h false n times).parts x ≡ main_fullness rate h.parts x
 unfolding after_payload main_fullness
@@ -92,7 +92,7 @@ unfolding after_begin until_of until_at
 begin_until h None before e = e
 begin_until h (Some due) before e = refl
 
--- ---- and those that are carried
+-- Bytes that pass on to the main buffer
 
 carried_main : (h : Held) (n : ℕ) (times : List ℕ) (rate x : ℕ) → length times ≡ n →
     main_fullness rate (after_payload h true n times).parts x ≡ main_fullness rate h.parts x + entered (until_of h.parts) x (left_after rate h.parts times)
@@ -103,9 +103,9 @@ carried_main h n times rate x e = elim (eqb_tells n 0) [
   | inr some ↦ rw some.0 refl
 ]
 
--- ---- a packet
+-- One packet in the main buffer
 
--- in the main buffer, of a stream whose unit under way goes then
+-- The payload of a packet enters the main buffer, and is gone when the open unit is.
 pub record Enters (rate : ℕ) (h h' : Held) (p : Arriving) (before : Option DueTime) : Type 0 where
   pub alike : Alike h h'
   pub main : (x : ℕ) → main_fullness rate h'.parts x
@@ -116,7 +116,7 @@ pub record Enters (rate : ℕ) (h h' : Held) (p : Arriving) (before : Option Due
 last_after : (rate : ℕ) (h h' : Held) (times : List ℕ) → Arrives h h' times → last_of rate h'.parts ≡ last_left rate (last_of rate h.parts) times
 last_after rate h h' times a = ap (λ (l : List ℕ). last_left rate 0 l) a.arrivals ∙ last_left-append rate 0 (arrivals_of h.parts) times
 
--- the bytes before the payload, and the unit that begins, of a packet with a payload of that size
+-- The bytes before a payload of this size have come, and its unit has begun.
 pub record Headed (rate : ℕ) (h c : Held) (p : Arriving) (before : Option DueTime) (size : ℕ) : Type 0 where
   pub alike : Alike h c
   pub main : (x : ℕ) → main_fullness rate c.parts x ≡ main_fullness rate h.parts x

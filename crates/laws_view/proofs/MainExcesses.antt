@@ -25,7 +25,7 @@ use Rattle.laws_view.specs.WholeStreams.{stream_packets}
 use Rattle.laws_view.proofs.EnteredBytes.{after_alike}
 use Rattle.laws_view.proofs.RateStreams.{after_is, entered_is}
 
--- more bytes, and more moments
+-- More bytes at more moments have no smaller greatest fullness.
 greatest_more : (f g : ℕ → ℕ) (ds es : List ℕ) → ((x : ℕ) → f x ≤ g x) → greatest_at f ds ≤ greatest_at g (ds ++ es)
 unfolding greatest_at
 greatest_more f g [] es le = omega arith
@@ -76,7 +76,7 @@ unfolding after_begin
 most_begin h None = omega arith
 most_begin h (Some due) = most_begun h due
 
--- bytes that find room in it change no excess
+-- Bytes that find room in the main buffer end no excess and begin none.
 quiet_carried : (h : Held) (times : List ℕ) → h.main.under_way ≡ None → main_most (carried h times) ≤ h.main.size →
     (main_ended h times ≡ []) × ((carried h times).main.under_way ≡ None)
 unfolding ended_at
@@ -110,7 +110,7 @@ unfolding after_begin
 begin_main h None = refl
 begin_main h (Some due) = refl
 
--- a packet
+-- A packet whose bytes find room ends no excess.
 pub record Quiet (h h' : Held) (ended : List Excess) : Type 0 where
   pub most : main_most h ≤ main_most h'
   pub quiet : h.main.under_way ≡ None → main_most h' ≤ h.main.size → (ended ≡ []) × (h'.main.under_way ≡ None)
@@ -163,7 +163,7 @@ each_quiet h (x ∷ xs) none few =
     let rest = each_quiet h' xs one.1 (omega (arith, few, (after_alike h x.arrival x.packet).size)) in
     (rw (one.0, rest.0) refl, rest.1)
 
--- all packets of a stream
+-- All packets of a stream whose bytes find room end no excess.
 stream_quiet : (step : ℕ) (e : EntryState) (xs : List Entering) → e.held ≡ after_entering (empty step e.held.rx e.held.main.size) xs →
     main_most e.held ≤ e.held.main.size →
     (flat_map (λ v. v.main) (entered_by (empty step e.held.rx e.held.main.size) xs) ≡ []) × (e.held.main.under_way ≡ None)

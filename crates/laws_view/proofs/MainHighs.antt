@@ -1,4 +1,4 @@
--- The most that is in a main buffer when a byte of a part of a stream enters is its greatest fullness from the first of them on.
+-- The most in a main buffer when a byte of some parts enters is the buffer's greatest fullness from the first of these bytes on.
 use Rattle.std.proofs.Common.{◌≡◌, ◌∙◌, sym, ℕ, suc, ◌+◌, ◌≤◌, ◌<◌, ◌⊎◌, max, cond, List, [], ◌∷◌, ◌++◌, refl, ap, subst, inl, inr, arith, append_assoc, All}
 use Rattle.std.proofs.Math.Nat.{le_trans}
 use Rattle.std.proofs.lemmas.Bool.{cases_lt}
@@ -20,9 +20,9 @@ use Rattle.tstd_rows.specs.History.Part.{Passes, Carries, Begins}
 use Rattle.tstd_rows.proofs.Views.{payload_by, prev_le}
 use Rattle.laws_view.specs.WindowHighs.{IsHigh}
 
--- ---- when payload bytes enter
+-- The moments when payload bytes enter
 
--- those of parts after others
+-- The moments for the parts `recent`, which come after the parts `before`
 unfoldable pub entries_of : ℕ → List Part → List Part → List ℕ
 entries_of step [] before = []
 entries_of step (Passes ts ∷ recent) before = entries_of step recent before
@@ -38,7 +38,7 @@ entries_follow step (Carries ts ∷ recent) before =
     ap (λ (es : List ℕ). es ++ ds) (entries_follow step recent before) ∙ append_assoc (payload_left step before) (entries_of step recent before) ds
 entries_follow step (Begins due ∷ recent) before = entries_follow step recent before
 
--- bytes leave the transport buffer one after another
+-- Bytes leave the transport buffer one after another.
 last_more : (step : ℕ) (parts : List Part) (ts : List ℕ) → last_of step parts ≤ last_left step 0 (arrivals_of parts ++ ts)
 last_more step parts ts = rw (last_left-append step 0 (arrivals_of parts) ts) (prev_le step (last_of step parts) ts)
 
@@ -49,7 +49,7 @@ last_grows step (Passes ts ∷ recent) before = le_trans (last_grows step recent
 last_grows step (Carries ts ∷ recent) before = le_trans (last_grows step recent before) (last_more step (recent ++ before) ts)
 last_grows step (Begins due ∷ recent) before = last_grows step recent before
 
--- so these enter after all others
+-- The bytes of `recent` enter after all other bytes.
 entries_later : (step : ℕ) (recent before : List Part) → 0 < step → All (λ d. last_of step before < d) (entries_of step recent before)
 unfolding entries_of
 entries_later step [] before pos = All-nil (λ d. last_of step before < d)
@@ -69,9 +69,9 @@ entries_by step recent before =
     all_others (λ d. d ≤ by) (payload_left step before) (entries_of step recent before)
     (subst (λ (ds : List ℕ). All (λ d. d ≤ by) ds) (entries_follow step recent before) (payload_by step (recent ++ before)))
 
--- ---- where none enters the buffer only empties
+-- While no byte enters, the main buffer only empties.
 
--- none of them enters after y and by x
+-- The moment d is at most y, or after x.
 abbrev Apart : ℕ → ℕ → ℕ → Type 0
 Apart y x d = (d ≤ y) ⊎ (x < d)
 
@@ -97,7 +97,7 @@ since step y x (Carries ts ∷ before) le all =
     omega (arith, first, entered_since (until_of before) y x ds le (all_others (Apart y x) left ds all))
 since step y x (Begins due ∷ before) le all = since step y x before le all
 
--- ---- the last of some times up to a moment
+-- The last of some moments up to x
 
 record Latest (x : ℕ) (ds : List ℕ) : Type 0 where
   y : ℕ
@@ -140,7 +140,7 @@ latest x (d ∷ ds) = elim (latest x ds) [
       is = ap (λ (es : List ℕ). d ∷ es) l.is;
     }
 
--- ---- the greatest
+-- The greatest value at some moments
 
 greatest_in : (f : ℕ → ℕ) (y : ℕ) (first others : List ℕ) → f y ≤ greatest_at f (first ++ y ∷ others)
 unfolding greatest_at
@@ -176,9 +176,9 @@ reached_at f d (e ∷ ds) =
       | inr here ↦ record { first = []; moment = d; others = e ∷ ds; is = refl; reached = omega (arith, here) }
     ]
 
--- ---- the most when one of their bytes enters
+-- The most when a payload byte enters
 
--- of a part
+-- The most for the bytes of one part
 abbrev pub row_most : ℕ → List Part → List ℕ → ℕ
 row_most step before ts = greatest_at (main_fullness step (Carries ts ∷ before)) (left_after step before ts)
 
@@ -188,7 +188,7 @@ most_of step (Passes ts ∷ recent) before = most_of step recent before
 most_of step (Carries ts ∷ recent) before = max (most_of step recent before) (row_most step (recent ++ before) ts)
 most_of step (Begins due ∷ recent) before = most_of step recent before
 
--- of parts after others
+-- The most for two lists of parts is the greater of both.
 pub most_of-append : (step : ℕ) (later recent before : List Part) →
     most_of step (later ++ recent) before ≡ max (most_of step recent before) (most_of step later (recent ++ before))
 unfolding most_of
@@ -200,7 +200,7 @@ most_of-append step (Carries ts ∷ later) recent before =
     omega (arith, most_of-append step later recent before, row)
 most_of-append step (Begins due ∷ later) recent before = most_of-append step later recent before
 
--- bytes that enter later make no difference to it
+-- The most is the greatest fullness at the entries, for bytes that enter later make no difference.
 most_is : (step : ℕ) (recent before : List Part) → 0 < step →
     most_of step recent before ≡ greatest_at (main_fullness step (recent ++ before)) (entries_of step recent before)
 unfolding most_of entries_of main_fullness greatest_at
@@ -220,7 +220,7 @@ most_is step (Carries ts ∷ recent) before pos =
     omega (arith, greatest_at-append g es ds, same_greatest g f es same, most_is step recent before pos)
 most_is step (Begins due ∷ recent) before pos = most_is step recent before pos
 
--- ---- so it is the greatest fullness
+-- The most is the greatest fullness from the first entry on.
 
 never_more : (step x : ℕ) (recent before : List Part) → 0 < step → (All (λ d. x < d) (entries_of step recent before) → ⊥) →
     main_fullness step (recent ++ before) x ≤ greatest_at (main_fullness step (recent ++ before)) (entries_of step recent before)
@@ -267,7 +267,7 @@ is_high step d ds recent before pos some =
     all_sooner : (e : ℕ) → last_of step before < e → All (λ d. d < e) (payload_left step before)
     all_sooner e lt = All-weaker (λ d. d ≤ last_of step before) (λ d. d < e) (λ d le. omega (arith, le, lt)) (payload_left step before) (payload_by step before)
 
--- and after no others it is the most of all parts
+-- If no other parts come before, the most is the peak of all parts.
 pub first_most : (step : ℕ) (parts : List Part) → 0 < step → most_of step parts [] ≡ main_peak step (parts ++ [])
 unfolding payload_left
 first_most step parts pos =

@@ -1,4 +1,4 @@
--- The most in a transport buffer by a view, and by measuring.
+-- The most in a transport buffer, in a view and by measuring
 use Rattle.std.proofs.Common.{◌≡◌, ◌∙◌, sym, ℕ, ◌+◌, ◌≤◌, List, ◌∷◌, ◌++◌, length, ap, arith}
 use Rattle.ts_packet.specs.PidList.{cut_packets}
 use Rattle.unit_timing.specs.Schedule.{Packet}
@@ -13,7 +13,7 @@ use Rattle.laws_view.specs.WholeStreams.{IsWhole, indices_of}
 use Rattle.laws_view.specs.MeasuredStreams.{MeasuredStreamLaw}
 use Rattle.laws_view.proofs.LaterPackets.{last_slots, packets_two, peak_le, slots_two}
 
--- the packets of the PID are those before its buffers begin, and those after
+-- The packets of the PID are the packets before its buffers begin and the packets after.
 pub all_slots : (request : RequestView) (rate : ℕ) (bytes : List ℕ) (e : EntryState) (pid : ℕ) (w : IsWhole request rate (cut_packets bytes) e) → e.pid ≡ pid →
     slots_of (packets_on pid bytes) ≡ slots_of (packets_from pid 0 w.begun.before) ++ indices_of e.pid (length w.begun.before) (w.begun.first ∷ w.begun.later)
 all_slots request rate bytes e pid w same =
@@ -25,7 +25,7 @@ all_slots request rate bytes e pid w same =
     ∙ ap (λ (i : ℕ). slots_of (packets_from pid 0 w.begun.before) ++ indices_of pid i rest) none
     ∙ ap (λ (q : ℕ). slots_of (packets_from pid 0 w.begun.before) ++ indices_of q (length w.begun.before) rest) (sym same)
 
--- at each moment the view's packets leave no more than all
+-- At each moment the packets of the view leave no more in the buffer than all packets.
 pub no_fuller : (request : RequestView) (rate x : ℕ) (bytes : List ℕ) (e : EntryState) (pid rx : ℕ) (w : IsWhole request rate (cut_packets bytes) e) →
     e.pid ≡ pid → e.held.rx ≡ rx →
     tb_fullness rate e.held.rx x (indices_of e.pid (length w.begun.before) (w.begun.first ∷ w.begun.later)) ≤ tb_fullness rate rx x

@@ -1,4 +1,4 @@
--- The main buffers of a run that a multiplexer wrote, in a view by access units.
+-- The main buffers of a run that a multiplexer wrote, in a view by access units
 use Rattle.std.proofs.Common.{◌≡◌, ◌∙◌, sym, ℕ, zero, suc, ◌-◌, ◌*◌, ◌/◌, ◌≤◌, false, List, [], ◌∷◌, ◌++◌, length, map, take, drop, None, Some, refl, ap}
 use Rattle.std.proofs.Common.{ap₂, subst, arith, All, length-take-le}
 use Rattle.std.specs.Prelude.{slice_get}
@@ -65,7 +65,7 @@ use Rattle.laws_view.proofs.VideoExcesses.{greatest_below, rate_each}
 use Rattle.laws_view.proofs.GoneBytes.{bytes_held, cut_held, held_by, held_later, view_held}
 use Rattle.laws_view.proofs.FramedRuns.{run_fits}
 
--- each of the packets of a byte stream has 188 bytes
+-- Each packet of a byte stream has 188 bytes.
 chunk_sizes : (k : ℕ) (bytes : List ℕ) → 188 * k ≤ length bytes → All (λ b. length b ≡ 188) (first_chunks 188 k bytes)
 chunk_sizes zero bytes whole = All-nil (λ (b : List ℕ). length b ≡ 188)
 chunk_sizes (suc k) bytes whole =
@@ -76,13 +76,13 @@ chunk_sizes (suc k) bytes whole =
 pub packet_sizes_are : (bytes : List ℕ) → All (λ b. length b ≡ 188) (cut_packets bytes)
 packet_sizes_are bytes = chunk_sizes (length bytes / 188) bytes (omega arith)
 
--- the sizes of packets add up
+-- The total of packet sizes is their sum.
 total_sum : (ps : List Packet) → total (packet_sizes ps) ≡ sum_by (λ p. p.size) ps
 unfolding total
 total_sum [] = refl
 total_sum (p ∷ ps) = omega (arith, total_sum ps, sum_by-cons (λ (q : Packet). q.size) p ps)
 
--- the main buffer has room for access units that are removed one by one, whenever bytes leave the transport buffer after their packet has begun
+-- The main buffer has room for access units that are removed one by one, whenever bytes leave the transport buffer after the begin of their packet.
 frames_room : (d : Scheduled) (k : ℕ) (s : DescribedStream) (units : List AccessUnit) (content : ℕ → Content) (n : ℕ) →
     slice_get d.description.streams k ≡ Some s → StreamIsAlone (owned_stream d k s) units content → Kept (owned_stream d k s) units →
     Promised d.description d.schedule →
@@ -98,7 +98,7 @@ frames_room d k s units content n is alone kept promised f some packets cut x le
     (subst (λ (us : List PesPacket). NoneLeavesEarly s.rx (run_packets own d.description.rate (declaration s) us n) left) (sym cut.same)
     (subst (λ (ps : List Packet). NoneLeavesEarly s.rx ps left) sent late))
 
--- ---- the bytes of a stream's packets before its buffers begin, and from then on
+-- The packets of a stream before its buffers begin, and from then on
 
 record RunSent (d : Scheduled) (s : DescribedStream) (bytes : List ℕ) (before : List (List ℕ)) (e : EntryState) : Type 0 where
   front : List ℕ
@@ -147,7 +147,7 @@ run_sent d units slots request e k ranges promised kept few viewed whole =
       rate = ap (λ (g : Held). g.rate) whole.held ∙ rate_each (empty rate e.held.rx e.held.main.size) (AtRate rate) ps;
     }
 
--- ---- the laws
+-- The laws of a run in a view by access units
 
 pub run_frames_law : RunFramesLaw
 run_frames_law d units slots request place e k framing packets f ranges promised kept few viewed whole there some cut framed seen =

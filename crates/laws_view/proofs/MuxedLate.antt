@@ -1,4 +1,4 @@
--- The units of a run that a multiplexer wrote, in a view.
+-- The units of a run that a multiplexer wrote, in a view
 use Rattle.std.proofs.Common.{◌≡◌, ◌∙◌, sym, ℕ, zero, suc, ◌+◌, ◌*◌, ◌≤◌, max, false, cond, Bool, true, List, [], ◌∷◌, ◌++◌, length, map, take, drop, replicate}
 use Rattle.std.proofs.Common.{Option, Some, None, refl, ap, subst, arith, All}
 use Rattle.std.specs.Prelude.{count_by, slice_get}
@@ -56,7 +56,7 @@ use Rattle.laws_view.proofs.UnitsInTime.{LeaveInTime, UnitFine, fine_each, leave
 use Rattle.laws_view.proofs.RunUnits.{cuts_of, same_senders, same_units}
 use Rattle.laws_view.proofs.MuxedMain.{run_viewed}
 
--- ---- a run that goes on
+-- A run that continues for m more slots
 
 slots_on : (own : ℕ → Bool) (s n m : ℕ) → own_slots own s (n + m) ≡ own_slots own s n ++ own_slots own (s + n) m
 unfolding own_slots
@@ -82,7 +82,7 @@ packets_on_more own c (x ∷ xs) ys =
     ap (λ (l : List Packet). packet_in x (c (own_before own x)) ++ l) (packets_on_more own c xs ys)
     ∙ sym (append_assoc (packet_in x (c (own_before own x))) (packets_by_slot own c xs) (packets_by_slot own c ys))
 
--- begins with the packets of its first slots
+-- The packets of a longer run begin with the packets of its first slots.
 pub packets_go_on : (own : ℕ → Bool) (rate lead n m : ℕ) (units : List PesPacket) → packets_in_slots own rate lead 0 units (own_slots own 0 (n + m))
     ≡ packets_in_slots own rate lead 0 units (own_slots own 0 n) ++ packets_by_slot own (payload_size_at own rate lead 0 units) (own_slots own (0 + n) m)
 packets_go_on own rate lead n m units =
@@ -91,7 +91,7 @@ packets_go_on own rate lead n m units =
     ∙ packets_on_more own c (own_slots own 0 n) (own_slots own (0 + n) m)
     ∙ ap (λ (l : List Packet). l ++ packets_by_slot own c (own_slots own (0 + n) m)) (slotwise_law own rate lead n units)
 
--- ---- and in which each unit is due
+-- A run that is long enough for each unit to be due
 
 unfoldable latest : List AccessUnit → ℕ
 latest [] = 0
@@ -113,7 +113,7 @@ due_all rate n m us all =
     All-weaker (λ u. u.dts ≤ m) (λ u. u.dts * rate ≤ (n + m * rate) * slot_units_at_1bps)
     (λ u le. let far : u.dts * rate ≤ m * rate = mul-le-mul_right rate le in omega (arith, far)) us all
 
--- the packets of a stream, each of which leaves by its unit's decoding time
+-- Each packet of a stream leaves by the decoding time of its unit.
 stream_in_time : (d : Scheduled) (units : ℕ → List AccessUnit) (slots k : ℕ) (s : DescribedStream) → IsInRange d.description →
     Promised d.description d.schedule → UnitsKept d units →
     slice_get d.description.streams k ≡ Some s → (es : List Entry) → es ≡ entries_from s.pid 0 (cut_packets (run_bytes (content_at d units) 0 slots)) →
@@ -151,7 +151,7 @@ stream_in_time d units slots k s ranges promised kept is es same sized cut sizes
     (senders_before l us (latest us) (all_before us (latest us) (omega arith))) in
     leave_timely rate s.rx (slots + more) 0 (cut_senders cuts) qs later sized (due_all rate slots (latest us) (cut_senders cuts) before) timely
 
--- ---- the view
+-- The view has no late unit.
 
 view_fine : (rate rx size low : ℕ) (ps : List Arriving) (us : List AccessUnit) → ComeFrom low ps → Follows rate rx None ps us →
     LeaveInTime rate rx 0 us (map timed_packet ps) →

@@ -1,4 +1,4 @@
--- The multiplexing buffers of a run that a multiplexer wrote, in a view, in which a byte takes a whole number of units of time to leave them.
+-- The multiplexing buffers of a run that a multiplexer wrote, in a view where a byte takes a whole number of units of time to leave them
 use Rattle.std.proofs.Common.{◌≡◌, ◌∙◌, sym, ℕ, zero, suc, ◌+◌, ◌-◌, ◌*◌, ◌/◌, ◌%◌, ◌<◌, ◌≤◌, Bool, false, List, [], ◌∷◌, ◌++◌, length, map, drop, Option, Some}
 use Rattle.std.proofs.Common.{None, refl, ap, ap₂, subst, arith, All}
 use Rattle.std.specs.Prelude.{flat_map}
@@ -68,7 +68,7 @@ use Rattle.laws_view.proofs.VideoBytes.{payload_each}
 use Rattle.laws_view.proofs.VideoExcesses.{rate_each}
 use Rattle.laws_view.proofs.LeakExcesses.{HasRoom, none_each}
 
--- a byte takes no less than at the rate, and less than a unit of time more
+-- A byte takes at least the exact time to leave, and less than one unit of time more.
 rounded_up : (rate rx rbx : ℕ) → 0 < rbx → (rate * rx ≤ leak_step rate rx rbx * rbx) × (leak_step rate rx rbx * rbx ≤ rate * rx + rbx)
 rounded_up rate rx rbx some = up (rate * rx) (rate * rx + (rbx - 1)) ((rate * rx + (rbx - 1)) / rbx * rbx) ((rate * rx + (rbx - 1)) % rbx) refl
     (div-add-mod' (rate * rx + (rbx - 1)) rbx) (mod-lt (rate * rx + (rbx - 1)) some)
@@ -80,7 +80,7 @@ some_step : (step rate rx rbx : ℕ) → 0 < rate * rx → rate * rx ≤ step * 
 some_step zero rate rx rbx some le = absurd (omega (arith, some, le))
 some_step (suc step) rate rx rbx some le = omega arith
 
--- the view's buffer holds what one holds that a model has, by finer units of time
+-- The buffer of the view holds as much as a model's buffer with finer units of time.
 same_fullness : (rate rx rbx leak x : ℕ) (packets : List Packet) → 0 < rbx →
     fullness x (pes_left rate rx 0 packets) (departures leak 0 (pes_left rate rx 0 packets))
     ≡ fullness (rbx * x) (multiplexing_entered rate rx rbx packets) (departures (rbx * leak) 0 (multiplexing_entered rate rx rbx packets))
@@ -100,7 +100,7 @@ same_fullness rate rx rbx leak x packets some =
     ∙ ap (λ (m : ℕ). fullness m ts ds) (mul-div_cancel_left x some)
     )
 
--- no payload has more than 184 bytes
+-- No payload has more than 184 bytes.
 sizes_small : (base0 n : ℕ) (before : Option AccessUnit) (es : List Entry) (us : List AccessUnit) → AllSent base0 n before es us →
     All (λ p. p.size ≤ 184) (map entry_packet es)
 unfolding AllSent
@@ -113,13 +113,13 @@ later_small : (ps qs : List Packet) → All (λ p. p.size ≤ 184) (ps ++ qs) �
 later_small [] qs small = small
 later_small (p ∷ ps) qs small = later_small ps qs (All-tail (λ p. p.size ≤ 184) p (ps ++ qs) small)
 
--- from an empty buffer on
+-- If the transport buffer begins empty, the payload bytes of all packets leave it as in the model.
 pub payload_all : (rate rx size low : ℕ) (ps : List Arriving) (us : List AccessUnit) → ComeFrom low ps → Follows rate rx None ps us →
     payload_left rate (after_each (empty rate rx size) (AtRate rate) ps).parts ≡ pes_left rate rx 0 (map timed_packet ps)
 unfolding payload_left arrivals_of last_left until_of until_at
 payload_all rate rx size low ps us come follows = payload_each rate low (empty rate rx size) ps us None come (omega arith) follows refl
 
--- slots that rise do so from one of them on
+-- Slots that rise from a number also rise from any lower number.
 lower_rises : (own : ℕ → Bool) (low from : ℕ) (ss : List ℕ) → low ≤ from → Rises own from ss → Rises own low ss
 unfolding Rises
 lower_rises own low from [] le rises = tt
@@ -130,7 +130,7 @@ unfolding Rises
 later_rises own from [] qs rises = rises
 later_rises own from (p ∷ ps) qs rises = lower_rises own from (suc p.slot) (slots_of qs) (omega (arith, rises.0)) (later_rises own (suc p.slot) ps qs rises.2)
 
--- a multiplexing buffer that leaks a little slower than declared has room for any packets in the stream's own slots
+-- A multiplexing buffer that leaks slightly slower than declared has room for any packets in the stream's own slots.
 abbrev HasRoomFor : Scheduled → ℕ → DescribedStream → MultiplexingBuffer → Type 0
 HasRoomFor d k s b = (slow : ℕ) (packets : List Packet) (x : ℕ) → 184 ≤ d.description.rate → s.rx * d.description.rate ≤ slow →
     slow ≤ s.rx * d.description.rate + b.rbx →

@@ -1,4 +1,4 @@
--- The main buffers of a run that a multiplexer wrote, in a view.
+-- The main buffers of a run that a multiplexer wrote, in a view
 use Rattle.std.proofs.Common.{◌≡◌, ◌∙◌, sym, ℕ, ◌+◌, ◌/◌, ◌≤◌, false, List, [], ◌∷◌, ◌++◌, length, map, take, drop, None, refl, ap, subst, arith, All}
 use Rattle.std.proofs.lemmas.List.{length-append, map-append}
 use Rattle.std.proofs.lemmas.List.Elements.{All-cons, All-head, All-nil, All-tail}
@@ -49,13 +49,13 @@ use Rattle.laws_view.proofs.CarriedMain.{FromBegin, from_begin, later_within, mo
 use Rattle.laws_view.proofs.Whole.{index_all}
 use Rattle.laws_view.proofs.RunUnits.{StreamSent, cuts_of, same_units, stream_sent}
 
--- ---- the view
+-- The view of a run
 
 none_listed : (es : List Entry) → map entry_packet es ≡ [] → es ≡ []
 none_listed [] h = refl
 none_listed (e ∷ es) h = absurd (let no : ⊥ = cc in no)
 
--- by which clock reference its units go in a view
+-- The clock references for the units of a stream in a view
 run_clocks : (d : Scheduled) (units : ℕ → List AccessUnit) (slots : ℕ) (request : RequestView) (e : EntryState) (pid : ℕ) → IsInRange d.description →
     Promised d.description d.schedule →
     UnitsKept d units → slots ≤ most_packets → (before rest : List (List ℕ)) → request.options.arrival ≡ AtRate d.description.rate → e.pid ≡ pid →
@@ -81,7 +81,7 @@ run_clocks d units slots request e pid ranges promised kept few before rest at_r
     subst (λ (es : List Entry). Clocked rate base0 es us (clocks_seen f b rest)) (sym all)
     (clocked r f b rest us run (omega (arith, index, lengths)) (subst (λ (es : List Entry). Timed rate es us) all timed) clock_now)
 
--- a stream of a run and its view
+-- A stream of a run, and a view of it
 pub record RunViewed (d : Scheduled) (units : List AccessUnit) (slots : ℕ) (bytes : List ℕ) (k : ℕ) (s : DescribedStream) (request : RequestView)
     (e : EntryState) (before rest : List (List ℕ)) : Type 0 where
   pub sent : StreamSent d s k units (cut_packets bytes)
@@ -90,7 +90,7 @@ pub record RunViewed (d : Scheduled) (units : List AccessUnit) (slots : ℕ) (by
   pub clocks : (us : List AccessUnit) → Timed d.description.rate (entries_from s.pid (length before) rest) us →
       Clocked d.description.rate d.description.base0 (entries_from s.pid (length before) rest) us
       (clocks_seen (followed request e) (known_at_begin (followed request e) before) rest)
-  -- from the packet on with which the buffers begin
+  -- The packets from the begin of the buffers on
   pub begin : FromBegin d.description.rate (drop (length (entries_from s.pid 0 before)) (cut_senders (cuts_of (owned_stream d k s) units))) request e s.pid
       before rest
 
@@ -134,7 +134,7 @@ run_viewed d units slots request e k ranges promised kept few viewed whole =
           (clocks (drop (length es) us) timed);
     }
 
--- where none of a PID's packets is before them, these are all
+-- If no packet of the PID comes before the buffers begin, the later packets are all its packets.
 pub none_entries : (pid viewed : ℕ) (before rest chunks : List (List ℕ)) → viewed ≡ pid → FromTheFirst viewed before →
     entries_from pid 0 chunks ≡ entries_from pid 0 before ++ entries_from pid (length before) rest →
     entries_from pid 0 chunks ≡ entries_from pid (length before) rest
@@ -143,8 +143,8 @@ none_entries pid viewed before rest chunks same first all =
     none_listed (entries_from pid 0 before) (packets_entries pid 0 before ∙ ap (λ (q : ℕ). packets_from q 0 before) (sym same) ∙ first) in
     all ∙ ap (λ (es : List Entry). es ++ entries_from pid (length before) rest) none
 
--- of any stream: its packets before its buffers begin and from then on, and at each moment no more in the view's main buffer than in a model's,
--- where the transport buffer begins empty with these
+-- For any stream: its packets before and after its buffers begin. At each moment the view's main buffer holds no more than a model's whose transport buffer is
+-- empty when the buffers begin.
 record RunLater (d : Scheduled) (s : DescribedStream) (k : ℕ) (us : List AccessUnit) (bytes : List ℕ) (e : EntryState) (front : List Packet) : Type 0 where
   back : List Packet
   on : packets_on s.pid bytes ≡ front ++ back
@@ -212,7 +212,7 @@ run_later d units slots request e k ranges promised kept few viewed whole =
         let rest = small_parts xs ys (All-tail (λ p. p.size ≤ 188) x (xs ++ ys) all) in
         (All-cons (λ p. p.size ≤ 188) x xs (All-head (λ p. p.size ≤ 188) x (xs ++ ys) all) rest.0, rest.1)
 
--- a transport buffer without packets
+-- Without packets no byte leaves a transport buffer.
 nothing_left : (rate r : ℕ) → pes_left rate r 0 [] ≡ []
 unfolding of_payloads
 nothing_left rate r = refl

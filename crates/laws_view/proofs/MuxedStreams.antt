@@ -1,4 +1,4 @@
--- No excess of a transport buffer is told of what a multiplexer wrote.
+-- A view of a multiplexer's output has no excess of a transport buffer.
 use Rattle.std.proofs.Common.{◌≡◌, ◌∙◌, sym, ℕ, ◌+◌, ◌/◌, ◌≤◌, ◌<◌, max, false, List, [], ◌∷◌, ◌++◌, length, Option, Some, None, refl, ap, subst, arith}
 use Rattle.std.specs.Option.{option_to_list}
 use Rattle.clock27.specs.Arrival.{arrivals}
@@ -33,7 +33,7 @@ use Rattle.laws_view.specs.MuxedStreams.{JobNoExcessLaw, MuxedStreamLaw, NoExces
 use Rattle.laws_view.proofs.MeasuredStreams.{no_fuller}
 use Rattle.laws_view.proofs.RateStreams.{whole_stream_law}
 
--- bytes that find room begin no excess
+-- Bytes that find room begin no excess.
 pub room_after : (step size prev : ℕ) (ts : List ℕ) → AreOver false step size prev ts → excess_after step size prev None ts ≡ None
 unfolding excess_after AreOver
 room_after step size prev [] room = refl
@@ -49,7 +49,7 @@ no_excesses step size ts few =
     let room = none_over step size 0 ts few in
     rw (room_ended step size 0 ts room, room_after step size 0 ts room) refl
 
--- a list that ends with others is empty where both are
+-- If two lists joined are empty, the first is empty.
 none_first : {A : Type 0} (xs ys : List A) → xs ++ ys ≡ [] → xs ≡ []
 none_first [] ys e = refl
 none_first (x ∷ xs) ys e = absurd (let no : ⊥ = cc in no)
@@ -59,7 +59,7 @@ none_last xs None e = refl
 none_last [] (Some y) e = absurd (let no : ⊥ = cc in no)
 none_last (x ∷ xs) (Some y) e = absurd (let no : ⊥ = cc in no)
 
--- of a view whose transport buffer holds 512 bytes at most
+-- A view whose transport buffer holds at most 512 bytes has no excess of it.
 pub fits : (request : RequestView) (rate : ℕ) (packets : List (List ℕ)) (e : EntryState) → 0 < rate → 0 < e.held.rx → IsWhole request rate packets e →
     transport_most e.held ≤ tb_size → NoExcess request rate packets e
 fits request rate packets e some drained w few =
@@ -69,16 +69,16 @@ fits request rate packets e some drained w few =
     let peak = most_law rate ts some (climbs_rises 0 ts (arrivals_climb e.held.rx slots drained climbs)) in
     let most : most_found rate 0 ts ≤ tb_size = omega (arith, peak.reached, w.lines.transport.never_more peak.moment, few) in
     let none : excesses rate tb_size ts ≡ [] = no_excesses rate tb_size ts most in
-    let told = w.lines.told ∙ none in
+    let reported = w.lines.reported ∙ none in
     record {
       whole = w;
       most = few;
-      none_ended = none_first _ (option_to_list (transport_under_way e.held)) told;
-      none_under_way = none_last _ (transport_under_way e.held) told;
+      none_ended = none_first _ (option_to_list (transport_under_way e.held)) reported;
+      none_under_way = none_last _ (transport_under_way e.held) reported;
       number = λ window. w.lines.excesses window ∙ ap (λ (l : List Excess). length l) none;
     }
 
--- ---- what a multiplexer wrote
+-- A multiplexer's output
 
 pub muxed_stream_law : MuxedStreamLaw
 muxed_stream_law d units slots bytes request place e k s ranges h few at_rate there is same drained =

@@ -1,4 +1,4 @@
--- A view of what a multiplexer wrote has no event `table_repetition` of its tables.
+-- A view of a multiplexer's output has no event `table_repetition` of the output's tables.
 use Rattle.std.proofs.Common.{◌≡◌, ◌∙◌, ℕ, ◌*◌, ◌-◌, ◌/◌, ◌^◌, ◌≤◌, ◌<◌, ◌==◌, ◌&&◌, Bool, true, false, cond, List, [], ◌∷◌, ◌++◌, length, map, filter}
 use Rattle.std.proofs.Common.{Option, Some, None, drop, refl, sym, ap, ap₂, subst, arith, append-nil, length-drop}
 use Rattle.std.specs.List.{concat, cons_option, filter_map}
@@ -59,7 +59,7 @@ none_after : (xs ys : List TableError) → xs ++ ys ≡ [] → ys ≡ []
 none_after [] ys e = e
 none_after (x ∷ xs) ys e = absurd (let no : ⊥ = cc in no)
 
--- sections that have no errors, without the last ones
+-- If sections have no errors, the first of them have none.
 first_errors : (j : IntervalState) (xs ys : List SectionBegin) → errors_from j (xs ++ ys) ≡ [] → errors_from j xs ≡ []
 unfolding errors_from
 first_errors j [] ys e = refl
@@ -69,7 +69,7 @@ first_errors j (x ∷ xs) ys e =
     (first_errors (taken j x) xs ys (none_after here (errors_from (taken j x) (xs ++ ys)) e))
 
 module _ (pid table_id : ℕ) where
-  -- 1. The sections of a table, by what is found on its PID
+  -- 1. The sections of a table, in the findings on its PID
 
   abbrev of_table : List SectionBegin → List SectionBegin
   of_table sections = filter (λ s. s.table_id == table_id) sections
@@ -121,10 +121,10 @@ module _ (pid table_id : ℕ) where
   unfolding table_timing
   first_agree rate request at = record { timing = ap table_timing at; places = λ lt. refl; parts = λ part lt few. refl }
 
-  pub none_told : (rate : ℕ) (request : RequestView) (bytes : List ℕ) → request.options.arrival ≡ AtRate rate → length bytes / 188 < 2 ^ 64 - 1 →
+  pub none_reported : (rate : ℕ) (request : RequestView) (bytes : List ℕ) → request.options.arrival ≡ AtRate rate → length bytes / 188 < 2 ^ 64 - 1 →
       AreBytes bytes → errors_from (no_section (ConstantRate rate)) (sections_of pid table_id (found_on pid bytes)) ≡ [] →
       filter (is_late pid table_id) (sections_in (start request) (cut_packets bytes)) ≡ []
-  none_told rate request bytes at few small none =
+  none_reported rate request bytes at few small none =
       let none_yet : IntervalState = no_section (ConstantRate rate) in
       let w : Whole pid table_id (start request) none_yet (cut_packets bytes) (sections_at (found_in_all demux.start (cut_packets bytes))) =
       along pid table_id rate (start request) demux.start none_yet (cut_packets bytes) (alike_first request) at (λ free. first_agree rate request at)
@@ -204,14 +204,14 @@ each_table pid (e ∷ events) h =
             ap (λ (b : Bool). cond b (e ∷ filter (is_late pid fault.table) events) (filter (is_late pid fault.table) events)) (sym yes) ∙ k fault.table in
             let no : ⊥ = cc in no)
 
--- 5. Of a run
+-- 5. The tables of a run
 
 pub run_table_events_law : RunTableEventsLaw
 run_table_events_law d units slots request ranges promised kept few at small pid none =
     let bytes : List ℕ = run_bytes (content_at d units) 0 slots in
     let size : length bytes ≡ 188 * slots = run_length (content_at d units) 0 slots (contents_fit d units ranges kept) in
     let count : length bytes / 188 < 2 ^ 64 - 1 = omega (arith, size, few) in
-    each_table pid (sections_in (start request) (cut_packets bytes)) (λ table_id. none_told pid table_id d.description.rate request bytes at count small
+    each_table pid (sections_in (start request) (cut_packets bytes)) (λ table_id. none_reported pid table_id d.description.rate request bytes at count small
     (all_in_time d units slots ranges promised kept few pid table_id none))
 
 pub job_table_events_law : JobTableEventsLaw

@@ -1,4 +1,4 @@
--- No section of a table is late in what a multiplexer wrote.
+-- In a multiplexer's output no section of a table is late.
 use Rattle.std.proofs.Common.{◌≡◌, ◌∙◌, ℕ, ◌+◌, ◌-◌, ◌*◌, ◌/◌, ◌^◌, ◌<◌, false, List, [], ◌∷◌, ◌++◌, length, map, slice_get, Option, Some, None}
 use Rattle.std.proofs.Common.{inl, inr, refl, sym, ap, subst, arith}
 use Rattle.slot_contents.specs.Contents.{run_bytes}
@@ -27,7 +27,7 @@ use Rattle.laws_run.specs.GivenBack.{IsSentOn}
 use Rattle.laws_run.proofs.MapsRecur.{IsMap, map_table}
 use Rattle.laws_run.proofs.NothingElse.{sent_or_silent}
 use Rattle.laws_run.proofs.RunFindings.{is_run, silent_back}
-use Rattle.laws_run.proofs.Soundness.{as_told}
+use Rattle.laws_run.proofs.Soundness.{as_reported}
 use Rattle.laws_run.proofs.TablesRecur.{pat_in_time}
 use Rattle.laws_run.proofs.ServicesRecur.{kind_on, nit_in_time, sdt_in_time, stream_higher, tdt_in_time}
 use Rattle.laws_monitor.specs.Tables.{errors_from}
@@ -49,7 +49,7 @@ none_before : (xs ys : List ℕ) → xs ++ ys ≡ [] → xs ≡ []
 none_before [] ys e = refl
 none_before (x ∷ xs) ys e = absurd (let no : ⊥ = cc in no)
 
--- places of which none is late, without the last ones
+-- If no place is late, no place is late without the last ones.
 fewer : (limit : ℕ) (last : Option ℕ) (xs ys : List ℕ) → after limit last (xs ++ ys) ≡ [] → after limit last xs ≡ []
 fewer limit last [] ys e = refl
 fewer limit last (x ∷ xs) ys e =
@@ -60,7 +60,7 @@ none_named : (es : List TableError) → map (λ (e : TableError). e.section.pack
 none_named [] h = refl
 none_named (e ∷ es) h = absurd (let no : ⊥ = cc in no)
 
--- what is not late for a monitor is no error
+-- If no section is late for a monitor, there are no errors.
 no_errors : (rate limit pid table_id : ℕ) (bytes : List ℕ) → 0 < rate → milliseconds pid table_id ≡ Some limit → has_parts pid table_id ≡ false →
     late rate limit (table_begins table_id (found_on pid bytes)) ≡ [] → table_errors rate pid table_id bytes ≡ []
 no_errors rate limit pid table_id bytes some m whole none =
@@ -73,7 +73,7 @@ pat_begins rate bytes none =
     sym (after_all rate 500 begins)
     ∙ without_first (500 * rate) 0 begins (fewer (500 * rate) (Some 0) begins ends (after_all rate 500 (0 ∷ begins ++ ends) ∙ none))
 
--- of a program's map
+-- The sections of a program map have no errors.
 map_errors : (d : Scheduled) (units : ℕ → List AccessUnit) (slots i : ℕ) (p : DescribedProgram) → IsInRange d.description → Promised d.description d.schedule →
     UnitsKept d units → slots < 2 ^ 64 - 1 → slice_get d.description.programs i ≡ Some p →
     table_errors d.description.rate p.pmt_pid 0x02 (run_bytes (content_at d units) 0 slots) ≡ []
@@ -83,7 +83,7 @@ map_errors d units slots i p ranges promised kept few is =
     subst (λ (pid : ℕ). table_errors d.description.rate pid 0x02 (run_bytes (content_at d units) 0 slots) ≡ []) map.same
     (parts_in_time d units slots 500 (i + 1) (Pmt i) ranges promised kept few map.kind tt (omega arith) refl refl)
 
--- of events, if the description has any
+-- The sections of events have no errors, if the description has any events.
 event_errors : (d : Scheduled) (units : ℕ → List AccessUnit) (slots : ℕ) → IsInRange d.description → Promised d.description d.schedule → UnitsKept d units →
     slots < 2 ^ 64 - 1 → table_errors d.description.rate 0x12 0x4E (run_bytes (content_at d units) 0 slots) ≡ []
 unfolding milliseconds errors_from
@@ -91,9 +91,9 @@ event_errors d units slots ranges promised kept few = elim (sent_or_silent d.des
   | inl sent ↦ by sent
   | inr none ↦
       let size : length bytes ≡ 188 * slots = run_length (content_at d units) 0 slots (contents_fit d units ranges kept) in
-      let told : map (with_pid_at 0x12) (found_on 0x12 bytes) ≡ [] =
-      sym (as_told 0x12 bytes refl (omega (arith, size, few))) ∙ silent_back d units slots 0x12 (is_run d units slots ranges kept few) refl none in
-      ap (errors_from (no_section (ConstantRate rate))) (same_sections 0x12 0x4E (found_on 0x12 bytes) [] told)
+      let reported : map (with_pid_at 0x12) (found_on 0x12 bytes) ≡ [] =
+      sym (as_reported 0x12 bytes refl (omega (arith, size, few))) ∙ silent_back d units slots 0x12 (is_run d units slots ranges kept few) refl none in
+      ap (errors_from (no_section (ConstantRate rate))) (same_sections 0x12 0x4E (found_on 0x12 bytes) [] reported)
 ]
   where
     rate : ℕ

@@ -1,4 +1,4 @@
--- The elementary stream buffers of a run that a multiplexer wrote, in a view.
+-- The elementary stream buffers of a run that a multiplexer wrote, in a view
 use Rattle.std.proofs.Common.{◌≡◌, ◌∙◌, sym, ℕ, ◌+◌, ◌*◌, ◌≤◌, false, List, [], ◌∷◌, ◌++◌, length, map, take, drop, Option, Some, None, refl, ap, subst, arith}
 use Rattle.std.proofs.Common.{All}
 use Rattle.std.specs.Prelude.{flat_map}
@@ -51,7 +51,7 @@ use Rattle.laws_view.proofs.MuxedMain.{run_viewed}
 use Rattle.laws_view.proofs.VideoBytes.{later_leaked}
 use Rattle.laws_view.proofs.VideoExcesses.{greatest_below, none_under_way, quiet_each, rate_each}
 
--- bytes that leave another buffer after the first leave no earlier
+-- If no byte leaves a buffer early, none leaves the buffer after it early.
 pub leaked_late : (r leak prev : ℕ) (ps : List Packet) (left : List ℕ) → NoneLeavesEarly r ps left → NoneLeavesEarly r ps (departures leak prev left)
 unfolding NoneLeavesEarly
 leaked_late r leak prev [] left none = rw none (unfold departures in refl)
@@ -79,7 +79,7 @@ small_parts (x ∷ xs) ys all =
     let rest = small_parts xs ys (All-tail (λ p. p.size ≤ 188) x (xs ++ ys) all) in
     (All-cons (λ p. p.size ≤ 188) x xs (All-head (λ p. p.size ≤ 188) x (xs ++ ys) all) rest.0, rest.1)
 
--- at each moment no more is in the view's elementary stream buffer than in a main buffer that these bytes enter so late
+-- At each moment the view's elementary stream buffer holds no more than a main buffer that bytes enter at these late times.
 record RunLeaked (d : Scheduled) (s : DescribedStream) (us : List AccessUnit) (bytes : List ℕ) (leak : ℕ) (e : EntryState) : Type 0 where
   left : List ℕ
   late : NoneLeavesEarly s.rx (packets_on s.pid bytes) left

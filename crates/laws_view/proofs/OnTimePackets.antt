@@ -14,7 +14,7 @@ use Rattle.laws_view.proofs.KeptBytes.{first_left, later_left, left_packet}
 use Rattle.laws_view.proofs.MainBytes.{payload_of_packet}
 use Rattle.laws_view.proofs.SentBytes.{TimelyEach}
 
--- each begins by the decoding time of its unit
+-- Each packet begins by the decoding time of its unit.
 unfoldable pub OnTime : ℕ → List AccessUnit → List Packet → Type 0
 OnTime rate us [] = Unit {0}
 OnTime rate [] (p ∷ ps) = Unit {0}
@@ -31,7 +31,7 @@ by_first rate r s due (d ∷ ds) some many low high =
       | inr fine ↦ fine
     ]
 
--- packets of sizes from 1 to 184, in these slots
+-- A packet of 1 to 184 bytes, in a slot up to n
 pub record IsSized (n : ℕ) (p : Packet) : Type 0 where
   pub some : 1 ≤ p.size
   pub most : p.size ≤ 184

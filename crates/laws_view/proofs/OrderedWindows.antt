@@ -1,4 +1,4 @@
--- Where packets arrive in order, so do the bytes of a stream's up to the end of a window: what its line `held` then says of the transport buffer.
+-- If packets arrive in order, the bytes of a stream do too, up to the end of a window. The line `held` then has the greatest fullness of the transport buffer.
 use Rattle.std.proofs.Common.{◌≡◌, ◌∙◌, ℕ, ◌+◌, ◌^◌, ◌≤◌, ◌<◌, true, List, [], ◌∷◌, ◌++◌, length, Some, ap, subst, inl, inr, arith, All}
 use Rattle.std.specs.Prelude.{◌==◌, slice_get}
 use Rattle.std.proofs.lemmas.List.{length-append}
@@ -27,7 +27,7 @@ use Rattle.laws_view.proofs.TimedWhole.{timed_stream_law}
 use Rattle.laws_view.proofs.TransportHighs.{timed_transport_law}
 use Rattle.laws_view.proofs.Whole.{none_agree}
 
--- ---- the first of packets in order
+-- The first of rising times
 
 first_rise : (from : ℕ) (ts us : List ℕ) → Rises from (ts ++ us) → Rises from ts
 unfolding Rises
@@ -51,9 +51,9 @@ first_in_order step ps qs order = record {
   same = first_all (λ p. step_of p.arrival ≡ step) ps qs order.same;
 }
 
--- ---- a stream of theirs
+-- A stream of packets in order
 
--- each byte takes the same step in its buffers
+-- Each byte takes the same step in the stream's buffers.
 pub step_is : (request : RequestView) (step : ℕ) (packets : List Timed) (place : ℕ) (e : EntryState) → All (λ p. step_of p.arrival ≡ step) packets →
     length packets < 2 ^ 64 →
     slice_get (view_by (start request) packets).table.entries place ≡ Some e → e.held.rate ≡ step
@@ -75,7 +75,7 @@ step_is request step packets place e all few there =
         (entering_among (followed (view_by (start request) b.before) b.first) (known (view_by (start request) b.before) b.first) (b.p ∷ b.later))
         ∙ ap (λ (x : EntryState). x.held.rate) b.begins.is ∙ first
 
--- the bytes that have entered its transport buffer
+-- The bytes that have entered the transport buffer arrived in order.
 window_rises : (request : RequestView) (step : ℕ) (before packets : List Timed) (window place : ℕ) (e e' : EntryState) →
     OfWindow request before packets window place e e' → 0 < step → InOrder step (before ++ packets) → length before + length packets ≤ most_packets →
     Rises 0 (arrivals_of (after_entering e.held (window_entering request before e packets)).parts)
@@ -87,7 +87,7 @@ pub ordered_transport : (request : RequestView) (step : ℕ) (before packets : L
     OfWindow request before packets window place e e' → (e'.tally.window == window) ≡ true → 0 < step → InOrder step (before ++ packets) →
     length before + length packets ≤ most_packets → 0 < e'.tally.window_transport →
     IsFullWith e.held (window_entering request before e packets) e'.tally.window_transport
-ordered_transport request step before packets window place e e' w told pos order few some =
+ordered_transport request step before packets window place e e' w reported pos order few some =
     let same = step_is request step before place e (first_in_order step before packets order).same (omega (arith, few)) w.begun in
-    timed_transport_law request before packets window place e e' w told (omega (arith, pos, same))
+    timed_transport_law request before packets window place e e' w reported (omega (arith, pos, same))
     (window_rises request step before packets window place e e' w pos order few) some

@@ -1,4 +1,4 @@
--- On a PID without a ready-made table no section of any table is late in what a multiplexer wrote.
+-- On a PID without a ready-made table no section of any table is late in a multiplexer's output.
 use Rattle.std.proofs.Common.{◌≡◌, ◌∙◌, ℕ, ◌+◌, ◌-◌, ◌*◌, ◌/◌, ◌^◌, ◌<◌, ◌==◌, nat_le, Bool, true, false, cond, List, [], ◌∷◌, ◌++◌, length, take, drop, map}
 use Rattle.std.proofs.Common.{filter}
 use Rattle.std.proofs.Common.{slice_get, inl, inr, Option, Some, None, refl, sym, ap, subst, arith, All, eqb-true}
@@ -39,7 +39,7 @@ use Rattle.laws_run.specs.Placed.{section_slots, sent_units}
 use Rattle.laws_run.proofs.DistinguishableSections.{rounds_all}
 use Rattle.laws_run.proofs.NothingElse.{sent_or_silent}
 use Rattle.laws_run.proofs.RunFindings.{given_back, is_run, silent_back}
-use Rattle.laws_run.proofs.Soundness.{as_told}
+use Rattle.laws_run.proofs.Soundness.{as_reported}
 use Rattle.laws_run.proofs.TableBegins.{made_distinguishable}
 use Rattle.laws_run.proofs.TableIds.{HasId, table_id_of, text_id}
 use Rattle.laws_run.proofs.TablesWritten.{IsMade}
@@ -55,12 +55,12 @@ use Rattle.laws_view.proofs.MuxedTables.{run_tables_law}
 use Rattle.laws_view.proofs.PartErrors.{at_pid}
 use Rattle.laws_view.proofs.PartsInTime.{parts_in_time}
 
--- 1. The sections of a table_id in what a demultiplexer tells of a PID
+-- 1. The sections of a table_id in a demultiplexer's findings on a PID
 
-abbrev told_sections : ℕ → List FindingView → List SectionBegin
-told_sections table_id fs = filter (λ s. s.table_id == table_id) (filter_map section_begin fs)
+abbrev reported_sections : ℕ → List FindingView → List SectionBegin
+reported_sections table_id fs = filter (λ s. s.table_id == table_id) (filter_map section_begin fs)
 
--- units are no sections
+-- A unit is no section.
 unit_none : (id base0 pid : ℕ) (e : Ending) (u : AccessUnit) (i : ℕ) (is : List ℕ) → section_begin (with_pid_at pid (unit_found id base0 e u i is)) ≡ None
 unfolding unit_found section_by begin_of
 unit_none id base0 pid e u i is = elim (cases_Bool ((unit_header id base0 u).len == 0)) [
@@ -85,7 +85,7 @@ units_none id base0 pid n (x ∷ sent) = by (units_none id base0 pid n sent) x.p
         ap (λ (o : Option SectionBegin). cons_option o (filter_map section_begin (map (with_pid_at pid) (each_found (unit_found id base0) n sent))))
         (unit_none id base0 pid (next_of n sent) x.item i is) ∙ rest
 
--- sections of another table_id
+-- The section, if any, has this table_id.
 unfoldable HasTable : ℕ → Option SectionBegin → Type 0
 HasTable id None = Unit {0}
 HasTable id (Some s) = s.table_id ≡ id
@@ -104,7 +104,7 @@ left_out id table_id (Some s) rest h e =
     (ap (λ (n : ℕ). n == table_id) h ∙ e)
 
 others_none : (pid id table_id n : ℕ) (texts : List (List ℕ)) (packets : List ℕ) → (id == table_id) ≡ false → All (HasId id) texts →
-    told_sections table_id (map (with_pid_at pid) (each_found section_found n (sendings section_packets texts packets))) ≡ []
+    reported_sections table_id (map (with_pid_at pid) (each_found section_found n (sendings section_packets texts packets))) ≡ []
 unfolding each_found if_sent sendings
 others_none pid id table_id n [] packets e ids = refl
 others_none pid id table_id n (text ∷ texts) packets e ids =
@@ -113,8 +113,8 @@ others_none pid id table_id n (text ∷ texts) packets e ids =
     left : List (Sending (List ℕ))
     left = sendings section_packets texts (drop (section_packets text) packets)
 
-    by : told_sections table_id (map (with_pid_at pid) (each_found section_found n left)) ≡ [] → (js : List ℕ) →
-        told_sections table_id (map (with_pid_at pid) (if_sent (section_found (next_of n left) text) js ++ each_found section_found n left)) ≡ []
+    by : reported_sections table_id (map (with_pid_at pid) (each_found section_found n left)) ≡ [] → (js : List ℕ) →
+        reported_sections table_id (map (with_pid_at pid) (if_sent (section_found (next_of n left) text) js ++ each_found section_found n left)) ≡ []
     by rest [] = rest
     by rest (i ∷ is) =
         left_out id table_id (section_begin (with_pid_at pid (section_found (next_of n left) text i is)))
@@ -136,11 +136,12 @@ module _ (d : Scheduled) (units : ℕ → List AccessUnit) (slots : ℕ) (ranges
   few_packets : length bytes / 188 < 2 ^ 64 - 1
   few_packets = let size : length bytes ≡ 188 * slots = run_length (content_at d units) 0 slots (contents_fit d units ranges kept) in omega (arith, size, few)
 
-  -- by what is told of it
-  by_told : (pid table_id : ℕ) (told : List FindingView) → map (with_pid_at pid) (found_on pid bytes) ≡ told → told_sections table_id told ≡ [] →
+  -- If the findings of a PID have no section of a table_id, the table_id has no errors on it.
+  by_reported : (pid table_id : ℕ) (reported : List FindingView) → map (with_pid_at pid) (found_on pid bytes) ≡ reported →
+      reported_sections table_id reported ≡ [] →
       table_errors rate pid table_id bytes ≡ []
   unfolding errors_from
-  by_told pid table_id told e none =
+  by_reported pid table_id reported e none =
       ap (λ (l : List SectionBegin). errors_from (no_section (ConstantRate rate)) (filter (λ (s : SectionBegin). s.table_id == table_id) l))
       (sym (at_pid pid (found_on pid bytes)) ∙ ap (filter_map section_begin) e)
       ∙ ap (errors_from (no_section (ConstantRate rate))) none
@@ -148,7 +149,7 @@ module _ (d : Scheduled) (units : ℕ → List AccessUnit) (slots : ℕ) (ranges
   back : GivenBack d units slots bytes
   back = given_back d units slots ranges kept few
 
-  -- a table of another table_id
+  -- If the table on a PID has another table_id, this table_id has no errors there.
   other_id : (t table_id : ℕ) (k : TableKind) → table_kind d.description t ≡ Some k → t < table_count d.description → IsMade k →
       (table_pid d.description t == 8191) ≡ false → (table_id_of k == table_id) ≡ false →
       table_errors rate (table_pid d.description t) table_id bytes ≡ []
@@ -157,11 +158,11 @@ module _ (d : Scheduled) (units : ℕ → List AccessUnit) (slots : ℕ) (ranges
       let ids : All (HasId (table_id_of k)) (sections_of_rounds table slots) =
       rounds_all (HasId (table_id_of k)) table (own_slots (starts table.own (round_places table.lengths) 0) 0 slots)
       (λ j moment within. text_id d.description t j moment k is made within) in
-      by_told (table_pid d.description t) table_id (table_findings d slots t)
-      (sym (as_told (table_pid d.description t) bytes no_null few_packets) ∙ back.tables t lt (made_distinguishable d.description t k is made))
+      by_reported (table_pid d.description t) table_id (table_findings d slots t)
+      (sym (as_reported (table_pid d.description t) bytes no_null few_packets) ∙ back.tables t lt (made_distinguishable d.description t k is made))
       (others_none (table_pid d.description t) (table_id_of k) table_id slots (sections_of_rounds table slots) (section_slots table slots) e ids)
 
-  -- the same table_id, by kind
+  -- The table_id of the table on a PID has no errors there, whatever the kind of the table.
   same_id : (t : ℕ) (k : TableKind) → table_kind d.description t ≡ Some k → IsMade k → kind_pid d.description k ≡ table_pid d.description t →
       table_errors rate (table_pid d.description t) (table_id_of k) bytes ≡ []
   unfolding milliseconds
@@ -202,7 +203,7 @@ module _ (d : Scheduled) (units : ℕ → List AccessUnit) (slots : ℕ) (ranges
   of_stream : (k table_id : ℕ) (s : DescribedStream) → slice_get d.description.streams k ≡ Some s → (s.pid == 8191) ≡ false →
       table_errors rate s.pid table_id bytes ≡ []
   of_stream k table_id s is no_null =
-      by_told s.pid table_id (stream_findings d units slots k s) (sym (as_told s.pid bytes no_null few_packets) ∙ back.streams k s is)
+      by_reported s.pid table_id (stream_findings d units slots k s) (sym (as_reported s.pid bytes no_null few_packets) ∙ back.streams k s is)
       (ap (filter (λ (z : SectionBegin). z.table_id == table_id))
       (units_none s.stream_id d.description.base0 s.pid slots (sent_units (owned_stream d k s) slots (units k))))
 
@@ -210,8 +211,8 @@ module _ (d : Scheduled) (units : ℕ → List AccessUnit) (slots : ℕ) (ranges
   of_pid pid table_id no_null none = elim (sent_or_silent d.description pid) [
     | inl sent ↦ by sent
     | inr silent ↦
-        by_told pid table_id []
-        (sym (as_told pid bytes no_null few_packets) ∙ silent_back d units slots pid (is_run d units slots ranges kept few) no_null silent)
+        by_reported pid table_id []
+        (sym (as_reported pid bytes no_null few_packets) ∙ silent_back d units slots pid (is_run d units slots ranges kept few) no_null silent)
         refl
   ]
     where

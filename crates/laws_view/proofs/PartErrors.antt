@@ -1,4 +1,4 @@
--- Sections of a table with parts have no errors, if those of each part begin in time.
+-- Sections of a table with parts have no errors if the sections of each part begin in time.
 use Rattle.std.proofs.Common.{◌≡◌, ◌∙◌, ℕ, zero, suc, ◌+◌, ◌-◌, ◌*◌, ◌/◌, ◌≤◌, ◌<◌, ◌==◌, nat_le, nat_eq, Bool, true, false, cond, List, [], ◌∷◌, ◌++◌, length}
 use Rattle.std.proofs.Common.{take, drop}
 use Rattle.std.proofs.Common.{map, filter, Option, Some, None, refl, sym, ap, ap₂, subst, arith, All, ne_eqb}
@@ -29,9 +29,9 @@ use Rattle.laws_monitor.proofs.PidEntries.{kept, same_number}
 use Rattle.laws_monitor.proofs.Tables.{last_after, last_place, one_error}
 use Rattle.laws_view.proofs.LateEvents.{itself}
 
--- 1. What begins in packets
+-- 1. The sections that begin in packets
 
--- the first packets of the sections of a part
+-- The first packets of the sections of a part
 unfoldable pub starts_with : ℕ → ℕ → List (List ℕ) → List ℕ → List ℕ
 starts_with table_id part [] packets = []
 starts_with table_id part (text ∷ texts) [] = []
@@ -52,7 +52,7 @@ none_left zero is h = absurd (omega (arith, h))
 none_left (suc c) [] h = refl
 none_left (suc c) (i ∷ is) h = none_left c is (omega (arith, h))
 
--- without packets nothing is found
+-- Without packets there are no findings.
 none_sent : (n : ℕ) (texts : List (List ℕ)) (packets : List ℕ) → packets ≡ [] → each_found section_found n (sendings section_packets texts packets) ≡ []
 unfolding each_found sendings if_sent
 none_sent n [] packets e = refl
@@ -78,7 +78,7 @@ none_last : (xs ys : List ℕ) → xs ++ ys ≡ [] → ys ≡ []
 none_last [] ys e = e
 none_last (x ∷ xs) ys e = absurd (let no : ⊥ = cc in no)
 
--- places of which none is late after a first one, without that one
+-- If no place is late after a first place, none is late without it.
 pub without_first : (limit first : ℕ) (xs : List ℕ) → after limit (Some first) xs ≡ [] → after limit None xs ≡ []
 without_first limit first [] e = refl
 without_first limit first (x ∷ xs) e = none_last (step limit (Some first) x) (after limit (Some x) xs) e
@@ -87,7 +87,7 @@ pub at_pid : (pid : ℕ) (xs : List PidFinding) → filter_map section_begin (ma
 at_pid pid [] = refl
 at_pid pid (x ∷ xs) = ap (cons_option (section_begin (with_pid_at pid x))) (at_pid pid xs)
 
--- findings that say the same on a PID have the same sections
+-- If findings on a PID are equal, their sections are equal.
 pub same_sections : (pid table_id : ℕ) (xs ys : List PidFinding) → map (with_pid_at pid) xs ≡ map (with_pid_at pid) ys →
     sections_of pid table_id xs ≡ sections_of pid table_id ys
 same_sections pid table_id xs ys e =
@@ -132,7 +132,7 @@ module _ (rate limit pid table_id : ℕ) (some : 0 < rate) (m : milliseconds pid
   unfolding part_before error_if
   cut_error j s place h = ap (λ (o : Option SectionPlaces). error_if j.timing s o (limit_of s.pid s.table_id)) (before_is j s None place h)
 
-  -- what is kept of a part after it
+  -- The last place of each part after a section
   next_part : (j : IntervalState) (s : SectionBegin) (part other place : ℕ) (b : Bool) → IsPart s (Some part) place → (part == other) ≡ b →
       last_of (taken j s) other ≡ cond b (Some place) (last_of j other)
   unfolding parts_after
@@ -196,7 +196,7 @@ module _ (rate limit pid table_id : ℕ) (some : 0 < rate) (m : milliseconds pid
     abbrev pub InTime : IntervalState → List (List ℕ) → List ℕ → Type 0
     InTime j texts packets = (part : ℕ) → Good part → after (limit * rate) (last_of j part) (starts_with table_id part texts packets) ≡ []
 
-    -- after a section that comes whole
+    -- After a whole section the later sections are in time.
     goes_on : (j : IntervalState) (s : SectionBegin) (i part : ℕ) (text : List ℕ) (texts : List (List ℕ)) (is left : List ℕ) → IsPart s (Some part) i →
         part_in table_id text ≡ part → drop (section_packets text) (i ∷ is) ≡ left → InTime j (text ∷ texts) (i ∷ is) → InTime (taken j s) texts left
     unfolding starts_with
@@ -220,7 +220,7 @@ module _ (rate limit pid table_id : ℕ) (some : 0 < rate) (m : milliseconds pid
             ap (λ (o : Option ℕ). after (limit * rate) o others) (next_part j s part other i false h e)
             ∙ ap (λ (b : Bool). after (limit * rate) (last_of j other) (cond b (i ∷ others) others)) (sym e) ∙ in_all
 
-    -- a section that comes in time
+    -- A section in time is not late.
     in_time : (j : IntervalState) (i part : ℕ) (text : List ℕ) (texts : List (List ℕ)) (is : List ℕ) → part_in table_id text ≡ part → Good part →
         InTime j (text ∷ texts) (i ∷ is) → step (limit * rate) (last_of j part) i ≡ []
     unfolding starts_with

@@ -1,4 +1,4 @@
--- In which slots the sections of a part begin.
+-- The slots where the sections of a part begin
 use Rattle.std.proofs.Common.{◌≡◌, ◌∙◌, ℕ, zero, suc, ◌+◌, ◌-◌, ◌/◌, ◌==◌, ◌&&◌, Bool, true, false, cond, List, [], ◌∷◌, ◌++◌, length, take, drop, map, filter}
 use Rattle.std.proofs.Common.{slice_get, Some, refl, sym, ap, ap₂, subst, arith, All, inl, inr}
 use Rattle.std.specs.List.{flat_map}
@@ -21,9 +21,9 @@ use Rattle.laws_pid.proofs.SendingPackets.{parted}
 use Rattle.laws_pid.proofs.FoundInRun.{index_lists, piece_lists, same_length}
 use Rattle.laws_view.proofs.PartErrors.{drop_none, starts_with, take_none}
 
--- 1. Packets for which something is so, by their slots
+-- 1. Chosen packets, by their slots
 
--- in a slot such a packet of a PID
+-- Slot s has a packet of the PID that f chooses.
 abbrev pub chosen : (PacketView → Bool) → ℕ → (ℕ → Content) → ℕ → Bool
 chosen f pid content s = is_of_pid pid (view_of (content s)) && f (view_of (content s))
 
@@ -41,7 +41,7 @@ chosen_slots f pid content s (suc n) =
       | inr k ↦ rw (k, rest) refl
     ]
 
--- a packet of the list is that of its slot
+-- A chosen packet of the list is the packet of its slot.
 pub chosen_there : (f : PacketView → Bool) (pid : ℕ) (content : ℕ → Content) (s n k : ℕ) (e : Entry) → slice_get (entries_in pid content s n) k ≡ Some e →
     f e.packet ≡ true → chosen f pid content e.index ≡ true
 unfolding entries_in
@@ -63,9 +63,9 @@ chosen_there f pid content s (suc n) k e is so =
         subst (λ (t : ℕ). chosen f pid content t ≡ true) slot there
 
 module _ (table_id : ℕ) where
-  -- 2. Payloads with which a section of a part begins
+  -- 2. Payloads where a section of a part begins
 
-  -- the part by a payload, whose section begins after pointer_field
+  -- The part of a payload whose section begins after pointer_field
   abbrev pub part_after : List ℕ → ℕ
   part_after payload = part_in table_id (drop 1 payload)
 
@@ -100,7 +100,7 @@ module _ (table_id : ℕ) where
   abbrev section_start : List ℕ → Start
   section_start section = Begins
 
-  -- its part is that of the section
+  -- The part of the payload is the part of the section.
   abbrev pub IsPlain : List ℕ → Type 0
   IsPlain text = part_after (take 184 (filled_section text)) ≡ part_in table_id text
 
@@ -144,9 +144,9 @@ module _ (table_id : ℕ) where
           ∙ ap (λ (n : ℕ). cond (n == part) (i ∷ starts_part part (later c)) (starts_part part (later c))) (All-head IsPlain text texts plain)
           ∙ ap (λ (l : List ℕ). cond (part_in table_id text == part) (i ∷ l) l) rest
 
-  -- 3. In the packets of a PID
+  -- 3. The packets of a PID
 
-  -- a section of the part begins in a packet
+  -- A section of the part begins in the packet.
   abbrev pub begins_part : ℕ → PacketView → Bool
   begins_part part packet = packet.header.payload_unit_start_indicator && (part_after (payload_of packet) == part)
 
@@ -163,7 +163,7 @@ module _ (table_id : ℕ) where
       by rest true = ap (λ (l : List ℕ). e.index ∷ l) rest
       by rest false = rest
 
-  -- where the sections of a part begin
+  -- The slots where the sections of a part begin
   pub part_slots : (part pid n : ℕ) (content : ℕ → Content) (texts : List (List ℕ)) → pid_list pid (run_bytes content 0 n) ≡ entries_in pid content 0 n →
       CarriesPieces pid (run_bytes content 0 n) (flat_map section_pieces texts) → All IsPlain texts →
       starts_with table_id part texts (packets_on pid (run_bytes content 0 n)) ≡ own_slots (chosen (begins_part part) pid content) 0 n

@@ -1,4 +1,4 @@
--- Sections of a program map begin in time, and those of present and of following events each by themselves.
+-- The sections of a program map begin in time, and so do the sections of present events and of following events.
 use Rattle.std.proofs.Common.{◌≡◌, ◌∙◌, ℕ, suc, ◌+◌, ◌-◌, ◌*◌, ◌/◌, ◌%◌, ◌^◌, ◌<◌, ◌≤◌, ◌==◌, ◌&&◌, Bool, true, false, List, [], ◌∷◌, ◌++◌, length, take}
 use Rattle.std.proofs.Common.{replicate}
 use Rattle.std.proofs.Common.{map, slice_get, Option, Some, None, refl, sym, ap, ap₂, subst, arith, All, append-nil}
@@ -45,7 +45,7 @@ use Rattle.monitor.proofs.LatePlaces.{after, after_all}
 use Rattle.laws_run.proofs.Between.{between}
 use Rattle.laws_run.proofs.DistinguishableSections.{rounds_all, section_distinguishable}
 use Rattle.laws_run.proofs.RunFindings.{has_places, has_room, is_run, one_table}
-use Rattle.laws_run.proofs.Soundness.{as_told}
+use Rattle.laws_run.proofs.Soundness.{as_reported}
 use Rattle.laws_run.proofs.TableBegins.{made_distinguishable}
 use Rattle.laws_run.proofs.TableIds.{table_id_of, text_id}
 use Rattle.laws_run.proofs.TablesWritten.{IsMade, IsThere, kinds_there, some_there}
@@ -60,7 +60,7 @@ use Rattle.laws_view.proofs.PartStarts.{IsPlain, begins_part, chosen, chosen_the
 
 -- 1. The part of each section
 
--- the kinds of tables that have parts
+-- The kinds of tables that have parts
 abbrev pub HasParts : TableKind → Type 0
 HasParts Pat = ⊥
 HasParts (Pmt p) = ⊤
@@ -70,7 +70,7 @@ HasParts Eit = ⊤
 HasParts Tdt = ⊥
 HasParts (Private i) = ⊥
 
--- of a map its program_number, of events section_number
+-- The part of a program map is its program_number, the part of events their section_number.
 abbrev kind_part : Described → TableKind → ℕ → ℕ
 kind_part d Pat section = 0
 kind_part d (Pmt p) section = elim (slice_get d.programs p) as (λ _. ℕ) [ None ↦ 0 | Some program ↦ program.number / 256 * 256 + program.number % 256 ]
@@ -80,7 +80,7 @@ kind_part d Eit section = section % 2
 kind_part d Tdt section = 0
 kind_part d (Private i) section = 0
 
--- in the section, and in the payload in which it begins
+-- The section has this part, and so has the payload where it begins.
 record IsOfPart (table_id part : ℕ) (text : List ℕ) : Type 0 where
   whole : part_in table_id text ≡ part
   first : part_after table_id (take 184 (0 ∷ (text ++ replicate 184 0xFF))) ≡ part
@@ -202,7 +202,7 @@ parts_in_time d units n limit t k r promised kept few is parts le m parted =
     wide : table_limit d.description t ≤ limit
     wide = let eq : table_limit d.description t ≡ kind_limit d.description k = rw is refl in omega (arith, eq, le)
 
-    -- each place of the plan for a section of a part
+    -- In each slot where the plan begins a section of the part, such a section begins.
     begin_there : (j part s : ℕ) → j < section_count d.description t → kind_part d.description k j ≡ part → s < n →
         section_starts d.description d.schedule t j s ≡ true → chosen (begins_part table_id part) pid content s ≡ true
     begin_there j part s within e lt y =
@@ -231,5 +231,5 @@ parts_in_time d units n limit t k r promised kept few is parts le m parted =
     found = each_found section_found n (sendings section_packets texts (packets_on pid bytes))
 
     same : sections_of pid table_id (found_on pid bytes) ≡ sections_of pid table_id found
-    same = same_sections pid table_id (found_on pid bytes) found (sym (as_told pid bytes alone.no_null (omega (arith, count, few)))
+    same = same_sections pid table_id (found_on pid bytes) found (sym (as_reported pid bytes alone.no_null (omega (arith, count, few)))
         ∙ tables_come_back table n content (is_run d units n r kept few) alone (has_places d t r there) (has_room d t r) given)

@@ -1,4 +1,4 @@
--- The packets of a PID in finished bytes, one by one, and as a stream's buffers see them.
+-- The packets of a PID in finished bytes, one by one, and as a stream's buffers see them
 use Rattle.std.proofs.Common.{◌≡◌, ◌∙◌, sym, ℕ, ◌+◌, ◌≤◌, ◌<◌, ◌&&◌, ◌==◌, not, min, cond, Bool, true, false, List, [], ◌∷◌, ◌++◌, length, map, filter, Option}
 use Rattle.std.proofs.Common.{Some, None, Result, Ok, Err, if◌then◌else◌, refl, ap, subst, inl, inr, nat_eq, arith}
 use Rattle.std.specs.List.{enumerate_from, filter_map}
@@ -20,12 +20,12 @@ use Rattle.laws_view.proofs.SentUnits.{AllSent, entry_packet, number_after}
 use Rattle.laws_view.proofs.ClockAhead.{ClockIs, clock_step, entries_from, listed}
 use Rattle.laws_view.proofs.RunClocks.{IsRun, Run}
 
--- ---- the list of a PID
+-- The packets of a PID, as a list
 
 all_entries : ℕ → List (List ℕ) → List Entry
 all_entries index chunks = filter_map (λ p. entry_of p.0 p.1 (packet_at p.1)) (enumerate_from index chunks)
 
--- one of the PID that is not marked as wrong
+-- A packet of the PID is listed if it is not marked as wrong.
 one_listed : (pid index : ℕ) (bytes : List ℕ) (packet : PacketView) (xs ys : List Entry) (wrong : Bool) → xs ≡ ys →
     cond (packet.header.pid == pid && not wrong) (record { index = index; bytes = bytes; packet = packet } ∷ xs) xs ≡ listed pid index bytes
     (if wrong then None else Some packet) ys
@@ -60,12 +60,12 @@ pub pid_entries : (pid : ℕ) (bytes : List ℕ) → pid_list pid bytes ≡ entr
 unfolding all_entries
 pid_entries pid bytes = same_entries pid 0 (cut_packets bytes)
 
--- the packets of a PID by either list
+-- The packets of a PID are the same by either list.
 pub packets_entries : (pid index : ℕ) (chunks : List (List ℕ)) → map entry_packet (entries_from pid index chunks) ≡ packets_from pid index chunks
 unfolding all_entries
 packets_entries pid index chunks = ap (λ (es : List Entry). map entry_packet es) (sym (same_entries pid index chunks)) ∙ packets_same pid index chunks
 
--- in two parts
+-- A list in two parts
 listed_two : (pid index : ℕ) (bytes : List ℕ) (o : Option PacketView) (es fs : List Entry) → listed pid index bytes o (es ++ fs) ≡ listed pid index bytes o es
     ++ fs
 unfolding listed
@@ -91,7 +91,7 @@ entries_two pid index (x ∷ xs) ys =
     ap (λ (l : List Entry). listed pid index x o l) rest
     ∙ listed_two pid index x o (entries_from pid (index + 1) xs) (entries_from pid (index + length (x ∷ xs)) ys)
 
--- ---- as the buffers see them: a payload of 184 bytes at most
+-- The packets as the buffers see them, each with at most 184 bytes of payload
 
 cut_packet : Entry → Packet
 cut_packet e = record { slot = e.index; size = min (length (payload_of e.packet)) 184 }
@@ -133,7 +133,7 @@ pub seen_packets : (base0 n : ℕ) (before : Option AccessUnit) (us : List Acces
     map timed_packet (seen_among f b chunks) ≡ map entry_packet (entries_from f.pid b.index chunks)
 seen_packets base0 n before us f b chunks sent = seen_cut f b chunks ∙ sent_cut base0 n before (entries_from f.pid b.index chunks) us sent
 
--- ---- the clock references before them
+-- The clock references before the packets
 
 pub clock_all : (r : Run) (f : Followed) (b : Before) (chunks rest : List (List ℕ)) → IsRun r f.options → b.index + length chunks ≤ r.slots →
     ClockIs f.options r.rate r.base0 r.limit r.slots f.clock_pid b.index b.clock (entries_from f.clock_pid b.index (chunks ++ rest)) →

@@ -1,4 +1,4 @@
--- The clock references of a run on any PID: on that of a program each packet is one, and on any other none has one.
+-- The clock references of a run on any PID: on the PCR_PID of a program each packet is one, on any other PID no packet has one.
 use Rattle.std.proofs.Common.{◌≡◌, ◌∙◌, sym, ℕ, zero, suc, ◌+◌, ◌*◌, ◌≤◌, false, List, [], ◌∷◌, map, Option, Some, None, refl, subst, inl, inr, arith}
 use Rattle.std.proofs.lemmas.Bool.{cases_Bool}
 use Rattle.ts_packet.specs.Views.{AdaptationView, NoFlags, WithFlags}
@@ -26,7 +26,7 @@ use Rattle.es_events.specs.Clocks.{place_of, sample_in}
 use Rattle.laws_view.proofs.ClockAhead.{AreClocks, ClockIs, IsReference, NoClocks, entries_from, places}
 use Rattle.laws_view.proofs.PidEntries.{pid_entries}
 
--- no reference is read where none stands
+-- No clock reference is read from a packet without one.
 none_read : (place : Option ℕ) (a : Option AdaptationView) → has_pcr a ≡ false → sample_in place a ≡ None
 unfolding sample_in
 none_read place None none = refl
@@ -48,7 +48,7 @@ no_clocks options pid content s (suc n) none =
       | inr k ↦ rw k rest
     ]
 
--- ---- and on a program's
+-- The clock references on the PCR_PID of a program
 
 clocks_of : (rate base0 pid : ℕ) (es : List Entry) → map (λ e. e.packet) es ≡ map (λ e. pcr_view pid (pcr_at rate base0 (188 * e.index + 10))) es →
     AreClocks rate base0 pid es
@@ -59,7 +59,7 @@ clocks_of rate base0 pid (e ∷ es) h =
     let others : map (λ e. e.packet) es ≡ map (λ e. pcr_view pid (pcr_at rate base0 (188 * e.index + 10))) es = cc in
     (first, clocks_of rate base0 pid es others)
 
--- each packet on its PID is one, and they recur
+-- Each packet on the PCR_PID is a clock reference, and they recur.
 pub clocks_kept : (d : Scheduled) (p : DescribedProgram) (slots : ℕ) (bytes : List ℕ) → ProgramKept d p slots bytes →
     AreClocks d.description.rate d.description.base0 p.pcr_pid (entries_from p.pcr_pid 0 (cut_packets bytes))
     × Recur d.description.rate p.pcr_limit 0 (places (entries_from p.pcr_pid 0 (cut_packets bytes))) (188 * slots)
@@ -81,7 +81,7 @@ pub program_range : (d : Described) (i : ℕ) (p : DescribedProgram) → IsInRan
 program_range d i p ranges is =
     rw (get_or_from_slice_get d.programs i p p is) at (All-get_or IsProgram d.programs i p (slice_get_within d.programs i p is) ranges.programs)
 
--- on any PID
+-- The clock references on any PID
 pub run_clock : (d : Scheduled) (units : ℕ → List AccessUnit) (slots : ℕ) (options : ViewOptions) (pid : ℕ) → IsInRange d.description →
     Promised d.description d.schedule → UnitsKept d units →
     (limit : ℕ) ×

@@ -1,4 +1,4 @@
--- At a constant rate all packets arrive alike: what is so of a stream however it arrives, is what its last lines say at that rate.
+-- At a constant rate all packets arrive alike: a law of streams for any arrival says what the last lines of a stream say at that rate.
 use Rattle.std.proofs.Common.{◌≡◌, ◌∙◌, sym, ℕ, ◌+◌, ◌*◌, ◌^◌, ◌≤◌, ◌<◌, Bool, true, false, nat_le, List, [], ◌∷◌, ◌++◌, length, Option, Some, None, Result, Ok}
 use Rattle.std.proofs.Common.{Err, if◌then◌else◌, refl, ap, subst, inl, inr, nat_eq, arith}
 use Rattle.std.specs.Prelude.{slice_get}
@@ -40,7 +40,7 @@ use Rattle.laws_view.proofs.TimedBytes.{rate_row}
 use Rattle.laws_view.proofs.TimedOrder.{rate_order_law}
 use Rattle.laws_view.proofs.TimedWhole.{timed_stream_law}
 
--- ---- packets that arrive alike, in two parts
+-- Packets that arrive alike, in two parts
 
 pub record TwoParts (a : Arrival) (packets : List (List ℕ)) (xs : List Timed) (y : Timed) (ys : List Timed) : Type 0 where
   pub before : List (List ℕ)
@@ -73,7 +73,7 @@ two_parts a (b ∷ packets) (x ∷ xs) y ys e =
       ys_are = more.ys_are;
     }
 
--- ---- a stream is followed as before
+-- A stream is followed with the same options.
 
 pub same_options : (o : ViewOptions) (a : Arrival) → (a ≡ Unknown → ⊥) → o.arrival ≡ a → with_arrival o a ≡ o
 unfolding origin_after
@@ -88,7 +88,7 @@ same_options o (OnLines lines) known e =
 rate_options : (o : ViewOptions) (rate : ℕ) → o.arrival ≡ AtRate rate → with_arrival o (AtRate rate) ≡ o
 rate_options o rate e = same_options o (AtRate rate) (λ h. let no : ⊥ = cc in no) e
 
--- what is followed so
+-- The stream is followed with this arrival already.
 abbrev pub Same : Arrival → Followed → Type 0
 Same a f = with_arrival f.options a ≡ f.options
 
@@ -131,7 +131,7 @@ unfolding entered_by entered_each
 entered_is h a [] = refl
 entered_is h a (p ∷ ps) = ap (λ (l : List EnteredView). entered h a p ∷ l) (entered_is (after h a p) a ps)
 
--- ---- bytes arrive as by the rate
+-- Bytes arrive by the rate.
 
 at_rate : (rate drain index : ℕ) → index < most_packets → packet_times drain index (AtRate rate) ≡ bytes_from drain (188 * index) 188
 unfolding has_times
@@ -169,7 +169,7 @@ rate_times rate pid drain index (bytes ∷ packets) few =
     ap (λ (ts : List ℕ). (if on_pid pid index bytes then packet_times drain index (AtRate rate) else []) ++ ts) rest
     ∙ one_times rate pid drain index (packet_at bytes) (packets_from pid (index + 1) packets) (omega (arith, few))
 
--- ---- and so all of it
+-- A whole stream at a constant rate
 
 as_whole : (request : RequestView) (rate : ℕ) (packets : List (List ℕ)) (e : EntryState) (w : IsWholeBy request rate (arriving_so (AtRate rate) packets) e) →
     TwoParts (AtRate rate) packets w.begun.before w.begun.first w.begun.later → request.options.arrival ≡ AtRate rate → length packets ≤ most_packets →

@@ -1,4 +1,4 @@
--- At a constant rate all packets of a window arrive alike: what a line `held` says of packets that arrive in any way, it says of them at that rate.
+-- At a constant rate all packets of a window arrive alike: a law of windows for any arrival says what a line `held` says at that rate.
 use Rattle.std.proofs.Common.{◌≡◌, ◌∙◌, sym, ℕ, ◌+◌, ◌-◌, ◌*◌, ◌^◌, ◌≤◌, ◌<◌, nat_le, nat_lt, true, List, [], ◌∷◌, ◌++◌, length, refl, ap, subst, inl, inr}
 use Rattle.std.proofs.Common.{arith}
 use Rattle.std.specs.Prelude.{slice_get}
@@ -34,7 +34,7 @@ use Rattle.laws_view.proofs.RateStreams.{Same, entering_is, followed_is, same_op
 use Rattle.laws_view.proofs.TimedOrder.{rate_order_law}
 use Rattle.laws_view.proofs.WindowLows.{last_of_three}
 
--- before a line is known no byte enters
+-- Before a line is known no byte enters.
 no_payload : (h : Held) (ps : List Arriving) → HasPayload h (entering Unknown ps) → ⊥
 unfolding HasPayload has_times
 no_payload h [] has = has
@@ -57,7 +57,7 @@ begin_in o a window index (bytes ∷ packets) same all =
 knows_then : (s s' : ViewState) (e : EntryState) → Like s s' → known_then s' e ≡ known_then s e
 knows_then s s' e l = rw (l.packets, l.clocks) refl
 
--- all of them arrive so, with a moment: what is so of a view of them one by one
+-- All packets have this arrival, with times: the same window in a view of the packets one by one.
 record Alike (request : RequestView) (a : Arrival) (before packets : List (List ℕ)) (window place : ℕ) (e e' : EntryState) : Type 0 where
   window_is : OfWindow request (arriving_so a before) (arriving_so a packets) window place e e'
   xs_are : window_entering request (arriving_so a before) e (arriving_so a packets) ≡ entering a (window_packets request before e packets)
@@ -101,7 +101,7 @@ rate_known rate h = cc
 lines_known : (lines : ClockLines) → OnLines lines ≡ Unknown → ⊥
 lines_known lines h = cc
 
--- where a byte enters they do
+-- If a byte enters, the packets have times.
 rate_counted : (request : RequestView) (before packets : List (List ℕ)) (window place : ℕ) (e e' : EntryState) →
     OfRateWindow request before packets window place e e' →
     HasPayload e.held (entering request.options.arrival (window_packets request before e packets)) →
@@ -143,11 +143,11 @@ rate_without_law request rate before packets window place e e' w now is none =
     (λ has. none (subst (λ (xs : List Entering). HasPayload e.held xs) l.xs_are has)))
 
 pub rate_transport_law : RateTransportLaw
-rate_transport_law request rate before packets window place e e' w told is pos few some =
+rate_transport_law request rate before packets window place e e' w reported is pos few some =
     let a : Arrival = AtRate rate in
     let l = alike request a before packets window place e e' (rate_known rate) is w in
     let order : InOrder rate (arriving_so a before ++ arriving_so a packets) =
     subst (λ (ps : List Timed). InOrder rate ps) (so_both a before packets) (rate_order_law rate (before ++ packets)) in
     subst (λ (xs : List Entering). IsFullWith e.held xs e'.tally.window_transport) l.xs_are
-    (ordered_transport request rate (arriving_so a before) (arriving_so a packets) window place e e' l.window_is told pos order
+    (ordered_transport request rate (arriving_so a before) (arriving_so a packets) window place e e' l.window_is reported pos order
     (omega (arith, many_arrive a before, many_arrive a packets, few)) some)

@@ -1,4 +1,4 @@
--- What a report says of two clock references of a run, one after the other: at most 100 ms apart, and within a tick of the rate.
+-- What a report says of two consecutive clock references of a run: they are at most 100 ms apart, and within a tick of the rate.
 use Rattle.std.proofs.Common.{◌≡◌, sym, ℕ, ◌+◌, ◌-◌, ◌*◌, ◌/◌, ◌%◌, ◌≤◌, ◌<◌, ◌&&◌, not, nat_lt, nat_le, Bool, true, false, Option, Some}
 use Rattle.std.proofs.Common.{refl, subst, inl, inr, arith}
 use Rattle.std.proofs.Math.Nat.{div-mul-le_self, lt-mul-div-succ, lt_of_mul-lt-mul_right}
@@ -17,14 +17,14 @@ use Rattle.tr101290.proofs.WholeTicks.{whole_ticks_law}
 use Rattle.laws_view.specs.ViewedReferences.{IsWithin}
 use Rattle.laws_view.proofs.DueByClock.{reference_at}
 
--- ---- the ticks from one to the next
+-- The ticks from one clock reference to the next
 
--- values come round
+-- The ticks between two values are their difference, even if the values wrap around.
 elapsed_is : (a b c : ℕ) → a ≤ b → b - a < 2576980377600 →
     ((b + c) % 2576980377600 + 5153960755200 - (a + c) % 2576980377600) % 2576980377600 ≡ b - a
 elapsed_is a b c le near = omega (arith, le, near)
 
--- they are cut down to whole ticks
+-- If the clock runs on by at most 100 ms, its whole ticks rise by at most 2,700,000.
 ticks_more : (rate x d : ℕ) → 0 < rate → rate ≤ d → d ≤ 2700000 * rate → (x / rate < (x + d) / rate) × ((x + d) / rate ≤ x / rate + 2700000)
 ticks_more rate x d some least most =
     let low = div-mul-le_self x rate in
@@ -35,11 +35,11 @@ ticks_more rate x d some least most =
     let fewer : (x + d) / rate < x / rate + 2700001 = lt_of_mul-lt-mul_right rate (omega (arith, low', high, most)) in
     (more, omega (arith, fewer))
 
--- the clock at byte 10 of a packet, in ticks since the begin
+-- The clock at byte 10 of a packet, in ticks since the begin
 abbrev pub ticks_of_packet : ℕ → ℕ → ℕ
 ticks_of_packet rate i = 216000000 * (188 * i + 10) / rate
 
--- a reference is in a later packet, and comes within 100 ms
+-- The next clock reference is in a later packet, within 100 ms.
 pub record IsNext (rate m i : ℕ) : Type 0 where
   pub least : 100000 ≤ rate
   pub most : rate ≤ 100000000
@@ -55,7 +55,7 @@ ticks_between rate m i n =
     subst (λ (y : ℕ). (x / rate < y / rate) × (y / rate ≤ x / rate + 2700000)) same
     (ticks_more rate x d (omega (arith, n.least)) (omega (arith, n.most, n.later)) (omega (arith, n.soon, n.later)))
 
--- ---- the report on the second
+-- The report on the second clock reference
 
 all_true : (a b c : Bool) → a ≡ true → b ≡ true → c ≡ true → (not false && a && b && c) ≡ true
 all_true a b c x y z = rw (x, y, z) refl

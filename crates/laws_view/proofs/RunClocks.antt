@@ -1,4 +1,4 @@
--- By which clock reference a unit goes in a run that a multiplexer wrote: by the last one, which is never far.
+-- In a run that a multiplexer wrote, a unit goes by the last clock reference, which is never far.
 use Rattle.std.proofs.Common.{◌≡◌, ◌∙◌, sym, ℕ, suc, ◌+◌, ◌*◌, ◌≤◌, ◌<◌, Bool, true, false, List, [], ◌∷◌, ◌++◌, length, map, drop, Option, Some, None}
 use Rattle.std.proofs.Common.{if◌then◌else◌, refl, subst, inl, inr, nat_eq, arith}
 use Rattle.std.specs.Prelude.{slice_get}
@@ -21,7 +21,7 @@ use Rattle.laws_view.proofs.DueByClock.{run_goes_by}
 use Rattle.laws_view.proofs.ClockAhead.{ClockIs, IsReference, NoneBefore, clock_step, entries_from, listed, near_reference, none_before}
 use Rattle.laws_view.proofs.FollowedUnits.{Clocked}
 
--- a run: its rate, the clock's value at its begin, the greatest distance of clock references, and its slots
+-- A run: its rate, the clock's value at its begin, the greatest distance of clock references, and its slots.
 pub record Run : Type 0 where
   pub rate : ℕ
   pub base0 : ℕ
@@ -34,7 +34,7 @@ pub record IsRun (r : Run) (options : ViewOptions) : Type 0 where
   pub limit : r.limit ≤ 100
   pub slots : r.slots ≤ most_packets
 
--- ---- a packet of a run comes no later than its unit is due, and no more than a second before
+-- A packet of a run comes by the time when its unit is due, and no more than a second before.
 
 pub record IsTimed (rate : ℕ) (e : Entry) (u : AccessUnit) : Type 0 where
   pub on_time : e.index * slot_units_at_1bps ≤ u.dts * rate
@@ -68,7 +68,7 @@ later_timed rate (e ∷ es) fs [] timed = none fs
     none (f ∷ fs) = unfold Timed in tt
 later_timed rate (e ∷ es) fs (u ∷ us) timed = later_timed rate es fs us timed.1
 
--- ---- so it goes by the reference that is the last one then
+-- The unit goes by the last clock reference.
 
 near_now : (r : Run) (options : ViewOptions) (pid i : ℕ) (now : Option PcrSample) (es : List Entry) (e : Entry) (u : AccessUnit) → IsRun r options →
     i < r.slots → NoneBefore (i + 1) es →
@@ -76,15 +76,15 @@ near_now : (r : Run) (options : ViewOptions) (pid i : ℕ) (now : Option PcrSamp
     GoesBy r.rate r.base0 k u
 unfolding ClockIs IsReference
 near_now r options pid i None es e u run few none place clock timed k is = absurd (let no : ⊥ = cc in no)
-near_now r options pid i (Some c) es e u run few none place (inl told) timed k is =
-    let m : ℕ = told.1.0 in
-    let near = near_reference r.rate r.limit r.slots m (i + 1) es none (omega (arith, few)) told.1.1.1.1 in
+near_now r options pid i (Some c) es e u run few none place (inl reported) timed k is =
+    let m : ℕ = reported.1.0 in
+    let near = near_reference r.rate r.limit r.slots m (i + 1) es none (omega (arith, few)) reported.1.1.1.1 in
     let limit : r.limit * r.rate ≤ 100 * r.rate = mul-le-mul_right r.rate run.limit in
     let on_time : i * 135360000 ≤ u.dts * r.rate = rw place at timed.on_time in
     let soon : u.dts * r.rate ≤ i * 135360000 + 90000 * r.rate = rw place at timed.soon in
-    let goes = run_goes_by r.rate r.base0 m i u run.least (omega (arith, told.1.1.1.0)) (omega (arith, few, run.slots)) (omega (arith, near, limit)) on_time
+    let goes = run_goes_by r.rate r.base0 m i u run.least (omega (arith, reported.1.1.1.0)) (omega (arith, few, run.slots)) (omega (arith, near, limit)) on_time
     soon in
-    subst (λ (x : PcrSample). GoesBy r.rate r.base0 x u) (sym told.1.1.0 ∙ some_is c k is) goes
+    subst (λ (x : PcrSample). GoesBy r.rate r.base0 x u) (sym reported.1.1.0 ∙ some_is c k is) goes
 near_now r options pid i (Some c) es e u run few none place (inr quiet) timed k is = absurd (let other : Some c ≡ None = quiet.0 in (let no : ⊥ = cc in no))
 
 own_clocked : (r : Run) (options : ViewOptions) (pid i : ℕ) (now : Option PcrSample) (es : List Entry) (e : Entry) (later : List Entry) (us : List AccessUnit)
@@ -116,8 +116,8 @@ one_clocked r f b bytes (Some packet) later es us clocks run few none clock time
         ClockIs f.options r.rate r.base0 r.limit r.slots f.clock_pid (b.index + 1) (clock_with f.options f.clock_pid b.index packet b.clock) es →
         Clocked r.rate r.base0 (if nat_eq f.pid packet.header.pid then e ∷ later else later) us
         ((if nat_eq f.pid packet.header.pid then now ∷ [] else []) ++ clocks)
-    by true own t told = rw own (own_clocked r f.options f.clock_pid b.index now es e later us clocks run few none refl told (rw own at t) rest)
-    by false other t told = rw other (rest us (rw other at t))
+    by true own t reported = rw own (own_clocked r f.options f.clock_pid b.index now es e later us clocks run few none refl reported (rw own at t) rest)
+    by false other t reported = rw other (rest us (rw other at t))
 
 pub clocked : (r : Run) (f : Followed) (b : Before) (chunks : List (List ℕ)) (us : List AccessUnit) → IsRun r f.options → b.index + length chunks ≤ r.slots →
     Timed r.rate (entries_from f.pid b.index chunks) us →

@@ -1,4 +1,4 @@
--- The units of a run that a multiplexer wrote, in the packets of their PID.
+-- The units of a run that a multiplexer wrote, in the packets of their PID
 use Rattle.std.proofs.Common.{◌≡◌, ◌∙◌, sym, ℕ, zero, suc, ◌+◌, ◌-◌, ◌*◌, ◌%◌, ◌≤◌, cond, Bool, true, false, IsTrue, if◌then◌else◌, nat_eq, List, [], ◌∷◌, ◌++◌}
 use Rattle.std.proofs.Common.{length, map, take, drop, replicate, Option, Some, None, refl, ap, ap₂, subst, arith, All}
 use Rattle.std.specs.Prelude.{count_by, is_some, slice_get, unwrap_or}
@@ -48,7 +48,7 @@ use Rattle.laws_view.proofs.RunClocks.{Timed, all_timed}
 use Rattle.laws_view.proofs.PidEntries.{pid_entries}
 use Rattle.laws_view.proofs.CarriedMain.{carried_sizes}
 
--- ---- the PES packets of a run's units, as it cuts them
+-- The PES packets of a run's units, as the run cuts them
 
 abbrev pub unit_cut : OwnedStream → AccessUnit → CutUnit
 unit_cut l u = record { unit = u; payloads = unit_pieces (has_access u) (pes_bytes l u) }
@@ -56,7 +56,7 @@ unit_cut l u = record { unit = u; payloads = unit_pieces (has_access u) (pes_byt
 abbrev pub cuts_of : OwnedStream → List AccessUnit → List CutUnit
 cuts_of l us = map (unit_cut l) us
 
--- no payload of a unit is too long, and none empty
+-- No payload of a unit is too long, and none is empty.
 unit_most : (access : Bool) (pes : List ℕ) → All (λ b. length b ≤ 184) (unit_pieces access pes)
 unfolding unit_pieces
 unit_most true pes =
@@ -102,7 +102,7 @@ same_senders l (u ∷ us) =
     ap (λ (n : ℕ). replicate n u ++ all_senders l us) (sym (unit_pieces_join (has_access u) (pes_bytes l u)).count)
     ∙ ap (λ (vs : List AccessUnit). replicate (length (unit_pieces (has_access u) (pes_bytes l u))) u ++ vs) (same_senders l us)
 
--- a payload, whether a decoder may begin with it or not
+-- A piece as a payload, whether or not a decoder may begin with it
 abbrev as_begun : Piece → BegunPayload
 as_begun p = record { start = is_start p.start; bytes = p.bytes }
 
@@ -130,7 +130,7 @@ entries_begun : (es : List Entry) → map payload_in es ≡ map as_begun (map (�
 entries_begun [] = refl
 entries_begun (e ∷ es) = ap₂ (λ (p : BegunPayload) (ps : List BegunPayload). p ∷ ps) (entry_begun e) (entries_begun es)
 
--- none is empty
+-- The piece is not empty.
 abbrev Filled : Piece → Type 0
 Filled p = 1 ≤ length p.bytes
 
@@ -149,7 +149,7 @@ filled_pieces l (u ∷ us) =
     All-append Filled (pes_pieces (has_access u) (pes_bytes l u)) (all_pieces l us)
     (filled_marked (start_by true (has_access u)) chunks (unit_some (has_access u) (pes_bytes l u) some)) (filled_pieces l us)
 
--- ---- what a run has on a stream's PID
+-- The packets of a run on a stream's PID
 
 abbrev HasBytes : Entry → Type 0
 HasBytes e = 1 ≤ length (payload_of e.packet)
@@ -175,7 +175,7 @@ counted (f ∷ es) (suc j) e all found =
     let is : is_some f.packet.payload ≡ true = some_payload f.packet.payload (All-head HasBytes f es all) in
     rw (sum_by-cons (λ p. cond (has_payload p) 1 0) f (take j es), is) (omega (arith, rest))
 
--- it carries the stream's units
+-- The PID carries the units of the stream.
 pub run_carries : (d : Scheduled) (s : DescribedStream) (k : ℕ) (us : List AccessUnit) (slots : ℕ) (bytes : List ℕ) →
     ParametersInRange (owned_stream d k s).parameters →
     Kept (owned_stream d k s) us → StreamKept d k s us slots bytes → CarriesUnits s.stream_id d.description.base0 s.pid (cuts_of (owned_stream d k s) us) bytes
@@ -193,7 +193,7 @@ run_carries d s k us slots bytes range units kept =
           kept.counters j e found ∙ ap (λ (m : ℕ). m % 16) (sym none);
     }
 
--- its packets have 1 to 184 bytes
+-- Each packet has 1 to 184 bytes of payload.
 sized_entries : (n base0 m : ℕ) (before : Option AccessUnit) (es : List Entry) (us : List AccessUnit) → AllSent base0 m before es us → All HasBytes es →
     All (λ e. e.index ≤ n) es →
     All (IsSized n) (map entry_packet es)
@@ -205,7 +205,7 @@ sized_entries n base0 m before (e ∷ es) (u ∷ us) sent filled low =
     (record { some = All-head HasBytes e es filled; most = sent.0.most; slot = All-head (λ e. e.index ≤ n) e es low })
     (sized_entries n base0 (number_after m e) (Some u) es us sent.1 (All-tail HasBytes e es filled) (All-tail (λ e. e.index ≤ n) e es low))
 
--- in slots of the run
+-- Each packet is in a slot of the run.
 low_listed : (pid index n : ℕ) (bytes : List ℕ) (o : Option PacketView) (es : List Entry) → index ≤ n → All (λ e. e.index ≤ n) es →
     All (λ e. e.index ≤ n) (listed pid index bytes o es)
 unfolding listed
@@ -226,7 +226,7 @@ low_entries pid index n (bytes ∷ chunks) few =
     low_listed pid index n bytes (sound_packet (packet_at bytes)) (entries_from pid (index + 1) chunks) (omega (arith, few))
     (low_entries pid (index + 1) n chunks (omega (arith, few)))
 
--- all of them, with what begins with each and when its unit is due
+-- All packets of a stream, with the unit that begins with each and the time when its unit is due
 pub record StreamSent (d : Scheduled) (s : DescribedStream) (k : ℕ) (us : List AccessUnit) (chunks : List (List ℕ)) : Type 0 where
   pub cut : All (IsCut s.stream_id d.description.base0) (cuts_of (owned_stream d k s) us)
   pub sizes : packet_sizes (map entry_packet (entries_from s.pid 0 chunks))

@@ -1,4 +1,4 @@
--- The packets of units, unit by unit.
+-- The packets of units, unit by unit
 use Rattle.std.proofs.Common.{◌≡◌, ◌∙◌, sym, ℕ, zero, suc, ◌+◌, ◌*◌, ◌≤◌, Bool, true, false, List, [], ◌∷◌, ◌++◌, length, map, take, drop, replicate, refl, ap}
 use Rattle.std.proofs.Common.{subst, arith, All}
 use Rattle.std.specs.List.{concat}
@@ -16,7 +16,7 @@ use Rattle.tstd.specs.Carried.{timed_pes_packets}
 use Rattle.laws_view.specs.CarriedStreams.{BegunPayload, CutUnit, IsCut, begun, cut_pieces, cut_senders, cut_units}
 use Rattle.laws_view.proofs.KeptBytes.{kept_each, total}
 
--- the sizes of payloads
+-- The sizes of payloads
 abbrev pub sizes_of : List BegunPayload → List ℕ
 sizes_of ps = map (λ (p : BegunPayload). length p.bytes) ps
 
@@ -37,7 +37,7 @@ many_sizes : (bs : List (List ℕ)) → length (map (λ (b : List ℕ). length b
 many_sizes [] = refl
 many_sizes (b ∷ bs) = ap (λ (n : ℕ). suc n) (many_sizes bs)
 
--- of the payloads of a unit
+-- The sizes of the payloads of a unit
 abbrev payload_sizes : List (List ℕ) → List ℕ
 payload_sizes bs = map (λ (b : List ℕ). length b) bs
 
@@ -58,7 +58,7 @@ drop_two zero m xs = let same : 0 + m ≡ m = omega arith in ap (λ (k : ℕ). d
 drop_two (suc n) m [] = drop_none (suc n + m) ∙ sym (drop_none m)
 drop_two (suc n) m (x ∷ xs) = let same : suc n + m ≡ suc (n + m) = omega arith in ap (λ (k : ℕ). drop k (x ∷ xs)) same ∙ drop_two n m xs
 
--- the packets of the first unit, as far as they come, and those after them
+-- The packets after the first unit have the sizes of the later payloads.
 later_sizes : (qs : List ℕ) (ps : List Packet) (rest : List ℕ) → packet_sizes ps ≡ take (length ps) (qs ++ rest) →
     packet_sizes (drop (length qs) ps) ≡ take (length (drop (length qs) ps)) rest
 later_sizes [] ps rest e = e
@@ -79,7 +79,7 @@ unfolding kept_each
 none_each rate r x [] left = refl
 none_each rate r x (u ∷ us) left = refl
 
--- where just their bytes leave
+-- The bytes of the first unit in the main buffer, and the bytes of the later units
 pub record FirstKept (rate r x : ℕ) (u : AccessUnit) (qs : List ℕ) (us : List AccessUnit) (ps : List Packet) (left : List ℕ) : Type 0 where
   pub is : kept_each rate r x (replicate (length qs) u ++ us) ps left
       ≡ kept rate r x u.dts (take (total qs) left) + kept_each rate r x us (drop (length qs) ps) (drop (total qs) left)
@@ -109,7 +109,7 @@ first_kept rate r x u (q ∷ qs) us (p ∷ ps) rest left e many =
     ap (λ (l : List ℕ). kept_each rate r x us (drop (length qs) ps) l) (drop_two q (total qs) left) in
     record { is = rw size (omega (arith, k.is, two, last)); many = ap (λ (l : List ℕ). length l) (drop_two q (total qs) left) ∙ k.many }
 
--- all of them are in the main buffer as in the model's
+-- The main buffer holds all bytes as the model's does.
 pub kept_units : (rate r x id base0 : ℕ) (cuts : List CutUnit) (ps : List Packet) (left : List ℕ) → All (IsCut id base0) cuts →
     packet_sizes ps ≡ take (length ps) (sizes_of (cut_pieces cuts)) → length left ≡ total (packet_sizes ps) →
     kept_each rate r x (cut_senders cuts) ps left ≡ mb_fullness rate r x (timed_pes_packets id base0 (cut_units cuts)) left
@@ -130,7 +130,7 @@ kept_units rate r x id base0 (c ∷ cuts) ps left cut e many =
     let more = rw (many_sizes c.payloads, whole) at rest in
     omega (arith, first, more)
 
--- the bytes of later packets are among those of all of them
+-- The bytes of later packets are among the bytes of all packets.
 pub kept_later : (rate r x : ℕ) (us : List AccessUnit) (ps qs : List Packet) (left left' : List ℕ) → length left ≡ total (packet_sizes ps) →
     kept_each rate r x (drop (length ps) us) qs left' ≤ kept_each rate r x us (ps ++ qs) (left ++ left')
 unfolding kept_each total
@@ -152,9 +152,9 @@ unfolding total
 total_two [] qs = omega arith
 total_two (p ∷ ps) qs = omega (arith, total_two ps qs)
 
--- ---- and they leave the transport buffer in time
+-- The bytes of packets leave the transport buffer in time.
 
--- the bytes of packets, of units, leave by the decoding times of these that are due in n slots
+-- If a unit is due in n slots, the bytes of its packets leave by its decoding time.
 unfoldable pub TimelyEach : ℕ → ℕ → ℕ → List AccessUnit → List Packet → List ℕ → Type 0
 TimelyEach rate r n us [] left = Unit {0}
 TimelyEach rate r n [] (p ∷ ps) left = Unit {0}

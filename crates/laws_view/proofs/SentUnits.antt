@@ -1,4 +1,4 @@
--- The packets of a PID that carry units: what begins with each, and of which unit it is.
+-- The packets of a PID that carries units: what begins with each packet, and its unit
 use Rattle.std.proofs.Common.{◌≡◌, ◌∙◌, ◌⊎◌, sym, ℕ, suc, ◌+◌, ◌%◌, ◌≤◌, ◌==◌, if◌then◌else◌, cond, Bool, true, false, IsTrue, List, [], ◌∷◌, ◌++◌, length, map}
 use Rattle.std.proofs.Common.{take, drop, replicate, Option, Some, None, refl, ap, inl, inr, arith, All, eqb-true}
 use Rattle.std.specs.Prelude.{count_by, is_some, slice_get, unwrap_or}
@@ -22,13 +22,13 @@ use Rattle.es_events.specs.declared.clocks.Beginning.TheVariants.{Nothing, Stamp
 use Rattle.es_events.specs.Clocks.{beginning_of, by_header, by_payload, by_stamps}
 use Rattle.laws_view.specs.CarriedStreams.{BegunPayload, CarriesUnits, CutUnit, IsCut, begun, cut_pieces, cut_senders, payload_in}
 
--- the stamp of a unit on the wire
+-- The stamp of a unit on the wire
 abbrev pub wire_dts : ℕ → AccessUnit → ℕ
 wire_dts base0 u = on_wire (u.dts + base0)
 
--- ---- payloads
+-- The payloads of a unit
 
--- a payload of a unit, which begins with it, or goes on from the one before
+-- A payload begins its unit, or continues the unit before.
 pub record HasPiece (base0 : ℕ) (before : Option AccessUnit) (p : BegunPayload) (u : AccessUnit) : Type 0 where
   pub most : length p.bytes ≤ 184
   pub begins : ((p.start ≡ true) × (1 ≤ length p.bytes) × (by_header (header_at p.bytes) ≡ Stamped (wire_dts base0 u))) ⊎
@@ -48,7 +48,7 @@ goes_on base0 u (b ∷ bs) ps us most rest = (
   goes_on base0 u bs ps us (All-tail (λ b. length b ≤ 184) b bs most) rest,
 )
 
--- the header of a unit is read with its stamp
+-- The header of a unit is read with its stamp.
 reads_dts : (id size : ℕ) (marks : Marks) (pts dts : ℕ) → by_stamps (written_header id size marks pts dts).stamps ≡ Stamped (on_wire dts)
 unfolding written_header by_stamps
 reads_dts id size marks pts dts = elim (cases_Bool (on_wire pts == on_wire dts)) [
@@ -71,7 +71,7 @@ some_by false false extension = omega arith
 pub some_header : (base0 : ℕ) (u : AccessUnit) → 1 ≤ unit_header_size base0 u
 some_header base0 u = some_by u.marks.long (on_wire (u.pts + base0) == on_wire (u.dts + base0)) (extension_size u.marks)
 
--- those of one unit
+-- The payloads of one unit
 one_cut : (id base0 : ℕ) (u : AccessUnit) (before : Option AccessUnit) (bs : List (List ℕ)) (ps : List BegunPayload) (us : List AccessUnit) →
     IsTrue (fits_packet id (length u.bytes)) →
     concat bs ≡ pes_packet_bytes id base0 u → unit_header_size base0 u ≤ length (unwrap_or (slice_get bs 0) []) → All (λ b. length b ≤ 184) bs →
@@ -97,16 +97,16 @@ all_cut id base0 before (c ∷ cuts) all =
     one_cut id base0 c.unit before c.payloads (cut_pieces cuts) (cut_senders cuts) is.fits is.joined is.header is.most
     (all_cut id base0 (Some c.unit) cuts (All-tail (IsCut id base0) c cuts all))
 
--- ---- the packets that carry them
+-- The packets that carry the payloads
 
 abbrev pub has_payload : Entry → Bool
 has_payload e = is_some e.packet.payload
 
--- the number of the next packet with a payload
+-- The number of the next packet with a payload
 abbrev pub number_after : ℕ → Entry → ℕ
 number_after n e = if is_some e.packet.payload then suc n else n
 
--- a packet is of this unit; n is the number of the next one with a payload
+-- The packet belongs to this unit; n is the number of the next packet with a payload.
 pub record IsSent (base0 n : ℕ) (before : Option AccessUnit) (e : Entry) (u : AccessUnit) : Type 0 where
   pub most : length (payload_of e.packet) ≤ 184
   pub counter : is_some e.packet.payload ≡ true → e.packet.header.continuity_counter ≡ n % 16
@@ -132,7 +132,7 @@ begins_by base0 start None before u (inl begins) = absurd (omega (arith, begins.
 begins_by base0 start (Some b) before u (inl begins) = inl (begins.0, rw begins.0 begins.2)
 begins_by base0 start o before u (inr goes) = inr (rw goes.0 (nothing_begins o), goes.1)
 
--- an entry as timing sees it
+-- An entry as timing sees it
 abbrev pub entry_packet : Entry → Packet
 entry_packet e = record { slot = e.index; size = length (payload_of e.packet) }
 
@@ -148,7 +148,7 @@ one_sent base0 n before e q u piece is counter =
       begins = begins_by base0 e.packet.header.payload_unit_start_indicator e.packet.payload before u (rw (bytes, start) piece.begins);
     }
 
--- each has the counter after that of the last one with a payload
+-- Each packet has the counter after the counter of the last packet with a payload.
 abbrev CountOn : ℕ → List Entry → Type 0
 CountOn n es = (j : ℕ) (e : Entry) → slice_get es j ≡ Some e → is_some e.packet.payload ≡ true →
     e.packet.header.continuity_counter ≡ (n + count_by has_payload (take j es)) % 16
@@ -173,7 +173,7 @@ all_sent base0 n before (e ∷ es) (q ∷ qs) (u ∷ us) cut same counters =
     let one = one_sent base0 n before e q u cut.0 is (λ some. counters 0 e refl some ∙ ap (λ (m : ℕ). m % 16) none) in
     (one, all_sent base0 (number_after n e) (Some u) es qs us cut.1 others (count_next n e es counters))
 
--- so the packets of a PID that carries units are
+-- Each packet of a PID that carries units belongs to its unit, in turn.
 pub carried_sent : (id base0 pid : ℕ) (cuts : List CutUnit) (bytes : List ℕ) (c : CarriesUnits id base0 pid cuts bytes) →
     AllSent base0 c.first None (pid_list pid bytes) (cut_senders cuts)
 carried_sent id base0 pid cuts bytes c =
@@ -192,7 +192,7 @@ sizes_below base0 n before (e ∷ es) (u ∷ us) sent =
     All-cons (λ p. p.size ≤ 188) (entry_packet e) (map entry_packet es) (omega (arith, sent.0.most))
     (sizes_below base0 (number_after n e) (Some u) es us sent.1)
 
--- the packets after these
+-- The packets `fs`, after the packets `es`
 pub record LaterSent (base0 : ℕ) (es fs : List Entry) (us : List AccessUnit) : Type 0 where
   pub last : Option AccessUnit
   pub number : ℕ

@@ -12,7 +12,7 @@ use Rattle.ts_packet.specs.Reading.{adaptation_at, body_at, field_at, header_of,
 use Rattle.ts_packet.specs.Views.{AdaptationView, PacketView}
 use Rattle.laws_view.specs.StreamPackets.{sound_packet}
 
--- what follows an adaptation field
+-- Reading an adaptation field leaves no more bytes than before.
 field_shorter : (most : ℕ) (bytes : List ℕ) (field : AdaptationView × List ℕ) → field_at most bytes ≡ Ok field → length field.1 ≤ length bytes
 unfolding field_at
 field_shorter most [] field e = absurd (let no : ⊥ = cc in no)

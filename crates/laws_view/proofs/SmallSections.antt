@@ -1,4 +1,4 @@
--- Of bytes, what is found has table_ids of a byte, and parts of two.
+-- If a stream consists of bytes, each table_id that is found is one byte, and each part two bytes.
 use Rattle.std.proofs.Common.{◌≡◌, ℕ, zero, suc, ◌+◌, ◌-◌, ◌*◌, ◌/◌, ◌<◌, ◌==◌, Bool, true, false, cond, List, [], ◌∷◌, ◌++◌, length, map, take, drop, Option}
 use Rattle.std.proofs.Common.{Some, None}
 use Rattle.std.proofs.Common.{Result, Ok, Err, refl, sym, subst, ◌∙◌, arith, All}
@@ -53,9 +53,9 @@ byte_at [] i h = omega arith
 byte_at (x ∷ xs) zero h = All-head Byte x xs h
 byte_at (x ∷ xs) (suc i) h = byte_at xs i (All-tail Byte x xs h)
 
--- 1. What is found of a section
+-- 1. The findings of a section
 
--- whatever PID it is on
+-- The part is small on any PID.
 abbrev IsCalm : WhatView → Type 0
 IsCalm what = (pid table_id : ℕ) → IsSmallPart (part_of pid table_id what)
 
@@ -90,7 +90,7 @@ cut_calm : (bytes : List ℕ) → IsCalm (IsTruncated bytes)
 unfolding part_of IsSmallPart
 cut_calm bytes pid table_id = tt
 
--- 2. Findings of a PID
+-- 2. The findings of a PID
 
 abbrev IsSmallFound : Found → Type 0
 IsSmallFound f = (pid : ℕ) → IsSmall (section_by (Some pid) f.begun f.what)
@@ -103,7 +103,7 @@ both : (xs ys : List Found) → AllFound xs → AllFound ys → AllFound (xs ++ 
 both [] ys h k = k
 both (x ∷ xs) ys h k = (h.0, both xs ys h.1 k)
 
--- what begins is a PES packet, or has a calm section
+-- A unit that begins is a PES packet, or has a calm section.
 by_kind : (pid packet : ℕ) (kind : UnitKind) (access : Bool) (bytes : List ℕ) (what : WhatView) → Bytes bytes → (kind ≡ unit_kinds.Section → IsCalm what) →
     IsSmall (section_by (Some pid) (Some (packet, begun_kind kind access bytes)) what)
 unfolding section_by begin_of begun_kind IsSmall
@@ -121,7 +121,7 @@ stray_small : (n : ℕ) (t : Bool) → AllFound (cond t [] ((record { begun = No
 stray_small n true = tt
 stray_small n false = (plain_small (IsStray n), tt)
 
--- the bytes past the end of a unit
+-- The bytes past the end of a unit
 past_small : (unit : OpenUnit) (what : WhatView) → AllFound (stray_bytes (past_end (length unit.bytes) what))
 past_small unit what = let n = past_end (length unit.bytes) what in stray_small n (n == 0)
 
@@ -159,7 +159,7 @@ within_small unit unit_kinds.Pes e h = by (decided unit_kinds.Pes unit.bytes)
       past_small unit what,
     )
 
--- a unit that may be open
+-- The open unit, if any, consists of bytes.
 unfoldable IsByteUnit : Option OpenUnit → Type 0
 IsByteUnit None = Unit {0}
 IsByteUnit (Some unit) = Bytes unit.bytes
@@ -267,7 +267,7 @@ unfolding unbroken IsByteUnit
 unbroken_bytes None o h = h
 unbroken_bytes (Some b) o h = tt
 
--- 4. What is found at a packet
+-- 4. The findings at a packet
 
 role_small : (packet : ℕ) (r : Role) (o : Option OpenUnit) → IsByteRole r → IsByteUnit o → AllFound (by_role packet r o)
 unfolding by_role found_appended IsByteRole IsByteUnit
@@ -395,10 +395,10 @@ step_bytes s entry h k =
 by_small : (s : PidState) (entry : Entry) → IsByteUnit s.open_unit → IsByteList entry.packet.payload → AllFound (found_by s entry)
 by_small s entry h k = at_small (mark s.last entry) s.open_unit (role_bytes s.last entry k) h
 
-told_small : (q index : ℕ) (found : List Found) → AllFound found → AllSmall (map (with_pid q index) found)
+reported_small : (q index : ℕ) (found : List Found) → AllFound found → AllSmall (map (with_pid q index) found)
 unfolding AllSmall
-told_small q index [] h = tt
-told_small q index (f ∷ found) h = (h.0 q, told_small q index found h.1)
+reported_small q index [] h = tt
+reported_small q index (f ∷ found) h = (h.0 q, reported_small q index found h.1)
 
 packet_small : (index : ℕ) (bytes : List ℕ) (states : States) (r : Result PacketView PacketError) → AreByteStates states → IsBytePacket r →
     AllSmall (findings_by index bytes states r)
@@ -413,7 +413,8 @@ packet_small index bytes states (Ok packet) h k = by packet.header.transport_err
         (map (with_pid packet.header.pid index) (found_by (state_of packet.header.pid states) (entry_of index bytes packet)))))
     by true z = (tt, tt)
     by false true = tt
-    by false false = told_small packet.header.pid index _ (by_small (state_of packet.header.pid states) (entry_of index bytes packet) (h packet.header.pid) k)
+    by false false =
+        reported_small packet.header.pid index _ (by_small (state_of packet.header.pid states) (entry_of index bytes packet) (h packet.header.pid) k)
 
 states_bytes : (index : ℕ) (bytes : List ℕ) (states : States) (r : Result PacketView PacketError) → AreByteStates states → IsBytePacket r →
     AreByteStates (states_by index bytes states r)
@@ -443,7 +444,7 @@ AllBytes : List (List ℕ) → Type 0
 AllBytes [] = Unit {0}
 AllBytes (bytes ∷ packets) = Bytes bytes × AllBytes packets
 
--- what is found in packets, one after another
+-- The findings in packets, one after another
 unfoldable pub AllSmallIn : StreamState → List (List ℕ) → Type 0
 AllSmallIn s [] = Unit {0}
 AllSmallIn s (bytes ∷ packets) = AllSmall (found_in s bytes) × AllSmallIn (taken s bytes) packets

@@ -1,4 +1,4 @@
--- A packet more of a stream: what is known, and what enters the buffers of each stream that has begun.
+-- One more packet of a stream: what a view knows then, and what enters the buffers of each stream that has begun
 use Rattle.std.proofs.Common.{◌≡◌, ◌∙◌, sym, ℕ, ◌+◌, ◌-◌, ◌^◌, ◌<◌, ◌⊎◌, Bool, true, false, List, [], ◌∷◌, length, Option, Some, None, Result, Ok, Err}
 use Rattle.std.proofs.Common.{if◌then◌else◌, refl, ap, subst, inl, inr, nat_eq, arith}
 use Rattle.std.specs.Prelude.{slice_get, ◌==◌}
@@ -29,13 +29,13 @@ use Rattle.laws_view.proofs.Lists.{lookup_other, lookup_same}
 use Rattle.laws_view.proofs.Units.{late_more, late_with, units_more, units_with}
 use Rattle.laws_view.proofs.Entries.{Agree, BeginsWith, begun_agrees, begun_keeps, begun_or_before, entry_with, taken_agrees, taken_before, taken_entry}
 
--- ---- a packet that counts, or none
+-- A packet that counts, or none
 
 unfoldable pub after_sound : ViewState → Option PacketView → ViewState
 after_sound s None = without s
 after_sound s (Some packet) = with_packet s packet
 
--- the continuity_counter of a packet changes what is known of counters alone
+-- The continuity_counter of a packet changes only the counters and the errors.
 abbrev pub counter_seen : SeenState → List ℕ → Result PacketView PacketError → SeenState
 counter_seen s bytes r = record s { counters = (with_counter_read s bytes r).counters; errors = (with_counter_read s bytes r).errors }
 
@@ -44,7 +44,7 @@ unfolding with_counter_read
 counter_is s bytes (Err error) = refl
 counter_is s bytes (Ok packet) = elim (cases_Bool packet.header.transport_error_indicator) [ inl y ↦ rw y refl | inr n ↦ rw n refl ]
 
--- what the sections of a packet, its counter, and what it names, change is none of the streams that have begun
+-- The sections, the counter and the names of a packet change no stream that has begun.
 abbrev pub finished : ViewState → List ℕ → ViewState
 finished s bytes = with_named (record { seen = counter_seen (with_tables s bytes).seen bytes (packet_at bytes); table = s.table }) bytes
 
@@ -65,7 +65,7 @@ pub packet_is : (s : ViewState) (bytes : List ℕ) → after_packet s bytes ≡ 
 packet_is s bytes =
     finished_is (after_read s (packet_at bytes)) bytes ∙ ap (λ (x : ViewState). finished x bytes) (read_is s (packet_at bytes))
 
--- ---- what is known of a stream
+-- What a view knows of a stream
 
 abbrev pub followed : ViewState → EntryState → Followed
 followed s e = record { options = s.seen.options; pid = e.pid; clock_pid = e.clock_pid; rx = e.held.rx }
@@ -91,7 +91,7 @@ pub clock_known : (options : ViewOptions) (pid index : ℕ) (packet : PacketView
     clock_of (clocks_after clocks options.arrival index packet) pid ≡ clock_with options pid index packet (clock_of clocks pid)
 clock_known options pid index packet clocks = clock_more options pid index packet clocks (reference_in options index packet)
 
--- ---- what is counted
+-- The counts of a stream
 
 in_window_excesses : (t : Tally) (window : ℕ) → (in_window t window).excesses ≡ t.excesses
 in_window_excesses t window = by (t.window == window)
@@ -142,12 +142,12 @@ tally_units t window unread v =
     let old = in_window_units t window in
     (both.0 ∙ ap (λ (n : ℕ). units_with n v.unit) old.0, both.1 ∙ ap (λ (n : ℕ). late_with n v.unit) old.1)
 
--- the number of excesses that end with these packets, after so many
+-- The number of ended excesses after these packets, if there were n before
 unfoldable pub excesses_more : ℕ → List EnteredView → ℕ
 excesses_more n [] = n
 excesses_more n (v ∷ vs) = excesses_more (more n (length v.transport)) vs
 
--- ---- an entry with a packet more
+-- An entry with one more packet
 
 pub record Steps (s : ViewState) (o : Option PacketView) (s' : ViewState) (e e' : EntryState) : Type 0 where
   pub same_stream : followed s' e' ≡ followed s e
@@ -158,12 +158,12 @@ pub record Steps (s : ViewState) (o : Option PacketView) (s' : ViewState) (e e' 
   pub units : e'.tally.units ≡ units_more e.tally.units (entered_each e.held s.seen.options.arrival (seen_in (followed s e) (known s e) o))
   pub late : e'.tally.late ≡ late_more e.tally.late (entered_each e.held s.seen.options.arrival (seen_in (followed s e) (known s e) o))
 
--- sections and names change none of it
+-- Sections and names do not change such a step.
 pub finished_steps : (s s' : ViewState) (o : Option PacketView) (bytes : List ℕ) (e e' : EntryState) → Steps s o s' e e' → Steps s o (finished s' bytes) e e'
 finished_steps s s' o bytes e e' k =
     record { same_stream = k.same_stream; then_known = k.then_known; size = k.size; held = k.held; excesses = k.excesses; units = k.units; late = k.late }
 
--- what a packet leaves of an entry, once the view has counted it
+-- What a packet leaves of an entry, once the view has counted the packet
 packet_steps : (s s' : ViewState) (packet : PacketView) (window : ℕ) (e : EntryState) → s'.seen.options ≡ s.seen.options →
     s'.seen.packets ≡ s.seen.packets + 1 →
     s'.seen.clocks ≡ clocks_after s.seen.clocks s.seen.options.arrival s.seen.packets packet →
@@ -207,7 +207,7 @@ packet_steps s s' packet window e options packets clocks = by (nat_eq e.pid pack
       late = rw h refl;
     }
 
--- and of the streams that have begun, by a packet that counts or does not
+-- The streams that have begun, with a packet that counts or without one
 one_more_is : (n : ℕ) → n + 1 < 2 ^ 64 → one_more n ≡ n + 1
 one_more_is n few = omega (arith, few)
 
@@ -219,7 +219,7 @@ sound_agrees s (Some packet) agree =
     taken_agrees c.seen.options c.seen.packets (next_window c.seen) c.seen.clocks (with_begun c packet) packet
     (begun_agrees c.seen.options c.seen.named c.table packet agree)
 
--- the entry at a place with a packet that counts, where the buffers have begun by then
+-- The entry at a place after a packet that counts, if its buffers have begun by then
 begun_steps : (s : ViewState) (packet : PacketView) (j : ℕ) (e : EntryState) → Agree s.table → s.seen.packets + 1 < 2 ^ 64 →
     slice_get (with_begun (clocked s packet) packet).entries j ≡ Some e →
     (e' : EntryState) × ((slice_get (with_packet s packet).table.entries j ≡ Some e') × Steps s (Some packet) (with_packet s packet) e e')
@@ -256,7 +256,7 @@ sound_steps s (Some packet) j e agree few there =
     let c : ViewState = clocked s packet in
     begun_steps s packet j e agree few (begun_keeps c.seen.options c.seen.named c.table packet j e there)
 
--- and each that is there then was there, or begins with the packet
+-- Each entry after a packet was there before, or begins with the packet.
 pub record Begins (s : ViewState) (o : Option PacketView) (j : ℕ) (e' : EntryState) : Type 0 where
   pub packet : PacketView
   pub sound : o ≡ Some packet
@@ -284,9 +284,9 @@ sound_before s (Some packet) j e' agree few there =
       })
     ]
 
--- ---- one state after another
+-- The state of a view after each packet
 
--- what a packet leaves of a view's options and of its number of packets
+-- A packet leaves the options of a view, and its number of packets grows by one.
 pub sound_options : (s : ViewState) (o : Option PacketView) → (after_sound s o).seen.options ≡ s.seen.options
 unfolding after_sound
 sound_options s None = refl

@@ -1,4 +1,4 @@
--- The packets of a stream come in order.
+-- The packets of a stream have rising indices.
 use Rattle.std.proofs.Common.{◌≡◌, ℕ, suc, ◌+◌, ◌≤◌, ◌<◌, Bool, true, false, List, [], ◌∷◌, ◌++◌, length, Option, Some, None, refl, subst, nat_eq, arith}
 use Rattle.ts_packet.specs.Views.{PacketView}
 use Rattle.ts_packet.specs.Reading.{packet_at}
@@ -6,13 +6,13 @@ use Rattle.tstd_rows.specs.declared.arriving.Arriving.{Arriving}
 use Rattle.laws_view.specs.StreamPackets.{Before, Followed, known_after, most_packets, seen_among, seen_in, sound_packet}
 use Rattle.laws_view.proofs.EnteredBytes.{ComeFrom}
 
--- each packet has the next index
+-- Each packet has the next index.
 pub index_more : (f : Followed) (b : Before) (o : Option PacketView) → (known_after f b o).index ≡ b.index + 1
 unfolding known_after
 index_more f b None = refl
 index_more f b (Some packet) = refl
 
--- they come in order
+-- The indices of the packets rise.
 come_low : (low from : ℕ) (ps : List Arriving) → low ≤ from → ComeFrom from ps → ComeFrom low ps
 unfolding ComeFrom
 come_low low from [] le come = tt

@@ -1,4 +1,4 @@
--- Packets that enter buffers, each as it arrives: when their bytes arrive.
+-- When the bytes of packets arrive if each packet has its own arrival
 use Rattle.std.proofs.Common.{◌≡◌, ◌∙◌, sym, ℕ, zero, suc, ◌+◌, ◌-◌, ◌*◌, ◌^◌, ◌≤◌, ◌<◌, ◌&&◌, min, nat_le, nat_lt, Bool, true, false, List, [], ◌∷◌, ◌++◌}
 use Rattle.std.proofs.Common.{length, Option, Some, None, Result, Ok, Err, if◌then◌else◌, refl, ap, subst, inl, inr, nat_eq, arith}
 use Rattle.std.specs.Prelude.{unwrap_or}
@@ -27,7 +27,7 @@ use Rattle.laws_view.specs.TimedStreams.{Entering, after_entering, followed_so, 
 use Rattle.laws_view.proofs.EnteredBytes.{Arrives, arrives_trans, begin_arrives, payload_arrives}
 use Rattle.laws_view.proofs.StreamIndices.{index_more}
 
--- ---- a row on one line
+-- Bytes on one line
 
 pub many_times : (arrival : Arrival) (drain i n : ℕ) → length (times_from arrival drain i n) ≡ n
 unfolding times_from
@@ -49,7 +49,7 @@ line_row lines line drain i (suc n) on =
     let rest = line_row lines line drain (suc i) n (λ j low high. on j (omega (arith, low)) (omega (arith, high))) in
     ap (λ (t : ℕ). t ∷ arrivals_on drain line (suc i) n) first ∙ ap (λ (ts : List ℕ). arrival_at drain (line_at lines i) i ∷ ts) rest
 
--- n bytes from byte i on lie on the line of the first of them
+-- The n bytes from byte i on lie on the line of their first byte.
 unfoldable pub OnOne : Arrival → ℕ → ℕ → Type 0
 OnOne Unknown i n = Unit {0}
 OnOne (AtRate rate) i n = Unit {0}
@@ -67,7 +67,7 @@ row_is (OnLines lines) drain i n j m has on = elim (cases_lt lines.line.byte i) 
       line_row lines (line_at lines i) drain i n (λ j low high. before_is lines j (omega (arith, high, within)) ∙ sym (before_is lines i early))
 ]
 
--- ---- a packet in three rows: up to where another line begins, up to its payload, and that
+-- A packet in three rows: up to the begin of another line, up to its payload, and the payload
 
 pub record Pieces (arrival : Arrival) (i size lead : ℕ) : Type 0 where
   pub first : OnOne arrival i lead
@@ -159,7 +159,7 @@ with_parts_by h arrival p size lead le has three =
     let all = arrives_trans h a d _ _ first (arrives_trans a b d _ _ second (arrives_trans b c d _ _ third fourth)) in
     subst (λ (ts : List ℕ). Arrives h d ts) (three_times arrival h.rx i lead size le) all
 
--- its payload comes after the byte at which another line begins
+-- The payload comes after the byte where another line begins.
 abbrev pub Leads : Arrival → Arriving → Type 0
 Leads arrival p = 0 < lead_of arrival (188 * p.index) → lead_of arrival (188 * p.index) + size_of p ≤ 188
 
@@ -173,7 +173,7 @@ unfolding after
 packet_arrives_by h arrival p e has leads =
     rw e (with_parts_by h arrival p (size_of p) (lead_in arrival p) (omega arith) has (packet_pieces arrival p leads))
 
--- a packet of the first 2^40 bytes is taken in exactly where it has times
+-- A packet in the first 2^40 bytes is taken in exactly if it has times.
 pub taken_by : (h : Held) (arrival : Arrival) (p : Arriving) → p.index < most_packets → length (arrivals_of h.parts) ≤ 188 * p.index →
     takes_in h arrival p ≡ has_times arrival (188 * p.index) 188
 taken_by h arrival p early few =
@@ -182,9 +182,9 @@ taken_by h arrival p early few =
     by_tests : (a b c d : ℕ) (t : Bool) → a < b → c ≤ d → (nat_lt a b && nat_le c d && t) ≡ t
     by_tests a b c d t lt le = rw (lt-ltb a b lt, le-leb c d le) refl
 
--- ---- one packet of a stream, or of another
+-- One packet of this stream, or of another stream
 
--- the bytes of its payload
+-- The size of the packet's payload
 unfoldable pub size_in : Option PacketView → ℕ
 size_in None = 0
 size_in (Some packet) = length (unwrap_or packet.payload [])
@@ -216,7 +216,7 @@ packet_or_none h arrival p early few leads = by (has_times arrival (188 * p.inde
     by true e = packet_arrives_by h arrival p (taken ∙ e) e leads
     by false e = subst (λ (x : Held). Arrives h x []) (sym (untaken h arrival p (taken ∙ e))) (none_arrives h)
 
--- what is so of a packet at an index: its payload lies on one line
+-- The payload of the packet at this index lies on one line.
 abbrev pub LeadsIn : Arrival → ℕ → Option PacketView → Type 0
 LeadsIn arrival index o = 0 < lead_of arrival (188 * index) → lead_of arrival (188 * index) + size_in o ≤ 188
 
@@ -243,7 +243,7 @@ times_short pid drain arrival index o = by (is_on pid o) (has_times arrival (188
     by true false = omega arith
     by false b = omega arith
 
--- ---- all packets of a stream
+-- All packets of a stream
 
 pub entering-append : (h : Held) (xs ys : List Entering) → after_entering h (xs ++ ys) ≡ after_entering (after_entering h xs) ys
 unfolding after_entering

@@ -1,4 +1,4 @@
--- The excesses of a transport buffer that end with each packet, and the units, whichever way the packets arrive.
+-- The excesses of a transport buffer and the units that end with each packet, in whatever way the packets arrive
 use Rattle.std.proofs.Common.{◌≡◌, ◌∙◌, sym, ℕ, suc, ◌+◌, ◌-◌, ◌*◌, ◌≤◌, ◌<◌, Bool, true, false, List, [], ◌∷◌, ◌++◌, length, Option, Some, None, if◌then◌else◌}
 use Rattle.std.proofs.Common.{refl, ap, subst, nat_eq, arith}
 use Rattle.std.specs.Prelude.{flat_map}
@@ -22,25 +22,25 @@ use Rattle.laws_view.specs.StreamPackets.{Before, Followed, known_after, most_pa
 use Rattle.laws_view.specs.StreamUnits.{units_ended}
 use Rattle.laws_view.specs.TimedStreams.{Entering, after_entering, followed_so, entered_by, entering, entering_among, is_on, on_pid}
 use Rattle.laws_view.proofs.EnteredBytes.{Arrives, after_alike, begin_arrives}
-use Rattle.laws_view.proofs.Excesses.{ended_two, none_ended, payload_told}
+use Rattle.laws_view.proofs.Excesses.{ended_two, none_ended, payload_reported}
 use Rattle.laws_view.proofs.StreamIndices.{index_more}
 use Rattle.laws_view.proofs.TimedBytes.{Leads, LeadsIn, OnOne, Pieces, bytes_arrive_by, leads_in, many_times, one_arrives, packet_pieces, row_is, size_in}
 use Rattle.laws_view.proofs.TimedBytes.{taken_by, three_times, times_in, times_short}
 use Rattle.laws_view.proofs.Units.{packet_units}
 
--- ---- excesses
+-- The excesses that end with a packet
 
-bytes_told_by : (h : Held) (arrival : Arrival) (rx i n j m : ℕ) → h.rx ≡ rx → has_times arrival j m ≡ true → OnOne arrival i n →
+bytes_reported_by : (h : Held) (arrival : Arrival) (rx i n j m : ℕ) → h.rx ≡ rx → has_times arrival j m ≡ true → OnOne arrival i n →
     bytes_transport h arrival i n ≡ transport_ended h (times_from arrival rx i n)
-bytes_told_by h arrival rx i n j m e has on =
+bytes_reported_by h arrival rx i n j m e has on =
     let row : times_at arrival h.rx i n ≡ times_from arrival h.rx i n = row_is arrival h.rx i n j m has on in
     let many : length (times_at arrival h.rx i n) ≡ n = ap (λ (l : List ℕ). length l) row ∙ many_times arrival h.rx i n in
     subst (λ (ts : List ℕ). bytes_transport h arrival i n ≡ transport_ended h ts) (row ∙ ap (λ (r : ℕ). times_from arrival r i n) e)
-    (payload_told h n (times_at arrival h.rx i n) many)
+    (payload_reported h n (times_at arrival h.rx i n) many)
 
-parts_told_by : (h : Held) (arrival : Arrival) (p : Arriving) (size lead : ℕ) → lead + size ≤ 188 → has_times arrival (188 * p.index) 188 ≡ true →
+parts_reported_by : (h : Held) (arrival : Arrival) (p : Arriving) (size lead : ℕ) → lead + size ≤ 188 → has_times arrival (188 * p.index) 188 ≡ true →
     Pieces arrival (188 * p.index) size lead → (ended_with h arrival p size lead).transport ≡ transport_ended h (times_from arrival h.rx (188 * p.index) 188)
-parts_told_by h arrival p size lead le has three =
+parts_reported_by h arrival p size lead le has three =
     let i : ℕ = 188 * p.index in
     let a : Held = after_lead h arrival p lead in
     let b : Held = after_header h arrival p size lead in
@@ -51,11 +51,11 @@ parts_told_by h arrival p size lead le has three =
     let first : Arrives h a ones = bytes_arrive_by h arrival h.rx false i lead i 188 refl has three.first in
     let second : Arrives a b twos = bytes_arrive_by a arrival h.rx false (i + lead) (188 - size - lead) i 188 first.alike.rx has three.second in
     let third : Arrives b c [] = begin_arrives b p.begins in
-    let told_one : bytes_transport h arrival i lead ≡ transport_ended h ones = bytes_told_by h arrival h.rx i lead i 188 refl has three.first in
-    let told_two : bytes_transport a arrival (i + lead) (188 - size - lead) ≡ transport_ended a twos =
-    bytes_told_by a arrival h.rx (i + lead) (188 - size - lead) i 188 first.alike.rx has three.second in
-    let told_three : bytes_transport c arrival (i + (188 - size)) size ≡ transport_ended c threes =
-    bytes_told_by c arrival h.rx (i + (188 - size)) size i 188 (third.alike.rx ∙ second.alike.rx ∙ first.alike.rx) has three.third in
+    let reported_one : bytes_transport h arrival i lead ≡ transport_ended h ones = bytes_reported_by h arrival h.rx i lead i 188 refl has three.first in
+    let reported_two : bytes_transport a arrival (i + lead) (188 - size - lead) ≡ transport_ended a twos =
+    bytes_reported_by a arrival h.rx (i + lead) (188 - size - lead) i 188 first.alike.rx has three.second in
+    let reported_three : bytes_transport c arrival (i + (188 - size)) size ≡ transport_ended c threes =
+    bytes_reported_by c arrival h.rx (i + (188 - size)) size i 188 (third.alike.rx ∙ second.alike.rx ∙ first.alike.rx) has three.third in
     let last : transport_ended b ([] ++ threes) ≡ transport_ended c threes =
     ended_two b c [] threes third ∙ ap (λ (l : List Excess). l ++ transport_ended c threes) (none_ended b) in
     let all : transport_ended h (ones ++ (twos ++ ([] ++ threes))) ≡ transport_ended h ones ++ (transport_ended a twos ++ transport_ended c threes) =
@@ -64,45 +64,46 @@ parts_told_by h arrival p size lead le has three =
     (ended_two a b twos ([] ++ threes) second ∙ ap (λ (l : List Excess). transport_ended a twos ++ l) last) in
     let whole : transport_ended h (ones ++ (twos ++ ([] ++ threes))) ≡ transport_ended h (times_from arrival h.rx i 188) =
     ap (λ (ts : List ℕ). transport_ended h ts) (three_times arrival h.rx i lead size le) in
-    rw (told_one, told_two, told_three) (sym all ∙ whole)
+    rw (reported_one, reported_two, reported_three) (sym all ∙ whole)
 
-packet_told_by : (h : Held) (arrival : Arrival) (p : Arriving) → takes_in h arrival p ≡ true → has_times arrival (188 * p.index) 188 ≡ true → Leads arrival p →
+packet_reported_by : (h : Held) (arrival : Arrival) (p : Arriving) → takes_in h arrival p ≡ true → has_times arrival (188 * p.index) 188 ≡ true →
+    Leads arrival p →
     (entered h arrival p).transport ≡ transport_ended h (times_from arrival h.rx (188 * p.index) 188)
 unfolding entered
-packet_told_by h arrival p e has leads =
-    rw e (parts_told_by h arrival p (size_of p) (lead_in arrival p) (omega arith) has (packet_pieces arrival p leads))
+packet_reported_by h arrival p e has leads =
+    rw e (parts_reported_by h arrival p (size_of p) (lead_in arrival p) (omega arith) has (packet_pieces arrival p leads))
 
-untaken_told : (h : Held) (arrival : Arrival) (p : Arriving) → takes_in h arrival p ≡ false → (entered h arrival p).transport ≡ []
+untaken_reported : (h : Held) (arrival : Arrival) (p : Arriving) → takes_in h arrival p ≡ false → (entered h arrival p).transport ≡ []
 unfolding entered
-untaken_told h arrival p e = rw e refl
+untaken_reported h arrival p e = rw e refl
 
-told_or_none : (h : Held) (arrival : Arrival) (p : Arriving) → p.index < most_packets → length (arrivals_of h.parts) ≤ 188 * p.index → Leads arrival p →
+reported_or_none : (h : Held) (arrival : Arrival) (p : Arriving) → p.index < most_packets → length (arrivals_of h.parts) ≤ 188 * p.index → Leads arrival p →
     (entered h arrival p).transport ≡ transport_ended h (packet_times h.rx p.index arrival)
-told_or_none h arrival p early few leads = by (has_times arrival (188 * p.index) 188) refl
+reported_or_none h arrival p early few leads = by (has_times arrival (188 * p.index) 188) refl
   where
     taken : takes_in h arrival p ≡ has_times arrival (188 * p.index) 188
     taken = taken_by h arrival p early few
 
     by : (b : Bool) → has_times arrival (188 * p.index) 188 ≡ b →
         (entered h arrival p).transport ≡ transport_ended h (if b then times_from arrival h.rx (188 * p.index) 188 else [])
-    by true e = packet_told_by h arrival p (taken ∙ e) e leads
-    by false e = untaken_told h arrival p (taken ∙ e) ∙ sym (none_ended h)
+    by true e = packet_reported_by h arrival p (taken ∙ e) e leads
+    by false e = untaken_reported h arrival p (taken ∙ e) ∙ sym (none_ended h)
 
-abbrev pub told_of : List EnteredView → List Excess
-told_of vs = flat_map (λ v. v.transport) vs
+abbrev pub transport_ended_by : List EnteredView → List Excess
+transport_ended_by vs = flat_map (λ v. v.transport) vs
 
-one_told : (h : Held) (f : Followed) (b : Before) (arrival : Arrival) (o : Option PacketView) → b.index < most_packets →
+one_reported : (h : Held) (f : Followed) (b : Before) (arrival : Arrival) (o : Option PacketView) → b.index < most_packets →
     length (arrivals_of h.parts) ≤ 188 * b.index →
     LeadsIn arrival b.index o →
-    told_of (entered_by h (entering arrival (seen_in (followed_so f arrival) b o))) ≡ transport_ended h (times_in f.pid h.rx arrival b.index o)
+    transport_ended_by (entered_by h (entering arrival (seen_in (followed_so f arrival) b o))) ≡ transport_ended h (times_in f.pid h.rx arrival b.index o)
 unfolding seen_in entered_by is_on size_in
-one_told h f b arrival None early few leads = sym (none_ended h)
-one_told h f b arrival (Some packet) early few leads = by (nat_eq f.pid packet.header.pid) refl
+one_reported h f b arrival None early few leads = sym (none_ended h)
+one_reported h f b arrival (Some packet) early few leads = by (nat_eq f.pid packet.header.pid) refl
   where
     by : (w : Bool) → nat_eq f.pid packet.header.pid ≡ w →
-        told_of (entered_by h (entering arrival (seen_in (followed_so f arrival) b (Some packet)))) ≡ transport_ended h
+        transport_ended_by (entered_by h (entering arrival (seen_in (followed_so f arrival) b (Some packet)))) ≡ transport_ended h
         (times_in f.pid h.rx arrival b.index (Some packet))
-    by true e = rw e (append-nil _ ∙ told_or_none h arrival _ early few (λ some. omega (arith, leads some)))
+    by true e = rw e (append-nil _ ∙ reported_or_none h arrival _ early few (λ some. omega (arith, leads some)))
     by false e = rw e (sym (none_ended h))
 
 pub entered-append : (h : Held) (xs ys : List Entering) → entered_by h (xs ++ ys) ≡ entered_by h xs ++ entered_by (after_entering h xs) ys
@@ -110,12 +111,12 @@ unfolding entered_by after_entering
 entered-append h [] ys = refl
 entered-append h (x ∷ xs) ys = ap (λ (l : List EnteredView). entered h x.arrival x.packet ∷ l) (entered-append (after h x.arrival x.packet) xs ys)
 
-pub each_told_by : (h : Held) (f : Followed) (b : Before) (packets : List Timed) → AllLead b.index packets → b.index + length packets ≤ most_packets →
+pub each_reported_by : (h : Held) (f : Followed) (b : Before) (packets : List Timed) → AllLead b.index packets → b.index + length packets ≤ most_packets →
     length (arrivals_of h.parts) ≤ 188 * b.index →
-    told_of (entered_by h (entering_among f b packets)) ≡ transport_ended h (times_among (on_pid f.pid) h.rx b.index packets)
+    transport_ended_by (entered_by h (entering_among f b packets)) ≡ transport_ended h (times_among (on_pid f.pid) h.rx b.index packets)
 unfolding entering_among entered_by times_among AllLead
-each_told_by h f b [] leads early few = sym (none_ended h)
-each_told_by h f b (p ∷ packets) leads early few =
+each_reported_by h f b [] leads early few = sym (none_ended h)
+each_reported_by h f b (p ∷ packets) leads early few =
     let o : Option PacketView = sound_packet (packet_at p.bytes) in
     let f' : Followed = followed_so f p.arrival in
     let b' : Before = known_after f' b o in
@@ -135,17 +136,18 @@ each_told_by h f b (p ∷ packets) leads early few =
       length-append (arrivals_of h.parts) here,
       times_short f.pid h.rx p.arrival b.index o,
     ) in
-    let rest : told_of (entered_by h' (entering_among f' b' packets)) ≡ transport_ended h' (times_among (on_pid f.pid) h'.rx b'.index packets) =
-    each_told_by h' f' b' packets (subst (λ (i : ℕ). AllLead i packets) (sym index) leads.1) (omega (arith, early, index)) more in
+    let rest : transport_ended_by (entered_by h' (entering_among f' b' packets)) ≡ transport_ended h' (times_among (on_pid f.pid) h'.rx b'.index packets) =
+    each_reported_by h' f' b' packets (subst (λ (i : ℕ). AllLead i packets) (sym index) leads.1) (omega (arith, early, index)) more in
     let same : times_among (on_pid f.pid) h'.rx b'.index packets ≡ later =
     ap (λ (r : ℕ). times_among (on_pid f.pid) r b'.index packets) one.alike.rx ∙ ap (λ (i : ℕ). times_among (on_pid f.pid) h.rx i packets) index in
-    ap (λ (l : List EnteredView). told_of l) (entered-append h xs (entering_among f' b' packets))
+    ap (λ (l : List EnteredView). transport_ended_by l) (entered-append h xs (entering_among f' b' packets))
     ∙ flat_map-append (λ v. v.transport) (entered_by h xs) (entered_by h' (entering_among f' b' packets))
-    ∙ ap (λ (l : List Excess). l ++ told_of (entered_by h' (entering_among f' b' packets))) (one_told h f b p.arrival o (omega (arith, early)) few lead)
+    ∙ ap (λ (l : List Excess). l ++ transport_ended_by (entered_by h' (entering_among f' b' packets)))
+    (one_reported h f b p.arrival o (omega (arith, early)) few lead)
     ∙ ap (λ (l : List Excess). transport_ended h here ++ l) (rest ∙ ap (λ (ts : List ℕ). transport_ended h' ts) same)
     ∙ sym (ended_two h h' here later one)
 
--- ---- units
+-- The units that end with a packet
 
 pub each_units_by : (step : ℕ) (h : Held) (xs : List Entering) → h.rate ≡ step →
     units_ended step (after_entering h xs).parts ≡ units_ended step h.parts ++ flat_map (λ v. option_to_list v.unit) (entered_by h xs)

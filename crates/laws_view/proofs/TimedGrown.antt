@@ -1,4 +1,4 @@
--- Streams whose buffers have begun, over many packets, each of which arrives in its own way.
+-- Streams whose buffers have begun, over many packets, each with its own arrival
 use Rattle.std.proofs.Common.{◌≡◌, ◌∙◌, sym, ℕ, ◌+◌, ◌^◌, ◌<◌, ◌⊎◌, List, [], ◌∷◌, ◌++◌, length, Option, Some, refl, ap, subst, inl, inr, arith}
 use Rattle.std.specs.Prelude.{slice_get}
 use Rattle.ts_packet.specs.Views.{PacketView}
@@ -20,7 +20,7 @@ use Rattle.laws_view.proofs.Entries.{Agree, BeginsWith}
 use Rattle.laws_view.proofs.Steps.{Begins, Steps, after_sound, excesses_more, finished_steps, followed, known, next, packet_is, sound_agrees, sound_before}
 use Rattle.laws_view.proofs.Steps.{sound_packets, sound_steps}
 
--- ---- packets that arrive so, and then others
+-- Packets with one arrival, and then other packets
 
 each_then : (h : Held) (arrival : Arrival) (ps : List Arriving) (xs : List Entering) →
     after_entering h (entering arrival ps ++ xs) ≡ after_entering (after_each h arrival ps) xs
@@ -47,7 +47,7 @@ unfolding entered_by entered_each after_each late_more
 late_then h n arrival [] xs = refl
 late_then h n arrival (p ∷ ps) xs = late_then (after h arrival p) (late_with n (entered h arrival p).unit) arrival ps xs
 
--- ---- an entry after packets that come where this is known
+-- An entry after packets, from a known state on
 
 pub record GrownBy (f : Followed) (b : Before) (packets : List Timed) (e e' : EntryState) : Type 0 where
   pub pid : e'.pid ≡ e.pid
@@ -59,7 +59,7 @@ pub record GrownBy (f : Followed) (b : Before) (packets : List Timed) (e e' : En
   pub units : e'.tally.units ≡ units_more e.tally.units (entered_by e.held (entering_among f b packets))
   pub late : e'.tally.late ≡ late_more e.tally.late (entered_by e.held (entering_among f b packets))
 
--- a view where the next packet arrives so, and after it
+-- The view, if the next packet and the packets after it have this arrival
 abbrev pub ready : ViewState → Arrival → ViewState
 ready s arrival = views.arriving s arrival 1
 
@@ -69,7 +69,7 @@ next_by s p = next (ready s p.arrival) p.bytes
 pub came_is : (s : ViewState) (p : Timed) → views.after_packet (ready s p.arrival) p.bytes ≡ next_by s p
 came_is s p = packet_is (ready s p.arrival) p.bytes
 
--- one packet more at the front
+-- One more packet at the front
 grown_more_by : (s s' : ViewState) (p : Timed) (packets : List Timed) (e e1 e' : EntryState) →
     Steps (ready s p.arrival) (sound_packet (packet_at p.bytes)) s' e e1 → GrownBy (followed s' e1) (known s' e1) packets e1 e' →
     GrownBy (followed s e) (known s e) (p ∷ packets) e e'
@@ -124,7 +124,7 @@ grown_by s (p ∷ packets) j e agree few there =
     subst (λ (x : ViewState). GrownTo x packets j e (followed s e) (known s e) (p ∷ packets)) (sym (came_is s p))
     (rest.0, (rest.1.0, grown_more_by s (next_by s p) p packets e step.0 rest.0 (finished_steps r (after_sound r o) o p.bytes e step.0 step.1.1) rest.1.1))
 
--- ---- where a stream begins
+-- A stream that begins
 
 pub record BeganBy (s : ViewState) (packets : List Timed) (e' : EntryState) : Type 0 where
   pub before : List Timed

@@ -1,4 +1,4 @@
--- The packets of a stream from one of them on: their bytes arrive in order where those of all packets do.
+-- If the bytes of all packets arrive in order, the bytes of a stream's packets do too, from any packet on.
 use Rattle.std.proofs.Common.{◌≡◌, ◌∙◌, ℕ, ◌+◌, ◌*◌, ◌≤◌, ◌&&◌, nat_le, Bool, true, false, List, [], ◌∷◌, ◌++◌, length, if◌then◌else◌, refl, ap, subst, arith}
 use Rattle.std.proofs.Common.{All}
 use Rattle.std.proofs.lemmas.Bool.{le-leb, lt-leb}
@@ -13,7 +13,7 @@ use Rattle.laws_arrival.specs.Times.{packet_times, time_of, times_among}
 use Rattle.laws_arrival.proofs.Rising.{among-append, packets_between}
 use Rattle.laws_view.specs.TimedStreams.{RateOrderLaw}
 
--- of all packets those from an index on are chosen
+-- Chooses only packets from an index on.
 abbrev from : ℕ → (ℕ → List ℕ → Bool) → ℕ → List ℕ → Bool
 from low chosen index bytes = nat_le low index && chosen index bytes
 
@@ -59,7 +59,7 @@ pub that_one : (P : Timed → Type 0) (before : List Timed) (p : Timed) (later :
 that_one P [] p later all = All-head P p later all
 that_one P (q ∷ before) p later all = that_one P before p later (All-tail P q (before ++ p ∷ later) all)
 
--- ---- at a constant rate
+-- Packets at a constant rate
 
 rate_rises : (rate : ℕ) (packets : List (List ℕ)) (chosen : ℕ → List ℕ → Bool) (drain : ℕ) →
     Rises 0 (times_among chosen drain 0 (arriving_so (AtRate rate) packets))

@@ -1,4 +1,4 @@
--- The last lines of a stream are about all packets of its PID, whichever way they arrive.
+-- The last lines of a stream are about all packets of its PID, in whatever way they arrive.
 use Rattle.std.proofs.Common.{◌≡◌, ◌∙◌, sym, ℕ, ◌+◌, ◌-◌, ◌*◌, ◌^◌, ◌≤◌, ◌<◌, Bool, List, [], ◌∷◌, ◌++◌, length, Option, Some, None, refl, ap, subst, inl, inr}
 use Rattle.std.proofs.Common.{arith, All}
 use Rattle.std.specs.Prelude.{count_by, flat_map, slice_get}
@@ -39,17 +39,17 @@ use Rattle.laws_view.specs.WholeStreams.{nothing_known}
 use Rattle.laws_view.specs.WholeStreams as whole
 use Rattle.laws_view.proofs.EnteredBytes.{Arrives}
 use Rattle.laws_view.proofs.Entries.{entry_begun}
-use Rattle.laws_view.proofs.Excesses.{few_told}
+use Rattle.laws_view.proofs.Excesses.{few_reported}
 use Rattle.laws_view.proofs.StreamIndices.{index_more}
 use Rattle.laws_view.proofs.Steps.{excesses_more, followed, known, sound_options, sound_packets, unit_excesses, unit_units}
 use Rattle.laws_view.proofs.TimedBytes.{among_short, each_arrives_by}
-use Rattle.laws_view.proofs.TimedExcesses.{each_told_by, each_units_by, few_entering, many_entered_by, rate_by, told_of}
+use Rattle.laws_view.proofs.TimedExcesses.{each_reported_by, each_units_by, few_entering, many_entered_by, rate_by, transport_ended_by}
 use Rattle.laws_view.proofs.TimedGrown.{BeganBy, came_by, came_is, next_by, ready}
 use Rattle.laws_view.proofs.TimedOrder.{later_leads, later_rise, that_one}
 use Rattle.laws_view.proofs.Units.{last_late, last_unit, late_exact, late_more, late_with, length_units, units_exact, units_more, units_with}
 use Rattle.laws_view.proofs.Whole.{Knows, excesses_exact, none_agree, one_counted, sound_clock}
 
--- ---- what is known before a packet
+-- What a view knows before a packet
 
 pub knows_by : (s : ViewState) (f : Followed) (b : Before) (packets : List Timed) → Knows s f b → s.seen.packets + length packets < 2 ^ 64 →
     Knows (view_by s packets) (followed_by f packets) (known_by f b packets)
@@ -91,15 +91,15 @@ pub followed_is : (o o' : ViewOptions) (p p' c c' r r' : ℕ) → o ≡ o' → p
     ◌≡◌ {A = Followed} (record { options = o; pid = p; clock_pid = c; rx = r }) (record { options = o'; pid = p'; clock_pid = c'; rx = r' })
 followed_is o o' p p' c c' r r' e f g h = rw (e, f, g, h) refl
 
--- ---- the figures of packets in order
+-- The figures of packets in order
 
--- buffers that hold nothing, and all packets of the stream
+-- The figures of buffers that were empty, after all packets of the stream
 pub record FiguresBy (step : ℕ) (h : Held) (f : Followed) (xs : List Entering) (times : List ℕ) : Type 0 where
   pub rate : (after_entering h xs).rate ≡ step
   pub arrived : arrivals_of (after_entering h xs).parts ≡ times
   pub transport : IsPeak (λ x. fullness x times (departures step 0 times)) (transport_most (after_entering h xs))
   pub main : IsPeak (main_fullness step (after_entering h xs).parts) (main_most (after_entering h xs))
-  pub ended : told_of (entered_by h xs) ≡ excesses_ended step tb_size 0 None times
+  pub ended : transport_ended_by (entered_by h xs) ≡ excesses_ended step tb_size 0 None times
   pub under_way : transport_under_way (after_entering h xs) ≡ excess_after step tb_size 0 None times
   pub number : excesses_more 0 (entered_by h xs) ≡ length (excesses_ended step tb_size 0 None times)
 
@@ -115,11 +115,12 @@ figures_by step rx size f b packets times some leads few same rises =
     let arrive : arrivals_of h'.parts ≡ times = all.arrivals ∙ same in
     let rate : h'.rate ≡ step = rate_by h xs in
     let both = figures_law step h'.parts some (subst (λ (l : List ℕ). Rises 0 l) (sym arrive) rises) in
-    let ended : told_of (entered_by h xs) ≡ excesses_ended step tb_size 0 None times =
-    each_told_by h f b packets leads few (omega arith) ∙ ap (λ (l : List ℕ). excesses_ended step tb_size 0 None l) same in
+    let ended : transport_ended_by (entered_by h xs) ≡ excesses_ended step tb_size 0 None times =
+    each_reported_by h f b packets leads few (omega arith) ∙ ap (λ (l : List ℕ). excesses_ended step tb_size 0 None l) same in
     let short : length times ≤ 188 * length packets =
     subst (λ (l : List ℕ). length l ≤ 188 * length packets) same (among_short (on_pid f.pid) rx b.index packets) in
-    let many : length (told_of (entered_by h xs)) ≤ length times = subst (λ (es : List Excess). length es ≤ length times) (sym ended) (few_told h times) in
+    let many : length (transport_ended_by (entered_by h xs)) ≤ length times =
+    subst (λ (es : List Excess). length es ≤ length times) (sym ended) (few_reported h times) in
     let number = excesses_exact 0 (entered_by h xs) (omega (arith, many, short, few)) in
     record {
       rate = rate;
@@ -133,10 +134,10 @@ figures_by step rx size f b packets times some leads few same rises =
       number = omega (arith, number, ap (λ (es : List Excess). length es) ended);
     }
 
--- ---- units
+-- The units of a stream
 
 pub record UnitsBy (step : ℕ) (e : EntryState) (vs : List EnteredView) : Type 0 where
-  pub told : flat_map (λ v. option_to_list v.unit) vs ≡ units_ended step e.held.parts
+  pub reported : flat_map (λ v. option_to_list v.unit) vs ≡ units_ended step e.held.parts
   pub units : (window : ℕ) → (closed window e).units ≡ length (all_units step e.held.parts)
   pub late : (window : ℕ) → (closed window e).late ≡ count_by is_late (all_units step e.held.parts)
 
@@ -151,12 +152,13 @@ units_by step rx size e xs held few units_are late_are =
     let h : Held = empty step rx size in
     let vs : List EnteredView = entered_by h xs in
     let rate_is : e.held.rate ≡ step = ap (λ (g : Held). g.rate) held ∙ rate_by h xs in
-    let told : flat_map (λ v. option_to_list v.unit) vs ≡ units_ended step e.held.parts =
+    let reported : flat_map (λ v. option_to_list v.unit) vs ≡ units_ended step e.held.parts =
     sym (ap (λ (g : Held). units_ended step g.parts) held ∙ each_units_by step h xs refl ∙ none_before step (flat_map (λ v. option_to_list v.unit) vs)) in
     let few_of : length vs ≤ most_packets = omega (arith, few, many_entered_by h xs) in
-    let lengths_are : length (flat_map (λ v. option_to_list v.unit) vs) ≡ length (units_ended step e.held.parts) = ap (λ (l : List UnitSeen). length l) told in
+    let lengths_are : length (flat_map (λ v. option_to_list v.unit) vs) ≡ length (units_ended step e.held.parts) =
+    ap (λ (l : List UnitSeen). length l) reported in
     let counts_are : count_by is_late (flat_map (λ v. option_to_list v.unit) vs) ≡ count_by is_late (units_ended step e.held.parts) =
-    ap (λ (l : List UnitSeen). count_by is_late l) told in
+    ap (λ (l : List UnitSeen). count_by is_late l) reported in
     let units_exactly = units_exact 0 vs (omega (arith, few_of)) in
     let late_exactly = late_exact 0 vs (omega (arith, few_of)) in
     let many_units : e.tally.units ≡ length (units_ended step e.held.parts) = omega (arith, units_are, units_exactly, lengths_are) in
@@ -165,14 +167,14 @@ units_by step rx size e xs held few units_are late_are =
     let few_late : e.tally.late < 2 ^ 64 - 1 = omega (arith, late_are, late_exactly.0, late_exactly.1, few_of) in
     let few_units : e.tally.units < 2 ^ 64 - 1 = omega (arith, units_are, units_exactly, length_units vs, few_of) in
     record {
-      told = told;
+      reported = reported;
       units = λ window. (unit_units e.tally window (unit_before e.held)).0 ∙ ap (λ (o : Option UnitSeen). units_with e.tally.units o) last_is
           ∙ last_unit e.tally.units (units_ended step e.held.parts) (unit_of step e.held.parts) many_units few_units;
       late = λ window. (unit_units e.tally window (unit_before e.held)).1 ∙ ap (λ (o : Option UnitSeen). late_with e.tally.late o) last_is
           ∙ last_late e.tally.late (units_ended step e.held.parts) (unit_of step e.held.parts) many_late few_late;
     }
 
--- ---- a stream that began
+-- A stream that has begun
 
 assemble_by : (request : RequestView) (step : ℕ) (packets : List Timed) (e : EntryState) → 0 < step → InOrder step packets → length packets ≤ most_packets →
     BeganBy (start request) packets e → IsWholeBy request step packets e
@@ -226,11 +228,11 @@ assemble_by request step packets e some order few b =
     let arrived : arrivals_of e.held.parts ≡ times = ap (λ (g : Held). arrivals_of g.parts) held ∙ fig.arrived in
     let ended : List Excess = excesses_ended step tb_size 0 None times in
     let under : transport_under_way e.held ≡ excess_after step tb_size 0 None times = ap (λ (g : Held). transport_under_way g) held ∙ fig.under_way in
-    let zero_told : first.tally.excesses ≡ 0 = ap (λ (x : EntryState). x.tally.excesses) new in
+    let zero_reported : first.tally.excesses ≡ 0 = ap (λ (x : EntryState). x.tally.excesses) new in
     let zero_units : first.tally.units ≡ 0 = ap (λ (x : EntryState). x.tally.units) new in
     let zero_late : first.tally.late ≡ 0 = ap (λ (x : EntryState). x.tally.late) new in
     let number : e.tally.excesses ≡ length ended =
-    b.grown.excesses ∙ ap (λ (n : ℕ). excesses_more n (entered_by first.held (entering_among (followed s first) (known s first) rest))) zero_told
+    b.grown.excesses ∙ ap (λ (n : ℕ). excesses_more n (entered_by first.held (entering_among (followed s first) (known s first) rest))) zero_reported
     ∙ ap (λ (l : List EnteredView). excesses_more 0 l) entered_is ∙ fig.number in
     let units_are : e.tally.units ≡ units_more 0 vs =
     b.grown.units ∙ ap (λ (n : ℕ). units_more n (entered_by first.held (entering_among (followed s first) (known s first) rest))) zero_units
@@ -261,11 +263,11 @@ assemble_by request step packets e some order few b =
       rises = subst (λ (ts : List ℕ). Rises 0 ts) (sym arrived) rises;
       lines = record {
         transport = subst (λ (g : Held). IsPeak (λ x. fullness x times (departures step 0 times)) (transport_most g)) (sym held) fig.transport;
-        told = ap (λ (l : List Excess). l ++ option_to_list (transport_under_way e.held)) fig.ended ∙ all_of;
+        reported = ap (λ (l : List Excess). l ++ option_to_list (transport_under_way e.held)) fig.ended ∙ all_of;
         excesses = λ window. one_counted (closed window e).excesses ended (transport_under_way e.held)
             (unit_excesses e.tally window (unit_before e.held) ∙ number) ∙ ap (λ (l : List Excess). length l) all_of;
         main = subst (λ (g : Held). IsPeak (main_fullness step g.parts) (main_most g)) (sym held) fig.main;
-        told_units = units.told;
+        reported_units = units.reported;
         units = units.units;
         late = units.late;
       };

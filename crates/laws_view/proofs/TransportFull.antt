@@ -1,4 +1,4 @@
--- The most that one of some bytes finds in a transport buffer is its greatest fullness from the first of them on.
+-- The most that any of some bytes finds in a transport buffer is the buffer's greatest fullness from the first of these bytes on.
 use Rattle.std.proofs.Common.{◌≡◌, ◌∙◌, ℕ, ◌+◌, ◌-◌, ◌≤◌, ◌<◌, max, List, [], ◌∷◌, ◌++◌, refl, ap, inl, inr, arith, All}
 use Rattle.std.proofs.lemmas.Bool.{cases_lt}
 use Rattle.std.proofs.lemmas.List.Elements.{All-nil, All-cons, All-weaker}
@@ -11,7 +11,7 @@ use Rattle.tstd_rows.proofs.EvenRows.{div_le}
 use Rattle.tstd_rows.proofs.Levels.{level, level_after, level_law, one_in, rises_after}
 use Rattle.laws_view.specs.TransportHighs.{IsFull}
 
--- ---- bytes after others
+-- Bytes after other bytes
 
 pub most_found-append : (step prev : ℕ) (ts us : List ℕ) →
     most_found step prev (ts ++ us) ≡ max (most_found step prev ts) (most_found step (last_left step prev ts) us)
@@ -26,7 +26,7 @@ unfolding fullness departures last_left
 fullness_joined x step prev [] us = omega arith
 fullness_joined x step prev (t ∷ ts) us = omega (arith, fullness_joined x step (max t prev + step) ts us)
 
--- times that rise
+-- Rising times still rise without the first ones.
 rises_later : (from t : ℕ) (ts us : List ℕ) → Rises from (ts ++ t ∷ us) → (from ≤ t) × Rises t us
 unfolding Rises
 rises_later from t [] us rises = rises
@@ -37,15 +37,15 @@ unfolding Rises
 rises_by from t [] us rises = All-nil (λ s. s ≤ t)
 rises_by from t (s ∷ ts) us rises = All-cons (λ s. s ≤ t) s ts (rises_later s t ts us rises.1).0 (rises_by s t ts us rises.1)
 
--- ---- the most
+-- The most that a byte finds
 
--- at a moment from which on no more leave no more are there
+-- While no byte arrives, the level does not rise.
 level_falls : (step t x last : ℕ) → 0 < step → t ≤ x → level step (last - x) ≤ level step (last - t)
 level_falls step t x last pos le =
     let less : (last - x) + (step - 1) ≤ (last - t) + (step - 1) = omega (arith, le) in
     div_le ((last - x) + (step - 1)) ((last - t) + (step - 1)) step pos less
 
--- once the first has arrived
+-- Once the first byte has arrived, the buffer never holds more than the most.
 full_never : (step prev x t : ℕ) (ts : List ℕ) → 0 < step → Rises t ts → t ≤ x →
     level step (prev - x) + fullness x (t ∷ ts) (departures step prev (t ∷ ts)) ≤ most_found step prev (t ∷ ts)
 unfolding Rises most_found departures fullness
@@ -59,7 +59,7 @@ full_never step prev x t (u ∷ ts) pos rises here = elim (cases_lt x u) [
   | inr later ↦ omega (arith, full_never step (max t prev + step) x u ts pos rises.1 later, one_in step x t prev pos here)
 ]
 
--- where it is found
+-- The moment when a byte finds the most
 record Finds (step prev from most : ℕ) (ts : List ℕ) : Type 0 where
   first : List ℕ
   at : ℕ
@@ -68,7 +68,7 @@ record Finds (step prev from most : ℕ) (ts : List ℕ) : Type 0 where
   after : from ≤ at
   there : level step (prev - at) + fullness at ts (departures step prev ts) ≡ most
 
--- where the next byte finds no more than this one, it arrives later
+-- If the next byte finds no more than this byte, it arrives later.
 next_later : (step t u prev : ℕ) (ts : List ℕ) → 0 < step → t ≤ u → most_found step (max t prev + step) (u ∷ ts) ≤ found step prev t → t < u
 unfolding most_found
 next_later step t u prev ts pos le few = elim (cases_lt t u) [
@@ -111,7 +111,7 @@ finds step prev t (u ∷ ts) pos rises = elim (cases_lt (found step prev t) (mos
       }
 ]
 
--- ---- with all before them
+-- The bytes with all bytes before them
 
 all_there : (step x t : ℕ) (before ts : List ℕ) → 0 < step → Rises 0 (before ++ t ∷ ts) → t ≤ x →
     fullness x (before ++ t ∷ ts) (departures step 0 (before ++ t ∷ ts))

@@ -1,4 +1,4 @@
--- The greatest that a line `held` says of a transport buffer is its greatest fullness from the first byte of the window's packets on.
+-- The greatest number of a transport buffer in a line `held` is its greatest fullness from the first byte of the window's packets on.
 use Rattle.std.proofs.Common.{◌≡◌, ◌∙◌, sym, ℕ, ◌+◌, ◌-◌, ◌*◌, ◌<◌, max, Bool, true, false, List, [], ◌∷◌, ◌++◌, length, map, Option, Some, None, if◌then◌else◌}
 use Rattle.std.proofs.Common.{refl, ap, ap₂, subst, inl, inr, arith, append_assoc}
 use Rattle.std.specs.Prelude.{◌==◌}
@@ -28,9 +28,9 @@ use Rattle.laws_view.proofs.HeldWindows.{CountedOver, window_counted, with_kept}
 use Rattle.laws_view.proofs.TransportFull.{is_full, most_found-append}
 use Rattle.laws_view.proofs.WindowLows.{in_that_window, same_window}
 
--- ---- what arrives with a packet
+-- The bytes that arrive with a packet
 
--- bytes arrive, and this is the most that one of them finds
+-- Bytes arrive, and `most` is the most that any of them finds.
 pub record Arrives (h h' : Held) (most : ℕ) : Type 0 where
   pub own : List ℕ
   pub arrivals : arrivals_of h'.parts ≡ arrivals_of h.parts ++ own
@@ -109,7 +109,7 @@ each_arrives h h' most (x ∷ xs) come =
     each_arrives h (after h' x.arrival x.packet) (max most n) xs
     (both_arrive h h' (after h' x.arrival x.packet) most n come (packet_arrives h' x.arrival x.packet))
 
--- after nothing it is the most of all that have arrived
+-- If nothing came before, the most covers all bytes that have arrived.
 pub first_full : (h h' : Held) (most : ℕ) → h.parts ≡ [] → Arrives h h' most → transport_most h' ≡ most
 unfolding arrivals_of last_left
 first_full h h' most none come =
@@ -142,7 +142,7 @@ transport_without_law h xs none =
     by [] e = append-nil (arrivals_of h.parts)
     by (t ∷ ts) e = absurd (let no : ⊥ = omega (arith, e) in no)
 
--- ---- what is counted
+-- The counts of a window
 
 unit_transport : (t : Tally) (window : ℕ) (unit : Option UnitSeen) → t.window ≡ window →
     ((with_unit_if t window unit).window_transport ≡ t.window_transport) × ((with_unit_if t window unit).window ≡ window)
@@ -174,7 +174,7 @@ window_transport_law t window v vs none =
     each_transport (tally_after t window v.0 v.1) window vs one.1
     ∙ ap (λ (n : ℕ). transport_after n (map (λ w. w.1) vs)) (one.0 ∙ ap (λ (n : ℕ). max n v.1.transport_most) none)
 
--- ---- in a report
+-- The line in a report
 
 not_both : true ≡ false → ⊥
 not_both h = cc
@@ -183,7 +183,7 @@ says_full : (t t' : Tally) (window : ℕ) (h : Held) (xs : List Entering) → Co
     (t'.window == window) ≡ true → 0 < h.rate → Rises 0 (arrivals_of (after_entering h xs).parts) → 0 < t'.window_transport →
     IsFullWith h xs t'.window_transport
 unfolding counted_each
-says_full t t' window h xs c other told pos rises some =
+says_full t t' window h xs c other reported pos rises some =
     let is : t'.window_transport ≡ transport_after 0 (entered_by h xs) = by c.vs c.tally c.same in
     subst (λ (n : ℕ). IsFullWith h xs n) (sym is) (transport_high_law h xs pos rises (omega (arith, some, is)))
   where
@@ -192,11 +192,12 @@ says_full t t' window h xs c other told pos rises some =
 
     by : (vs : List (Bool × EnteredView)) → t' ≡ with_kept (counted_each t window vs) t'.traces → map (λ w. w.1) vs ≡ entered_by h xs →
         t'.window_transport ≡ transport_after 0 (entered_by h xs)
-    by [] is same = absurd (not_both (sym told ∙ ap (λ (k : Tally). k.window == window) is ∙ other))
+    by [] is same = absurd (not_both (sym reported ∙ ap (λ (k : Tally). k.window == window) is ∙ other))
     by (v ∷ vs) is same =
         ap (λ (k : Tally). k.window_transport) is ∙ window_transport_law t window v vs none ∙ ap (λ (l : List EnteredView). transport_after 0 l) same
 
 pub timed_transport_law : TimedTransportLaw
-timed_transport_law request before packets window place e e' w told pos rises some =
-    says_full e.tally e'.tally window e.held (window_entering request before e packets) (window_counted request before packets window place e e' w) w.other told
+timed_transport_law request before packets window place e e' w reported pos rises some =
+    says_full e.tally e'.tally window e.held (window_entering request before e packets) (window_counted request before packets window place e e' w) w.other
+    reported
     pos rises some

@@ -1,4 +1,4 @@
--- The units that end with each packet, all together.
+-- The units that end with each packet, all together
 use Rattle.std.proofs.Common.{◌≡◌, ◌∙◌, sym, ℕ, ◌+◌, ◌-◌, ◌*◌, ◌^◌, ◌≤◌, ◌<◌, cond, Bool, true, false, List, [], ◌∷◌, ◌++◌, length, Option, Some, None}
 use Rattle.std.proofs.Common.{if◌then◌else◌, refl, ap, inl, inr, arith}
 use Rattle.std.specs.Prelude.{count_by, flat_map}
@@ -19,7 +19,7 @@ use Rattle.es_events.specs.Tallies.{is_late, more}
 use Rattle.laws_view.specs.StreamUnits.{units_ended}
 use Rattle.laws_view.proofs.EnteredBytes.{Alike, payload_alike}
 
--- bytes end no unit
+-- Payload bytes end no unit.
 goes_units : (step : ℕ) (h : Held) (enters : Bool) (times : List ℕ) →
     units_ended step (if enters then carried h times else passed h times).parts ≡ units_ended step h.parts
 unfolding units_ended
@@ -34,7 +34,7 @@ payload_units step h enters n times = elim (eqb_tells n 0) [
   | inr some ↦ rw some.0 (goes_units step h enters times)
 ]
 
--- the begin of one ends the one before
+-- The begin of a unit ends the unit before.
 begin_units : (step : ℕ) (h : Held) (due : Option DueTime) → h.rate ≡ step → units_ended step (after_begin h due).parts ≡ units_ended step h.parts
     ++ option_to_list (unit_ended h due)
 unfolding after_begin units_ended unit_ended
@@ -67,7 +67,7 @@ packet_units step h arrival p e = by (takes_in h arrival p)
     by true = parts_units step h arrival p (size_of p) (lead_in arrival p) e
     by false = sym (append-nil (units_ended step h.parts))
 
--- ---- their number
+-- The number of units
 
 unfoldable pub units_with : ℕ → Option UnitSeen → ℕ
 units_with n None = n
@@ -98,7 +98,7 @@ units_exact n (v ∷ vs) few =
 pub last_unit : (n : ℕ) (us : List UnitSeen) (o : Option UnitSeen) → n ≡ length us → n < 2 ^ 64 - 1 → units_with n o ≡ length (us ++ option_to_list o)
 last_unit n us o e few = omega (arith, e, unit_counted n o few, length-append us (option_to_list o))
 
--- ---- and of those that are late
+-- The number of late units
 
 unfoldable pub late_with : ℕ → Option UnitSeen → ℕ
 late_with n None = n

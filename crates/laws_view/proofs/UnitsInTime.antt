@@ -36,7 +36,7 @@ use Rattle.laws_view.proofs.MainBytes.{due_with, headed, no_lead, packet_enters,
 use Rattle.laws_view.proofs.KeptBytes.{Follows, first_left, later_left}
 use Rattle.laws_view.proofs.SentBytes.{TimelyEach}
 
--- ---- the bytes of each packet leave by its unit's decoding time
+-- The bytes of each packet leave by the decoding time of its unit.
 
 unfoldable pub LeaveInTime : ℕ → ℕ → ℕ → List AccessUnit → List Packet → Type 0
 LeaveInTime rate r prev us [] = Unit {0}
@@ -45,7 +45,7 @@ LeaveInTime rate r prev (u ∷ us) (p ∷ ps) =
     All (λ d. d * 720000 ≤ u.dts * rate * r) (payload_of_packet rate r prev p) × LeaveInTime rate r (last_left rate prev (bytes_from r (188 * p.slot) 188)) us
     ps
 
--- where all are due, in a run that goes on
+-- If all units are due in the run, the bytes of each packet leave in time.
 pub leave_timely : (rate r n prev : ℕ) (us : List AccessUnit) (ps more : List Packet) → All (λ p. p.size ≤ 188) ps →
     All (λ u. u.dts * rate ≤ n * slot_units_at_1bps) us →
     TimelyEach rate r n us ps (pes_left rate r prev (ps ++ more)) → LeaveInTime rate r prev us ps
@@ -61,7 +61,7 @@ leave_timely rate r n prev (u ∷ us) (p ∷ ps) more sized due timely =
           (subst (λ (l : List ℕ). TimelyEach rate r n us ps l) (later_left rate r prev p (ps ++ more) le) timely.1),
     )
 
--- where the byte before them leaves earlier, they leave no later
+-- If the byte before them leaves earlier, the bytes leave no later.
 earlier_last : (step p q : ℕ) (ts : List ℕ) → p ≤ q → last_left step p ts ≤ last_left step q ts
 unfolding last_left
 earlier_last step p q [] le = le
@@ -90,7 +90,7 @@ leave_earlier rate r p q (u ∷ us) (x ∷ ps) le h =
       leave_earlier rate r (last_left rate p row) (last_left rate q row) us ps (earlier_last rate p q row le) h.1,
     )
 
--- those of the last packets
+-- The bytes of the last packets leave in time.
 pub leave_last : (rate r prev : ℕ) (us : List AccessUnit) (ps qs : List Packet) → LeaveInTime rate r prev us (ps ++ qs) →
     LeaveInTime rate r 0 (drop (length ps) us) qs
 unfolding LeaveInTime
@@ -102,13 +102,13 @@ leave_last rate r prev [] (p ∷ ps) qs h = none qs
     none (q ∷ qs) = unfold LeaveInTime in tt
 leave_last rate r prev (u ∷ us) (p ∷ ps) qs h = leave_last rate r (last_left rate prev (bytes_from r (188 * p.slot) 188)) us ps qs h.1
 
--- ---- the unit under way
+-- The open unit
 
 unfoldable pub UnitFine : Option DueTime → Option UnitSeen → Type 0
 UnitFine due None = Unit {0}
 UnitFine due (Some u) = (due ≡ Some u.due) × (u.left ≤ u.due.deadline)
 
--- is not late where it ends
+-- A unit with `UnitFine` is not late when it ends.
 fine_ended : (due : Option DueTime) (o : Option UnitSeen) → UnitFine due o → count_by is_late (option_to_list o) ≡ 0
 unfolding UnitFine
 fine_ended due None fine = refl
@@ -131,7 +131,7 @@ last_within m step prev (t ∷ ts) le h =
     last_within m step (max t prev + step) ts (omega (arith, one))
     (All-tail (λ d. d * 720000 ≤ m * 720000 + 719999) (max t prev + step) (departures step (max t prev + step) ts) h)
 
--- the last byte of a payload leaves by then
+-- The last byte of a payload leaves by the decoding time.
 last_byte : (y step prev : ℕ) (ts : List ℕ) → (length ts == 0) ≡ false → All (λ d. d * 720000 ≤ y) (departures step prev ts) →
     last_left step prev ts ≤ y / 720000
 unfolding departures last_left
@@ -154,7 +154,7 @@ with_fine rate rx dts count left due (Some u) fine (inr some) le =
     let deadline : dts * rate * rx / 720000 ≡ u.due.deadline = ap (λ (d : DueTime). d.deadline) same in
     (fine.0, omega (arith, le, deadline))
 
--- a payload of its bytes
+-- A payload keeps `UnitFine`.
 payload_fine : (rate rx dts : ℕ) (h : Held) (n : ℕ) (times : List ℕ) (due : Option DueTime) → length times ≡ n → UnitFine due (unit_of rate h.parts) →
     (due ≡ None) ⊎ (due ≡ Some (due_time rate rx dts)) →
     All (λ d. d * 720000 ≤ dts * rate * rx) (left_after rate h.parts times) → UnitFine due (unit_of rate (after_payload h true n times).parts)
@@ -167,7 +167,7 @@ payload_fine rate rx dts h n times due many fine is in_time = elim (eqb_tells n 
       rw some.0 (with_fine rate rx dts (length times) (last_left rate 0 (arrivals_of h.parts ++ times)) due (unit_of rate h.parts) fine is left)
 ]
 
--- a unit that a packet ends
+-- A unit that ends with a packet is not late.
 ended_fine : (rate : ℕ) (b : Held) (begins due : Option DueTime) (o : Option UnitSeen) → b.rate ≡ rate → unit_of rate b.parts ≡ o → UnitFine due o →
     count_by is_late (option_to_list (unit_ended b begins)) ≡ 0
 unfolding unit_ended
@@ -213,7 +213,7 @@ packet_fine rate dts h p before takes enters step until fine is in_time =
     let both = parts_fine rate dts h p before (size_of p) (omega arith) enters step until fine is in_time in
     (rw (takes, no_lead rate p) both.0, rw (takes, no_lead rate p) both.1)
 
--- ---- of all packets
+-- All packets of a stream
 
 pub fine_each : (rate low : ℕ) (h : Held) (ps : List Arriving) (us : List AccessUnit) (before : Option DueTime) → ComeFrom low ps →
     length (arrivals_of h.parts) ≤ 188 * low → h.rate ≡ rate →

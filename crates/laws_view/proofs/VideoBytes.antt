@@ -1,4 +1,4 @@
--- What the packets of a video stream leave in its elementary stream buffer, as the bytes of each come (ISO/IEC 13818-1, 2.4.2.3).
+-- What the packets of a video stream leave in its elementary stream buffer, as the bytes of each come (ISO/IEC 13818-1, 2.4.2.3)
 use Rattle.std.proofs.Common.{◌≡◌, ◌∙◌, sym, ℕ, suc, ◌+◌, ◌-◌, ◌*◌, ◌≤◌, ◌<◌, true, false, List, [], ◌∷◌, ◌++◌, length, map, take, drop, Option, Some, None}
 use Rattle.std.proofs.Common.{refl, ap, ap₂, subst, inl, inr, arith, All}
 use Rattle.std.proofs.lemmas.Bool.Decides.{eqb_tells}
@@ -29,7 +29,7 @@ use Rattle.laws_view.proofs.MainBytes.{due_with, headed, no_lead, packet_enters,
 use Rattle.laws_view.proofs.KeptBytes.{Follows, kept_each, left_packet, many_left, no_more, one_more, total}
 use Rattle.laws_view.proofs.SentBytes.{kept_later, kept_units, packet_sizes, sizes_of, total_two}
 
--- ---- bytes that go no further than the transport buffer, and a unit that begins
+-- Bytes that do not pass on from the transport buffer, and a unit that begins
 
 pub same_passed : (h : Held) (n : ℕ) (times : List ℕ) (rate leak x : ℕ) →
     elementary_held rate leak (after_payload h false n times).parts x ≡ elementary_held rate leak h.parts x
@@ -57,7 +57,7 @@ unfolding after_begin payload_left
 begin_left h None rate = refl
 begin_left h (Some due) rate = refl
 
--- ---- and those that are carried
+-- Bytes that pass on to the multiplexing buffer
 
 carried_held : (h : Held) (n : ℕ) (times : List ℕ) (rate leak x : ℕ) → length times ≡ n →
     elementary_held rate leak (after_payload h true n times).parts x
@@ -80,7 +80,7 @@ carried_left h n times rate e = elim (eqb_tells n 0) [
   | inr some ↦ rw some.0 refl
 ]
 
--- ---- a packet
+-- One packet of a video stream
 
 packet_parts : (rate leak : ℕ) (h : Held) (p : Arriving) (before : Option DueTime) (size : ℕ) → size ≤ 188 → p.enters ≡ true →
     until_of h.parts ≡ until_at before → (x : ℕ) →
@@ -129,7 +129,7 @@ packet_leaks rate leak h p before takes enters e = record {
   left = rw (takes, no_lead rate p) (packet_parts rate leak h p before (size_of p) (omega arith) enters e 0).1;
 }
 
--- a packet more: the bytes of it that are in the elementary stream buffer, and those of the packets after it
+-- One more packet: its bytes in the elementary stream buffer, and the bytes of the packets after it
 record OneLeaks (rate leak : ℕ) (h h' : Held) (p : Arriving) (due : Option DueTime) (qs : List Packet) : Type 0 where
   held : (x : ℕ) → elementary_held rate leak h'.parts x
       ≡ elementary_held rate leak h.parts x + entered (until_at due) x
@@ -178,7 +178,7 @@ one_leaks rate leak low h p qs before first early few enters e =
           ∙ ap (λ (l : List ℕ). payload_left rate h.parts ++ l) (sym (pes_left-cons rate h.rx prev q qs));
     }
 
--- what they leave there is no more than the bytes of their units that are there
+-- The packets leave no more bytes in the elementary stream buffer than their units have there.
 pub leaked_each : (rate leak low x : ℕ) (h : Held) (ps : List Arriving) (us : List AccessUnit) (before : Option DueTime) → ComeFrom low ps →
     length (arrivals_of h.parts) ≤ 188 * low → Follows rate h.rx before ps us → until_of h.parts ≡ until_at before →
     elementary_held rate leak (after_each h (AtRate rate) ps).parts x
@@ -197,7 +197,7 @@ leaked_each rate leak low x h (p ∷ ps) (u ∷ us) before come few follows e =
     let ds : List ℕ = departures leak (last_leaked rate leak h.parts) (pes_left rate h.rx (last_of rate h.parts) (timed_packet p ∷ qs)) in
     omega (arith, rest, k.later x us, k.held x, no_more rate h.rx x u.dts due (take (timed_packet p).size ds) follows.1)
 
--- the bytes that they bring to the multiplexing buffer, one packet after another
+-- The bytes that the packets bring to the multiplexing buffer, one packet after another
 pub payload_each : (rate low : ℕ) (h : Held) (ps : List Arriving) (us : List AccessUnit) (before : Option DueTime) → ComeFrom low ps →
     length (arrivals_of h.parts) ≤ 188 * low → Follows rate h.rx before ps us → until_of h.parts ≡ until_at before →
     payload_left rate (after_each h (AtRate rate) ps).parts ≡ payload_left rate h.parts ++ pes_left rate h.rx (last_of rate h.parts) (map timed_packet ps)
@@ -212,7 +212,7 @@ payload_each rate low h (p ∷ ps) (u ∷ us) before come few follows e =
     payload_each rate (suc p.index) (after h (AtRate rate) p) ps us due come.2 m.few (subst (λ (r : ℕ). Follows rate r due ps us) (sym m.rx) follows.2) m.until
     ∙ k.left
 
--- and than a model has of them and of those before in a main buffer that they enter so late
+-- The packets leave no more bytes in the elementary stream buffer than a model has in a main buffer that the bytes of all packets enter as late.
 pub later_leaked : (rate rx size low x leak id base0 : ℕ) (cuts : List CutUnit) (ps : List Arriving) (front back : List Packet) → ComeFrom low ps →
     Follows rate rx None ps (drop (length front) (cut_senders cuts)) → map timed_packet ps ≡ back → All (λ p. p.size ≤ 188) front →
     All (λ p. p.size ≤ 188) back →

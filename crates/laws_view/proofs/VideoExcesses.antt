@@ -23,13 +23,13 @@ use Rattle.laws_view.specs.VideoExcesses.{video_each}
 use Rattle.laws_view.proofs.EnteredBytes.{Alike, after_alike, alike_trans, begin_arrives, payload_alike}
 use Rattle.laws_view.proofs.VideoBytes.{begin_held, same_passed}
 
--- a buffer that never holds more than n bytes does not at these moments
+-- If a buffer never holds more than n bytes, its greatest fullness at these moments is at most n.
 pub greatest_below : (f : ℕ → ℕ) (n : ℕ) (ds : List ℕ) → ((x : ℕ) → f x ≤ n) → greatest_at f ds ≤ n
 unfolding greatest_at
 greatest_below f n [] few = omega arith
 greatest_below f n (d ∷ ds) few = omega (arith, few d, greatest_below f n ds few)
 
--- then no excess is under way
+-- If the buffer never holds more than its size, no excess is open.
 pub none_under_way : (rate leak size : ℕ) (parts : List Part) → ((x : ℕ) → elementary_held rate leak parts x ≤ size) →
     elementary_under_way rate leak size parts ≡ None
 unfolding elementary_held elementary_under_way
@@ -41,7 +41,7 @@ none_under_way rate leak size (Carries times ∷ before) few =
     let fits : found ≤ size = greatest_below (elementary_held rate leak (Carries times ∷ before)) size (leaked_after rate leak before times) few in
     rw (le-ltb size found fits) refl
 
--- and none ends with bytes that come
+-- No excess ends with bytes that come.
 either : (b : Bool) (o : Option Excess) → o ≡ None → (if b then None else o) ≡ None
 either true o none = refl
 either false o none = none
@@ -69,7 +69,7 @@ none_with_payload sizes h enters n times none = elim (eqb_tells n 0) [
   | inr some ↦ rw some.0 (none_goes sizes h enters times none)
 ]
 
--- ---- more bytes
+-- More bytes in the elementary stream buffer
 
 held_goes : (h : Held) (enters : Bool) (times : List ℕ) (rate leak x : ℕ) →
     elementary_held rate leak h.parts x ≤ elementary_held rate leak (if enters then carried h times else passed h times).parts x
@@ -85,7 +85,7 @@ held_payload h enters n times rate leak x = elim (eqb_tells n 0) [
   | inr some ↦ rw some.0 (held_goes h enters times rate leak x)
 ]
 
--- what stands before the payload of a packet, and the unit that begins
+-- The bytes before the payload of a packet, and the unit that begins
 pub record Before (h c : Held) : Type 0 where
   pub rate : c.rate ≡ h.rate
   pub held : (rate leak x : ℕ) → elementary_held rate leak c.parts x ≡ elementary_held rate leak h.parts x
@@ -129,7 +129,7 @@ unfolding after_each
 rate_each h arrival [] = refl
 rate_each h arrival (p ∷ ps) = rate_each (after h arrival p) arrival ps ∙ (after_alike h arrival p).rate
 
--- ---- so none ends with a packet, nor with all of them
+-- No excess ends with a packet, nor with all packets.
 
 quiet_packet : (sizes : VideoSizes) (h : Held) (arrival : Arrival) (p : Arriving) → ((x : ℕ) → elementary_held h.rate sizes.leak h.parts x ≤ sizes.elementary) →
     (video_of (Some sizes) h arrival p).elementary ≡ None

@@ -1,4 +1,4 @@
--- The events `continuity` of a view, packet by packet.
+-- The events `continuity` of a view, packet by packet
 use Rattle.std.proofs.Common.{◌≡◌, ◌∙◌, ℕ, ◌+◌, ◌-◌, ◌*◌, ◌/◌, ◌^◌, ◌<◌, Bool, true, false, cond, List, [], ◌∷◌, ◌++◌, length, map, filter}
 use Rattle.std.proofs.Common.{Option, Some, None, Result, Ok, Err, refl, sym, ap, ap₂, arith}
 use Rattle.std.specs.Prelude.{◌||◌, not, flat_map}
@@ -43,7 +43,7 @@ unfolding before_if counter_events_by
 error_event None es = refl
 error_event (Some e) es = refl
 
--- what is kept of the counters after it
+-- The counters after the packet
 record Counted (s : ViewState) (bytes : List ℕ) (r : Result PacketView PacketError) (rest : List Entry) : Type 0 where
   next : Lasts
   packets : (with_counter_read (with_tables (after_read s r) bytes).seen bytes r).packets ≡ one_more s.seen.packets
@@ -75,11 +75,12 @@ one s bytes (Ok packet) rest few =
     read : Bool → SeenState
     read t = cond t (before t) (with_counter (before t) (counted_entry (before t) bytes packet))
 
-    told : Bool → List Event
-    told t = cond t [] (counter_events_by (error_at (before t).counters (counted_entry (before t) bytes packet)))
+    reported : Bool → List Event
+    reported t = cond t [] (counter_events_by (error_at (before t).counters (counted_entry (before t) bytes packet)))
 
     cases : (t : Bool) → (next : Lasts) × ((read t).packets ≡ one_more s.seen.packets) × ((read t).counters ≡ next)
-        × (map counter_event (errors_from lasts (cond (not t) (at_place s.seen.packets ∷ sound) sound)) ≡ told t ++ map counter_event (errors_from next sound))
+        × (map counter_event (errors_from lasts (cond (not t) (at_place s.seen.packets ∷ sound) sound)) ≡ reported t
+        ++ map counter_event (errors_from next sound))
     cases true = (lasts, refl, refl, refl)
     cases false = (
       after lasts (at_place s.seen.packets),
@@ -134,7 +135,7 @@ no_error : (es : List ContinuityError) → map counter_fault es ≡ [] → es �
 no_error [] h = refl
 no_error (e ∷ es) h = absurd (let no : ⊥ = cc in no)
 
--- none of their findings is a fault
+-- In sound bytes no finding is a fault.
 pub sound_findings : (bytes : List ℕ) → length bytes / 188 < 2 ^ 64 - 1 → IsSound bytes → faults_of_all (found_whole bytes) ≡ []
 sound_findings bytes few h =
     let none = none_found (packet_pids bytes) (λ pid. found_on pid bytes) h.findings in

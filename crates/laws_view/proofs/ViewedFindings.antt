@@ -1,4 +1,4 @@
--- What a view finds of tables is found in the stream: on each PID the same, until the buffers of a stream on it begin, and then nothing.
+-- A view and the stream have the same findings of tables on each PID until a stream's buffers begin on it; after that the view has none.
 use Rattle.std.proofs.Common.{◌≡◌, ◌∙◌, ℕ, ◌==◌, Bool, true, false, cond, nat_eq, List, [], ◌∷◌, length, map}
 use Rattle.std.proofs.Common.{◌⊎◌, inl, inr, Option, Some, None, Result, Ok, Err, refl, sym, ap, ap₂, subst}
 use Rattle.std.specs.Prelude.{is_some}
@@ -30,7 +30,7 @@ use Rattle.ts_report.specs.StreamTables.{TableState, begun_if, beginning, has_st
 use Rattle.ts_report.specs.Views.{ViewState, after_packet, after_read, clocked, with_begun, with_packet, with_tables, without, without_stream}
 use Rattle.ts_report.specs.Seen as seeing
 
--- 1. Streams stay
+-- 1. The streams of a view stay
 
 has_after_insert : (pid q x : ℕ) (places : List (ℕ × ℕ)) → is_some (lookup (nat_eq pid) (insert_entry nat_eq places q x)) ≡ false →
     is_some (lookup (nat_eq pid) places) ≡ false
@@ -66,7 +66,7 @@ packet_keeps s packet pid h =
     (with_begun (clocked s packet) packet)
     packet _)) ∙ h)
 
--- 2. What is kept
+-- 2. The state that is kept
 
 pub record Alike (s : ViewState) (o : StreamState) : Type 0 where
   pub takes : TakesPackets s.seen.tables.demux
@@ -83,7 +83,7 @@ read_alike s o (Ok packet) h = by packet.header.transport_error_indicator
     by true = record { takes = h.takes; packets = h.packets; states = h.states }
     by false = record { takes = h.takes; packets = h.packets; states = λ pid none. h.states pid (packet_keeps s packet pid none) }
 
--- 3. What is found, without bodies
+-- 3. Findings without bodies
 
 with_pid_left : (q index : ℕ) (found : List Found) →
     all_without_body (map (with_pid q index) found) ≡ map (with_pid q index) (map found_without_body found)
@@ -114,7 +114,7 @@ state_left : (pid : ℕ) (states : States) → state_of pid (states_without_bodi
 state_left pid [] = refl
 state_left pid (x ∷ states) = state_by (pid == x.0) x.1 (state_of pid states) _ (state_left pid states)
 
--- without bodies once more
+-- Removing bodies twice equals removing them once.
 left_twice : (pid : ℕ) (states : States) → state_without_body (state_of pid (states_without_bodies states)) ≡ state_without_body (state_of pid states)
 left_twice pid states = ap state_without_body (state_left pid states) ∙ state_again (state_of pid states)
 
@@ -130,7 +130,7 @@ state_kept pid q state (y ∷ es) t e = by t e (q == y.0) refl (state_kept pid q
     by true e false f h = let g : (pid == y.0) ≡ false = subst (λ (n : ℕ). (n == y.0) ≡ false) (same_number q pid e) f in rw g h
     by false e false f h = ap (λ (s : PidState). cond (pid == y.0) y.1 s) h
 
--- a packet of another PID leaves the state of a PID
+-- A packet of another PID leaves the state of a PID as it is.
 others_stay : (pid index : ℕ) (bytes : List ℕ) (states : States) (packet : PacketView) → (packet.header.pid == pid) ≡ false →
     state_of pid (states_by index bytes states (Ok packet)) ≡ state_of pid states
 unfolding states_by
@@ -147,24 +147,24 @@ others_stay pid index bytes states packet e = by packet.header.transport_error_i
     by false true = refl
     by false false = state_kept pid q (step (state_of q states) (entry_of index bytes packet)) states false e
 
--- 5. A packet that is looked at
+-- 5. A packet that the view looks at
 
 record Step (t : TableState) (index : ℕ) (bytes : List ℕ) (vs os : States) (r : Result PacketView PacketError) : Type 0 where
   found : all_without_body (findings_by index bytes vs r) ≡ all_without_body (findings_by index bytes os r)
   states : (pid : ℕ) → has_stream t pid ≡ false →
       state_without_body (state_of pid (states_by index bytes vs r)) ≡ state_without_body (state_of pid (states_by index bytes os r))
 
--- whose PID has no stream, if it can be read
+-- The PID of the packet, if it can be read, has no stream.
 unfoldable pub IsLookedAt : TableState → Result PacketView PacketError → Type 0
 IsLookedAt t (Err error) = Unit {0}
 IsLookedAt t (Ok packet) = has_stream t packet.header.pid ≡ false
 
--- whose PID has a stream
+-- The packet can be read, and its PID has a stream.
 unfoldable pub IsOfStream : TableState → Result PacketView PacketError → Type 0
 IsOfStream t (Err error) = ⊥
 IsOfStream t (Ok packet) = has_stream t packet.header.pid ≡ true
 
--- a packet of a stream finds nothing, and another one what is found in the stream
+-- Either the packet belongs to a stream and has no findings, or it has the findings of the stream.
 abbrev pub FindsAlike : TableState → List FindingView → StreamState → List ℕ → Type 0
 FindsAlike t found o bytes = ((found ≡ []) × IsOfStream t (packet_at bytes))
     ⊎ ((all_without_body found ≡ all_without_body (found_in o bytes)) × IsLookedAt t (packet_at bytes))
@@ -186,8 +186,8 @@ looked_at t index bytes vs os (Ok packet) h none =
     next : States → States
     next states = with_state q (step (state_of q states) entry) states
 
-    told : Bool → Bool → States → List FindingView
-    told e z states = cond e (seen_wrong ∷ []) (cond z [] (map (with_pid q index) (found_by (state_of q states) entry)))
+    reported : Bool → Bool → States → List FindingView
+    reported e z states = cond e (seen_wrong ∷ []) (cond z [] (map (with_pid q index) (found_by (state_of q states) entry)))
       where
         seen_wrong : FindingView
         seen_wrong = record { packet = index; pid = None; begun = None; what = IsErrored }
@@ -203,7 +203,7 @@ looked_at t index bytes vs os (Ok packet) h none =
         ∙ h pid free
         ∙ ap state_without_body (sym (state_kept pid q (step (state_of q os) entry) os false e))
 
-    cases : (e z : Bool) → (all_without_body (told e z vs) ≡ all_without_body (told e z os))
+    cases : (e z : Bool) → (all_without_body (reported e z vs) ≡ all_without_body (reported e z os))
         × ((pid : ℕ) → has_stream t pid ≡ false →
         state_without_body (state_of pid (cond e vs (cond z vs (next vs)))) ≡ state_without_body (state_of pid (cond e os (cond z os (next os)))))
     cases true z = (refl, h)
@@ -212,7 +212,7 @@ looked_at t index bytes vs os (Ok packet) h none =
 
 -- 6. One packet of a view
 
--- the packets that are looked at: those of the stream, and null packets where there are buffers
+-- The view looks at the packets of the stream, with a null packet in place of each packet whose PID has buffers.
 pub counter_keeps : (x : SeenState) (bytes : List ℕ) (r : Result PacketView PacketError) → (with_counter_read x bytes r).tables ≡ x.tables
 unfolding with_counter_read
 counter_keeps x bytes (Err error) = refl
@@ -222,7 +222,7 @@ counter_keeps x bytes (Ok packet) = by packet.header.transport_error_indicator
     by true = refl
     by false = refl
 
--- what the tables of a view come to by some bytes
+-- The tables of a view after some bytes
 record Taken (t : TableState) (d o : StreamState) (given bytes : List ℕ) : Type 0 where
   found : FindsAlike t (pushed d given).found o bytes
   demux : with_found [] (headers_pushed d given) ≡ headers_taken d given
@@ -296,7 +296,7 @@ alike_by v o d e takes count h = record {
   states = λ pid free. ap (λ (x : StreamState). state_without_body (state_of pid x.states)) e ∙ h pid free;
 }
 
--- what the tables of a view come to by a packet
+-- The tables of a view after a packet
 pub record Next (s : ViewState) (o : StreamState) (bytes : List ℕ) : Type 0 where
   pub alike : Alike (after_packet s bytes) (taken o bytes)
   pub found : FindsAlike (after_read s (packet_at bytes)).table

@@ -1,4 +1,4 @@
--- No clock reference of what a multiplexer wrote has an error in a view of it.
+-- In a view of a multiplexer's output no clock reference has an error.
 use Rattle.std.proofs.Common.{◌≡◌, ◌∙◌, sym, ℕ, zero, suc, ◌+◌, ◌*◌, ◌/◌, ◌≤◌, ◌<◌, Bool, false, List, [], ◌∷◌, ◌++◌, length, Option, Some, None, is_some}
 use Rattle.std.proofs.Common.{append-nil, if◌then◌else◌, true, refl, ap, subst, inl, inr, arith}
 use Rattle.std.specs.Prelude.{IfSome}
@@ -49,7 +49,7 @@ use Rattle.laws_view.proofs.ProgramClocks.{clocks_kept, program_range}
 use Rattle.laws_view.proofs.Steps.{after_sound, next, packet_is, sound_options, sound_packets}
 use Rattle.laws_view.proofs.WatchedReferences.{AllFine, Comes, NoReferences, Rated, Watched, one_fine, one_watched, report_watched, sample_kept, watches_after}
 
--- ---- events of a report
+-- The events of a report
 
 none_beyond : (byte : ℕ) (o : Option ℕ) → IfSome o IsSoon → beyond_if 2700000 byte o ≡ None
 unfolding beyond_if
@@ -71,7 +71,7 @@ no_events rate judge index pid (Some report) h =
     let accuracy : accuracy_error report ≡ None = none_off report.inaccuracy h.inaccuracy in
     rw (repetition, discontinuity, accuracy) refl
 
--- ---- a view, packet by packet
+-- A view, packet by packet
 
 pub record Watches (r : Rated) (s : ViewState) (index : ℕ) (packets : List (List ℕ)) : Type 0 where
   pub arrival : s.seen.options.arrival ≡ AtRate r.rate
@@ -85,7 +85,7 @@ unfolding after_sound watches_after
 sound_watches s None = refl
 sound_watches s (Some packet) = refl
 
--- at a given rate nothing waits to be judged
+-- At a given rate no report waits to be judged.
 same_judge : (rate : ℕ) (judge : JudgeState) (pid : ℕ) (o : Option PcrReport) → judge_after (ConstantRate rate) judge pid o ≡ judge
 unfolding judge_after
 same_judge rate judge pid None = refl
@@ -144,7 +144,7 @@ fine_at r s index bytes later packet few sound h =
       events = rw h.arrival (no_events r.rate s.seen.rules.judge s.seen.packets packet.header.pid (report_on s.seen packet) report);
     }
 
--- ---- the references of a run
+-- The clock references of a run
 
 more_recur : (rate limit from : ℕ) (bytes : List ℕ) (until : ℕ) → limit ≤ 100 → Recur rate limit from bytes until → Recur rate 100 from bytes until
 unfolding Recur
@@ -184,7 +184,7 @@ run_rated d slots ranges few = record {
   few = few;
 }
 
--- on any PID
+-- The clock references of a run on any PID
 run_comes : (d : Scheduled) (units : ℕ → List AccessUnit) (slots pid : ℕ) (ranges : IsInRange d.description) → Promised d.description d.schedule →
     UnitsKept d units → (few : slots ≤ most_packets) →
     Comes (run_rated d slots ranges few) pid 0 None (entries_from pid 0 (cut_packets (run_bytes (content_at d units) 0 slots)))
@@ -219,7 +219,7 @@ run_begins d units slots request ranges promised kept few at_rate = record {
   held = refl;
 }
 
--- the number of its packets
+-- A run has as many packets as slots.
 pub run_packets : (d : Scheduled) (units : ℕ → List AccessUnit) (slots : ℕ) → IsInRange d.description → Promised d.description d.schedule → UnitsKept d units →
     length (cut_packets (run_bytes (content_at d units) 0 slots)) ≡ slots
 run_packets d units slots ranges promised kept =
@@ -228,7 +228,7 @@ run_packets d units slots ranges promised kept =
     let many : length (cut_packets bytes) ≡ length bytes / 188 = packet_count (length bytes / 188) bytes in
     omega (arith, many, h.size)
 
--- packets that are watched so from the first on
+-- Packets that are watched from the first one on have no clock reference with an error.
 no_errors : (r : Rated) (request : RequestView) (packets : List (List ℕ)) → length packets ≡ r.slots → Watches r (start request) 0 packets →
     NoReferenceError request packets
 no_errors r request packets number begins =

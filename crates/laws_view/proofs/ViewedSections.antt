@@ -1,4 +1,4 @@
--- No event of a view is of a wrong check word in what a multiplexer wrote.
+-- A view of a multiplexer's output has no event of a wrong check word.
 use Rattle.std.proofs.Common.{◌≡◌, ◌∙◌, ℕ, ◌*◌, ◌/◌, ◌-◌, ◌^◌, ◌<◌, ◌==◌, Bool, true, false, cond, List, [], ◌∷◌, ◌++◌, length, map, filter}
 use Rattle.std.proofs.Common.{◌⊎◌, inl, inr, Option, Some, None, Result, Ok, Err, refl, sym, ap, ap₂, subst, arith}
 use Rattle.std.specs.Prelude.{All}
@@ -90,10 +90,10 @@ unfolding other_events is_check_word
 no_other None = refl
 no_other (Some w) = by (belongs w.begin.pid w.begin.table_id)
   where
-    told : Event
-    told = found.Rule (rules.OtherTable (record { pid = w.begin.pid; table = w.begin.table_id; packet = w.begin.packet }))
+    reported : Event
+    reported = found.Rule (rules.OtherTable (record { pid = w.begin.pid; table = w.begin.table_id; packet = w.begin.packet }))
 
-    by : (b : Bool) → filter is_check_word (cond b [] (told ∷ [])) ≡ []
+    by : (b : Bool) → filter is_check_word (cond b [] (reported ∷ [])) ≡ []
     by true = refl
     by false = refl
 
@@ -166,16 +166,16 @@ calm_packet o bytes (Ok packet) rest e = by packet.header.transport_error_indica
     wrong : FindingView
     wrong = record { packet = o.packets; pid = None; begun = None; what = IsErrored }
 
-    told : Bool → Bool → List FindingView
-    told t z = cond t (wrong ∷ []) (cond z [] (map (with_pid packet.header.pid o.packets)
+    reported : Bool → Bool → List FindingView
+    reported t z = cond t (wrong ∷ []) (cond z [] (map (with_pid packet.header.pid o.packets)
         (found_by (state_of packet.header.pid o.states) (entry_of o.packets bytes packet))))
 
-    by : (t z : Bool) → faults_of_all (told t z ++ rest) ≡ [] → Calm (wrongs (told t z)) × (faults_of_all rest ≡ [])
+    by : (t z : Bool) → faults_of_all (reported t z ++ rest) ≡ [] → Calm (wrongs (reported t z)) × (faults_of_all rest ≡ [])
     by true z k = ((refl, tt), k)
     by false true k = (tt, k)
     by false false k = calm_list packet.header.pid o.packets _ rest k
 
--- 3. All packets
+-- 3. All packets of a view
 
 calm_if : (options : ViewOptions) (x : TimesState) (t : TableState) (fs : List FindingView) (o : StreamState) (bytes : List ℕ) → FindsAlike t fs o bytes →
     Calm (wrongs (found_in o bytes)) → filter is_check_word (findings_events options x fs) ≡ []

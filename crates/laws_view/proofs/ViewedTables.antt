@@ -1,4 +1,4 @@
--- The events `table_repetition` of a table in a view, packet by packet.
+-- The events `table_repetition` of a table in a view, packet by packet
 use Rattle.std.proofs.Common.{◌≡◌, ◌∙◌, ℕ, ◌==◌, Bool, true, false, cond, List, [], ◌∷◌, ◌++◌, length, map, filter}
 use Rattle.std.proofs.Common.{inl, inr, Option, Some, None, Result, Ok, Err, refl, sym, ap, ap₂, subst}
 use Rattle.std.specs.Prelude.{All}
@@ -25,11 +25,11 @@ use Rattle.ts_report.specs.StreamTables.{TableState, has_stream}
 use Rattle.ts_report.specs.Views.{ViewState, after_all, after_packet, after_read, table_events_at, with_packet, with_tables, without}
 use Rattle.laws_view.specs.ViewedSections.{sections_in}
 use Rattle.laws_view.proofs.ClockedStreams.{packet_options}
-use Rattle.laws_view.proofs.LateEvents.{Agree, AllOff, AllSmall, Told, all, late, none_late, none_owned, own, sections_at}
+use Rattle.laws_view.proofs.LateEvents.{Agree, AllOff, AllSmall, ReportsErrors, all, late, none_late, none_owned, own, sections_at}
 use Rattle.laws_view.proofs.SmallSections.{AllSmallIn}
 use Rattle.laws_view.proofs.ViewedFindings.{Alike, FindsAlike, IsLookedAt, IsOfStream, Next, counter_keeps, next, other_pid, packet_keeps}
 
--- 1. What a packet leaves before sections are looked for in it
+-- 1. What a packet leaves before the view looks for sections in it
 
 pub read_keeps : (s : ViewState) (r : Result PacketView PacketError) (pid : ℕ) → has_stream (after_read s r).table pid ≡ false → has_stream s.table pid ≡ false
 unfolding after_read
@@ -107,7 +107,7 @@ stream_elsewhere t (Err error) pid h free = absurd h
 stream_elsewhere t (Ok packet) pid h free = other_pid t packet.header.pid pid h free
 
 module _ (pid table_id : ℕ) where
-  -- 3. Once a stream's buffers have begun on the PID
+  -- 3. After a stream's buffers have begun on the PID
 
   gone_at : (options : ViewOptions) (x : TimesState) (t : TableState) (fs : List FindingView) (o : StreamState) (bytes : List ℕ) → FindsAlike t fs o bytes →
       has_stream t pid ≡ true → late pid table_id (findings_events options x fs) ≡ []
@@ -133,12 +133,12 @@ module _ (pid table_id : ℕ) where
       (gone_at v.seen.options v.seen.tables.times v.table _ o bytes n.found still)
       (gone (after_packet s bytes) (taken o bytes) packets n.alike (All-tail (λ b. length b ≡ 188) bytes packets sizes) still)
 
-  -- 4. Before that
+  -- 4. Before a stream's buffers begin on the PID
 
   step : (rate : ℕ) (options : ViewOptions) (x : TimesState) (t : TableState) (fs : List FindingView) (o : StreamState) (bytes : List ℕ) (j : IntervalState)
       (rest : List SectionBegin) →
       FindsAlike t fs o bytes → has_stream t pid ≡ false → options.arrival ≡ AtRate rate → Agree pid table_id x.intervals j → AllSmall (found_in o bytes) →
-      Told pid table_id (with_findings options x fs).intervals j (findings_events options x fs) (sections_at (found_in o bytes) ++ rest) rest
+      ReportsErrors pid table_id (with_findings options x fs).intervals j (findings_events options x fs) (sections_at (found_in o bytes) ++ rest) rest
   unfolding findings_events with_findings found_in
   step rate options x t fs o bytes j rest (inl e) free at h small =
       let off = off_found pid o.packets bytes o.states (packet_at bytes) (stream_elsewhere t (packet_at bytes) pid e.1 free) in
@@ -159,13 +159,13 @@ module _ (pid table_id : ℕ) where
             (sym (events_alike options x fs (found_in o bytes) e.0));
       }
 
-  -- the events are the first of the errors, and all if no stream's buffers begin on the PID
+  -- The events are the first of the errors; if no stream's buffers begin on the PID, they are all errors.
   pub record Whole (s : ViewState) (j : IntervalState) (packets : List (List ℕ)) (sections : List SectionBegin) : Type 0 where
     pub rest : List Event
     pub events_are : late pid table_id (sections_in s packets) ++ rest ≡ map error_event (errors_from j (own pid table_id sections))
     pub none : has_stream (after_all s packets).table pid ≡ false → rest ≡ []
 
-  -- at a packet
+  -- The events at a packet
   here : (rate : ℕ) (s : ViewState) (o : StreamState) (j : IntervalState) (bytes : List ℕ) (packets : List (List ℕ))
       (sizes : All (λ b. length b ≡ 188) (bytes ∷ packets))
       (h : Alike s o) (at : s.seen.options.arrival ≡ AtRate rate) (agree : has_stream s.table pid ≡ false → Agree pid table_id s.seen.tables.times.intervals j)

@@ -1,4 +1,4 @@
--- What is counted of errors in a view of what a multiplexer wrote: nothing.
+-- A view of a multiplexer's output counts no errors.
 use Rattle.std.proofs.Common.{◌≡◌, ◌∙◌, ℕ, ◌+◌, ◌-◌, ◌*◌, ◌/◌, ◌%◌, ◌^◌, ◌≤◌, ◌<◌, ◌==◌, ◌&&◌, Bool, true, false, cond, List, [], ◌∷◌, ◌++◌, length, map}
 use Rattle.std.proofs.Common.{filter}
 use Rattle.std.proofs.Common.{Option, Some, None, Result, Ok, Err, refl, sym, ap, ap₂, subst, arith, append-nil}
@@ -115,7 +115,7 @@ no_accuracy rate judge index pid (Some report) e = none_listed (error_list pid (
 
 -- 2. A packet that is read
 
--- errors and packets that are refused
+-- The counts of errors and of refused packets are 0.
 record Counts (s : SeenState) : Type 0 where
   errors : s.errors ≡ 0
   refused : s.refused ≡ 0
@@ -148,7 +148,7 @@ read_counts rate s (Ok packet) at sound fine h = by packet.header.transport_erro
     by true so each = absurd (let no : ⊥ = cc in no)
     by false so each = fine_counts rate s packet at (each packet refl) h
 
--- its counter
+-- The counter of a packet
 none_broken : (o : Option ContinuityError) → counter_events_by o ≡ [] → is_some o ≡ false
 unfolding counter_events_by
 none_broken None e = refl
@@ -170,7 +170,7 @@ counter_counts s bytes (Ok packet) none h = by packet.header.transport_error_ind
           refused = h.refused;
         }
 
--- 3. Its sections
+-- 3. The sections of a packet
 
 abbrev is_fault : Event → Bool
 is_fault e = is_check_word e || is_some (late_of e)
@@ -266,7 +266,7 @@ all_quiet rate s (bytes ∷ packets) h sound fine counters sections =
     sound.1 fine.1 (none_last (counter_events_at v bytes) (counters_in (after_packet s bytes) packets) counters)
     (none_last (faults (table_events_at v bytes)) _ parts)
 
--- 5. Of a run
+-- 5. A run
 
 no_rule : (r : Result PacketView PacketError) (i : ℕ) → failing None i (packet_rule r) ≡ [] → is_some (sound_packet r) ≡ true
 unfolding failing packet_rule sound_packet
@@ -299,7 +299,7 @@ fine_from r s index (bytes ∷ packets) few h = (
       (subst (λ (x : ViewState). Watches r x (index + 1) packets) (sym (packet_is s bytes)) (next_watches r s index bytes packets (omega (arith, few)) h)),
 )
 
--- no event of these is a fault
+-- None of these events is a fault.
 none_of_all : (events : List Event) → ((pid : ℕ) → filter (is_late_on pid) events ≡ []) → filter is_check_word events ≡ [] → faults events ≡ []
 none_of_all [] late words = refl
 none_of_all (e ∷ events) late words =

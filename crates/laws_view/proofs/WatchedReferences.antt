@@ -1,4 +1,4 @@
--- The clock references of a run on each PID as a view watches them: each that comes is within the limits.
+-- A view watches the clock references of a run on each PID: each reference is within the limits.
 use Rattle.std.proofs.Common.{◌≡◌, ◌∙◌, sym, ℕ, ◌+◌, ◌-◌, ◌*◌, ◌/◌, ◌%◌, ◌^◌, ◌≤◌, ◌<◌, ◌⊎◌, true, false, List, [], ◌∷◌, Option, Some, None}
 use Rattle.std.proofs.Common.{refl, ap, subst, inl, inr, arith}
 use Rattle.std.specs.Prelude.{All, IfSome, max, nat_eq, unwrap_or}
@@ -33,12 +33,12 @@ use Rattle.laws_view.proofs.DueByClock.{reference_at}
 use Rattle.laws_view.proofs.Lists.{itself, lookup_other, lookup_same}
 use Rattle.laws_view.proofs.ReferenceReports.{IsNext, next_within}
 
--- ---- the reference of a packet of a run
+-- The clock reference of a packet in a run
 
 ticks_again : (t : ℕ) → t < 2576980377600 → 300 * (t / 300 % 8589934592) + t % 300 % 512 ≡ t
 ticks_again t low = omega (arith, low)
 
--- a reference in that packet with this value
+-- The clock reference in this packet with this value
 abbrev sample_saying : ℕ → ℕ → PcrSample
 sample_saying index ticks = record { byte = 188 * index + 10; ticks = ticks; discontinuity = false }
 
@@ -50,7 +50,7 @@ sample_is rate base0 pid index few =
     let t : ℕ = pcr_ticks rate base0 (188 * index + 10) in
     rw near (ap (λ (x : ℕ). Some (sample_saying index x)) (ticks_again t (ticks_low rate base0 (188 * index + 10))))
 
--- ---- what is kept of a PID
+-- The kept state of a PID
 
 unfoldable pub sample_kept : Option TimedSample → Option PcrSample
 sample_kept None = None
@@ -68,7 +68,7 @@ unfoldable pub NoReferences : List Entry → Type 0
 NoReferences [] = Unit {0}
 NoReferences (e ∷ es) = (pcr_sample e.index e.packet ≡ None) × NoReferences es
 
--- a run: its rate, the clock's value at its begin, and its slots
+-- A run: its rate, the clock's value at its begin, and its slots.
 pub record Rated : Type 0 where
   pub rate : ℕ
   pub base0 : ℕ
@@ -77,7 +77,7 @@ pub record Rated : Type 0 where
   pub most : rate ≤ 100000000
   pub few : slots ≤ most_packets
 
--- each packet on the PID from an index on is a reference, and they recur within 100 ms; or none has one
+-- From an index on, either each packet of the PID is a clock reference and they recur within 100 ms, or no packet has one.
 abbrev pub Comes : Rated → ℕ → ℕ → Option PcrSample → List Entry → Type 0
 Comes r pid index last es = (AreClocks r.rate r.base0 pid es × IsReference r.rate r.base0 100 r.slots index last es) ⊎ NoReferences es
 
@@ -86,13 +86,13 @@ pub record Watched (r : Rated) (pid index : ℕ) (w : PcrState) (es : List Entry
   pub comes : Comes r pid index (sample_kept w.clock.last) es
 
 other_comes : (r : Rated) (pid index : ℕ) (last : Option PcrSample) (es : List Entry) → Comes r pid index last es → Comes r pid (index + 1) last es
-other_comes r pid index last es (inl told) = inl (told.0, later_reference r.rate r.base0 100 r.slots index last es told.1)
+other_comes r pid index last es (inl reported) = inl (reported.0, later_reference r.rate r.base0 100 r.slots index last es reported.1)
 other_comes r pid index last es (inr none) = inr none
 
 other_watched : (r : Rated) (pid index : ℕ) (w : PcrState) (es : List Entry) → Watched r pid index w es → Watched r pid (index + 1) w es
 other_watched r pid index w es h = record { timing = h.timing; comes = other_comes r pid index (sample_kept w.clock.last) es h.comes }
 
--- ---- a reference comes
+-- A clock reference comes.
 
 first_or_next : (r : Rated) (index : ℕ) (last : Option TimedSample) (line : Option Line) (e : Entry) (es : List Entry) → e.index ≡ index →
     IsReference r.rate r.base0 100 r.slots index (sample_kept last) (e ∷ es) →
@@ -117,12 +117,12 @@ own_report r pid index bytes packet w es few h = by h.comes
     e = record { index = index; bytes = bytes; packet = packet }
 
     by : Comes r pid index (sample_kept w.clock.last) (e ∷ es) → IfSome (report_in w (pcr_sample index packet)) IsWithin
-    by (inl told) =
+    by (inl reported) =
         let sample : pcr_sample index packet ≡ Some (reference_at r.rate r.base0 index) =
-        ap (λ (q : PacketView). pcr_sample index q) told.0.0 ∙ sample_is r.rate r.base0 pid index (omega (arith, few, r.few)) in
+        ap (λ (q : PacketView). pcr_sample index q) reported.0.0 ∙ sample_is r.rate r.base0 pid index (omega (arith, few, r.few)) in
         subst (λ (o : Option PcrSample). IfSome (report_in w o) IsWithin) (sym sample)
         (subst (λ (t : PcrTiming). IsWithin (report_after t w.clock (reference_at r.rate r.base0 index))) (sym h.timing)
-        (first_or_next r index w.clock.last w.clock.line e es refl told.1))
+        (first_or_next r index w.clock.last w.clock.line e es refl reported.1))
     by (inr none) = subst (λ (o : Option PcrSample). IfSome (report_in w o) IsWithin) (sym none.0) tt
 
 own_watched : (r : Rated) (pid index : ℕ) (bytes : List ℕ) (packet : PacketView) (w : PcrState) (es : List Entry) → index < r.slots →
@@ -135,18 +135,18 @@ own_watched r pid index bytes packet w es few h = by h.comes
     e = record { index = index; bytes = bytes; packet = packet }
 
     by : Comes r pid index (sample_kept w.clock.last) (e ∷ es) → Watched r pid (index + 1) (watch_after w (pcr_sample index packet)) es
-    by (inl told) =
+    by (inl reported) =
         let sample : pcr_sample index packet ≡ Some (reference_at r.rate r.base0 index) =
-        ap (λ (q : PacketView). pcr_sample index q) told.0.0 ∙ sample_is r.rate r.base0 pid index (omega (arith, few, r.few)) in
+        ap (λ (q : PacketView). pcr_sample index q) reported.0.0 ∙ sample_is r.rate r.base0 pid index (omega (arith, few, r.few)) in
         subst (λ (o : Option PcrSample). Watched r pid (index + 1) (watch_after w o) es) (sym sample)
         (record {
           timing = h.timing;
-          comes = inl (told.0.1, next_reference r.rate r.base0 100 r.slots index (sample_kept w.clock.last) e es refl told.1);
+          comes = inl (reported.0.1, next_reference r.rate r.base0 100 r.slots index (sample_kept w.clock.last) e es refl reported.1);
         })
     by (inr none) = subst (λ (o : Option PcrSample). Watched r pid (index + 1) (watch_after w o) es) (sym none.0)
         (record { timing = h.timing; comes = inr none.1 })
 
--- ---- a packet of any PID
+-- A packet of any PID
 
 same_watch : (s : WatchesState) (pid : ℕ) (o : Option PcrSample) → watch_of (taken_if s pid o) pid ≡ watch_after (watch_of s pid) o
 unfolding taken_if watch_after watch_or_new
@@ -192,7 +192,7 @@ report_watched r index bytes packet s es few h =
     let own = own_report r pid index bytes packet (watch_of s pid) es few (rw (itself packet.header.pid) at h) in
     subst (λ (o : Option PcrReport). IfSome o IsWithin) (sym (report_is s pid (pcr_sample index packet))) own
 
--- ---- what is counted of the reports
+-- The counts of the reports
 
 abbrev pub AllFine : WatchesState → Type 0
 AllFine s = All IsFineClock s.watches
@@ -237,7 +237,7 @@ fine_taken s pid (Some sample) all within =
       inaccuracy = near_counted w.counts.inaccuracy report.inaccuracy before.inaccuracy within.inaccuracy;
     })
 
--- a packet more
+-- One more packet keeps `AllFine`.
 pub one_fine : (r : Rated) (index : ℕ) (bytes : List ℕ) (o : Option PacketView) (s : WatchesState) (es : ℕ → List Entry) → index < r.slots →
     ((pid : ℕ) → Watched r pid index (watch_of s pid) (listed pid index bytes o (es pid))) → AllFine s → AllFine (watches_after s index o)
 unfolding watches_after

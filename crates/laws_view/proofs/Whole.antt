@@ -1,4 +1,4 @@
--- What is known before a packet of a stream, what stays of its entry, and the number of excesses that are counted.
+-- The known state before a packet of a stream, the lasting part of its entry, and the number of counted excesses
 use Rattle.std.proofs.Common.{◌≡◌, ◌∙◌, sym, ℕ, ◌+◌, ◌^◌, ◌<◌, List, [], ◌∷◌, ◌++◌, length, Option, Some, None, refl, ap, arith}
 use Rattle.std.specs.Prelude.{flat_map, slice_get}
 use Rattle.std.specs.Option.{option_to_list}
@@ -18,7 +18,7 @@ use Rattle.laws_view.proofs.Entries.{Agree}
 use Rattle.laws_view.proofs.Steps.{after_sound, clock_known, excesses_more, next, packet_is, sound_agrees, sound_options, sound_packets, sound_steps}
 use Rattle.laws_view.proofs.StreamIndices.{index_more}
 
--- ---- what is known before a packet
+-- What a view knows before a packet
 
 pub record Knows (s : ViewState) (f : Followed) (b : Before) : Type 0 where
   pub options : s.seen.options ≡ f.options
@@ -58,7 +58,7 @@ none_agree request = record { at = λ pid j h. absurd (let no : ⊥ = cc in no);
     none : (j : ℕ) (e : EntryState) → slice_get [] j ≡ Some e → ⊥
     none j e h = cc
 
--- an entry stays where it is, with its PID
+-- An entry keeps its place and its PID.
 pub entry_stays : (s : ViewState) (packets : List (List ℕ)) (j : ℕ) (e : EntryState) → Agree s.table → s.seen.packets + length packets < 2 ^ 64 →
     slice_get s.table.entries j ≡ Some e →
     (e' : EntryState) × ((slice_get (after_all s packets).table.entries j ≡ Some e') × (e'.pid ≡ e.pid))
@@ -73,7 +73,7 @@ entry_stays s (bytes ∷ packets) j e agree few there =
     let same : rest.0.pid ≡ e.pid = rest.1.1 ∙ ap (λ (x : Followed). x.pid) step.1.1.same_stream in
     (rest.0, (ap (λ (x : ViewState). slice_get (after_all x packets).table.entries j) (packet_is s bytes) ∙ rest.1.0, same))
 
--- ---- excesses that are counted
+-- The counted excesses
 
 pub excesses_exact : (n : ℕ) (vs : List EnteredView) → n + length (flat_map (λ v. v.transport) vs) < 2 ^ 64 →
     excesses_more n vs ≡ n + length (flat_map (λ v. v.transport) vs)

@@ -1,4 +1,4 @@
--- The last events of a stream.
+-- The last events of a stream
 use Rattle.std.proofs.Common.{◌≡◌, ◌∙◌, sym, ap, refl, ℕ, List, ◌++◌, ◌∷◌, [], None}
 use Rattle.std.proofs.lemmas.List.{append_assoc}
 use Rattle.events.specs.declared.event.Event.{Event}

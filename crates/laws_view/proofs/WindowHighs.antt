@@ -1,4 +1,4 @@
--- The greatest that a line `held` says of a main buffer is its greatest fullness from the first payload byte of the window's packets on.
+-- The greatest number of a main buffer in a line `held` is its greatest fullness from the first payload byte of the window's packets on.
 use Rattle.std.proofs.Common.{◌≡◌, ◌∙◌, sym, ℕ, ◌+◌, ◌-◌, ◌*◌, ◌<◌, is_some, max, Bool, true, false, List, [], ◌∷◌, ◌++◌, length, map, Option, Some, None}
 use Rattle.std.proofs.Common.{if◌then◌else◌, refl, ap, subst, inl, inr, arith}
 use Rattle.std.proofs.lemmas.Bool.{cases_lt}
@@ -23,13 +23,13 @@ use Rattle.laws_view.specs.WindowHighs.{HighWithoutLaw, IsHighWith, WholeHighLaw
 use Rattle.laws_view.proofs.MainHighs.{entries_of, is_high}
 use Rattle.laws_view.proofs.WindowLows.{each_comes, in_that_window, is_nothing, least_some, none_has, nothing_comes, same_window, window_without_law}
 
--- ---- where a byte of them enters
+-- Packets with a byte that enters
 
 append_none : (es ds : List ℕ) → es ++ ds ≡ [] → (es ≡ []) × (ds ≡ [])
 append_none [] ds none = (refl, none)
 append_none (e ∷ es) ds none = let no : ⊥ = cc in absurd no
 
--- parts of which no payload byte enters have no least
+-- Parts without a payload byte that enters have no least.
 none_least : (step : ℕ) (recent before : List Part) → entries_of step recent before ≡ [] → least_of step recent before ≡ None
 unfolding entries_of least_of least_of_both least_found
 none_least step [] before none = refl
@@ -54,7 +54,7 @@ window_high_law h xs pos has =
     let high = is_high h.rate first.0 first.1 come.recent h.parts pos first.2 in
     subst (λ (n : ℕ). IsHighWith h xs n) come.most_found (record { recent = come.recent; come = come.parts; high = high })
 
--- ---- what is counted
+-- The counts of a window
 
 unit_most : (t : Tally) (window : ℕ) (unit : Option UnitSeen) → t.window ≡ window →
     ((with_unit_if t window unit).window_main ≡ t.window_main) × ((with_unit_if t window unit).window ≡ window)
@@ -90,7 +90,7 @@ whole_high_law t window h xs (v ∷ vs) pos none same has =
     let most = window_most_law t window v vs none ∙ ap (λ (l : List EnteredView). most_after 0 l) same in
     subst (λ (n : ℕ). IsHighWith h xs n) (sym most) (window_high_law h xs pos has)
 
--- ---- where none of them enters
+-- Packets without a byte that enters
 
 above : (n : ℕ) → (n ≡ 0 → ⊥) → 0 < n
 above n not = elim (cases_lt 0 n) [

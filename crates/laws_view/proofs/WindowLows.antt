@@ -1,4 +1,4 @@
--- The least that a line `held` says of a main buffer is its least fullness while the packets of the window come.
+-- The least number of a main buffer in a line `held` is its least fullness while the packets of the window come.
 use Rattle.std.proofs.Common.{◌≡◌, ◌∙◌, sym, ℕ, zero, suc, ◌+◌, ◌-◌, ◌*◌, ◌^◌, ◌<◌, ◌&&◌, is_some, nat_le, nat_lt, max, min, Bool, true, false, List, [], ◌∷◌}
 use Rattle.std.proofs.Common.{◌++◌, length, map, Option, Some, None, if◌then◌else◌, refl, ap, subst, inl, inr, arith, append_assoc}
 use Rattle.std.proofs.lemmas.Bool.Decides.{eqb_tells}
@@ -31,7 +31,7 @@ use Rattle.laws_view.specs.WindowHighs.{most_after}
 use Rattle.laws_view.specs.WindowLows.{HasPayload, WholeWindowLaw, WindowLeastLaw, WindowLowLaw, WindowWithoutLaw, counted_each, least_after, still_held}
 use Rattle.laws_view.proofs.MainHighs.{most_of, most_of-append}
 
--- ---- one of several
+-- The least of several numbers
 
 both_assoc : (a b c : Option ℕ) → least_of_both (least_of_both a b) c ≡ least_of_both a (least_of_both b c)
 unfolding least_of_both
@@ -45,7 +45,7 @@ unfolding least_of_both
 both_none None = refl
 both_none (Some m) = refl
 
--- of parts after others
+-- The least for two lists of parts is the lesser of both.
 least_of-append : (step : ℕ) (later recent before : List Part) →
     least_of step (later ++ recent) before ≡ least_of_both (least_of step recent before) (least_of step later (recent ++ before))
 unfolding least_of
@@ -58,9 +58,9 @@ least_of-append step (Carries ts ∷ later) recent before =
     ∙ both_assoc (least_of step recent before) (least_of step later (recent ++ before)) (row_least step (later ++ (recent ++ before)) ts)
 least_of-append step (Begins due ∷ later) recent before = least_of-append step later recent before
 
--- ---- what comes with a packet
+-- The parts of a packet
 
--- parts come, and these are the least that their bytes find and the most when one of them enters
+-- Parts come: the least that their bytes find, and the most when any of them enters.
 pub record Comes (h h' : Held) (least : Option ℕ) (most : ℕ) : Type 0 where
   pub recent : List Part
   pub parts : h'.parts ≡ recent ++ h.parts
@@ -147,7 +147,7 @@ packet_comes h arrival p = by (takes_in h arrival p)
     by true = parts_come h arrival p (size_of p) (lead_in arrival p)
     by false = nothing_comes h
 
--- ---- packets one after another
+-- The packets of a window, one after another
 
 pub each_comes : (h h' : Held) (least : Option ℕ) (most : ℕ) (xs : List Entering) → Comes h h' least most →
     Comes h (after_entering h' xs) (least_after least (entered_by h' xs)) (most_after most (entered_by h' xs))
@@ -163,7 +163,7 @@ window_low_law h xs n pos is =
     let come = each_comes h h None 0 xs (nothing_comes h) in
     record { recent = come.recent; come = come.parts; low = lows_law h.rate come.recent h.parts n pos (come.found ∙ is) }
 
--- ---- what is counted
+-- The counts of a window
 
 pub same_window : (t : Tally) (window : ℕ) → t.window ≡ window → in_window t window ≡ t
 same_window t window is = elim (eqb_tells t.window window) [
@@ -206,7 +206,7 @@ window_least_law t window v vs none =
     each_least (tally_after t window v.0 v.1) window vs one.1
     ∙ ap (λ (n : Option ℕ). least_after n (map (λ w. w.1) vs)) (one.0 ∙ ap (λ (n : Option ℕ). least_of_both n v.1.main_least) none)
 
--- ---- where a packet carries payload
+-- Packets with payload
 
 found_some : (before : ℕ → ℕ) (until n m : ℕ) (ts : List ℕ) → is_some (least_found before until n (Some m) ts) ≡ true
 unfolding least_found lesser
@@ -295,7 +295,7 @@ whole_window_law t window h xs (v ∷ vs) pos none same has =
     let some = is_there (least_after None (entered_by h xs)) (least_some None h xs has) in
     record { n = some.0; said = least ∙ some.1; low = window_low_law h xs some.0 pos some.1 }
 
--- ---- where none does
+-- Packets without payload
 
 none_of_both : (a b : Option ℕ) → least_of_both a b ≡ None → (a ≡ None) × (b ≡ None)
 unfolding least_of_both
@@ -314,7 +314,7 @@ no_times before until (t ∷ ts) none =
     absurd (is_nothing (least_found before until (0 + 1) (Some (before t + 0 * one_buffered until t)) ts) none
     (found_some before until (0 + 1) (before t + 0 * one_buffered until t) ts))
 
--- parts of which no payload byte enters change nothing in the main buffer
+-- Parts without a payload byte that enters leave the main buffer as it is.
 still : (step : ℕ) (recent before : List Part) → least_of step recent before ≡ None → (x : ℕ) →
     main_fullness step (recent ++ before) x ≡ main_fullness step before x
 unfolding least_of main_fullness

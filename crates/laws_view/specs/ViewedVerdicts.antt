@@ -1,4 +1,5 @@
--- The verdict of a view on what a multiplexer wrote goes by buffers and units alone: its packets, counters, clock references and tables are good.
+-- The counts of a view on what a multiplexer wrote go by buffers and units alone: its packets, counters, clock references and tables are good. The
+-- verdict also needs that no event is a fault.
 use Rattle.std.specs.Prelude.{◌≡◌, ℕ, ◌%◌, ◌≤◌, ◌&&◌, false, List, [], length, Some, None}
 use Rattle.ts_packet.specs.PidList.{cut_packets}
 use Rattle.slot_contents.specs.Contents.{run_bytes}
@@ -25,7 +26,7 @@ use Rattle.laws_view.specs.ViewedTables.{AreBytes}
 abbrev pub HasNoReadyMade : Described → Type 0
 HasNoReadyMade d = (t i : ℕ) → table_kind d t ≡ Some (Private i) → ⊥
 
--- the verdict at the end is good exactly if the buffers of programs' tables fit and each stream is good: its buffers, and its units
+-- the counts are good at the end exactly if the buffers of programs' tables fit and each stream is good: its buffers, and its units
 abbrev pub GoesByBuffers : RequestView → List ℕ → Type 0
 GoesByBuffers request bytes = is_good (after_all (start request) (cut_packets bytes)) (length bytes % 188)
     ≡ (all_fit (after_all (start request) (cut_packets bytes)).table.choice (known (after_all (start request) (cut_packets bytes)).seen.systems)

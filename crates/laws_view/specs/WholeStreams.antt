@@ -59,13 +59,13 @@ pub record SaysAll (step : ℕ) (times : List ℕ) (vs : List EnteredView) (e : 
   -- the line `transport` has the greatest number of bytes in the transport buffer over all moments
   pub transport : IsPeak (λ x. fullness x times (departures step 0 times)) (transport_most e.held)
   -- and the number of all excesses: the excesses of the events `excess`, in order, and the excess that is open at the end
-  pub told : flat_map (λ v. v.transport) vs ++ option_to_list (transport_under_way e.held) ≡ excesses step tb_size times
+  pub reported : flat_map (λ v. v.transport) vs ++ option_to_list (transport_under_way e.held) ≡ excesses step tb_size times
   pub excesses : (window : ℕ) → with_one (closed window e).excesses (transport_under_way e.held) ≡ length (excesses step tb_size times)
   -- the line `main` has the greatest number of bytes in the main buffer over all moments: payload bytes that have left the transport buffer by
   -- that moment, and whose unit has not left the main buffer
   pub main : IsPeak (main_fullness step e.held.parts) (main_most e.held)
   -- and the number of all units and of the late units: the units that end with one of these packets, and the last unit
-  pub told_units : flat_map (λ v. option_to_list v.unit) vs ≡ units_ended step e.held.parts
+  pub reported_units : flat_map (λ v. option_to_list v.unit) vs ≡ units_ended step e.held.parts
   pub units : (window : ℕ) → (closed window e).units ≡ length (all_units step e.held.parts)
   pub late : (window : ℕ) → (closed window e).late ≡ count_by is_late (all_units step e.held.parts)
 

@@ -75,9 +75,9 @@ pub fn clocked_windows()
 /// find in it, themselves counted, which is the greatest fullness of the buffer from their first payload byte on:
 /// earlier it may be more. A report counts it so for a stream whose buffers began before the window, whichever way
 /// packets arrive; if no byte enters, the line says what the buffer still holds. The greatest of a transport buffer is
-/// its greatest fullness from the first byte of the window's packets on, if bytes arrive in their order, as they do at a
-/// constant rate and by clock references. If the buffers begin in the window, the line says what the lines `transport`
-/// and `main` say so far.
+/// its greatest fullness from the first byte of the window's packets on, if bytes arrive in their order, as they do at
+/// a constant rate and by clock references. If the buffers begin in the window, the line says what the lines
+/// `transport` and `main` say so far.
 pub fn window_highs()
     ensures counted { WindowMostLaw }
     ensures main { WindowHighLaw }
@@ -131,8 +131,8 @@ pub fn muxed_units()
     ensures jobs { JobLateLaw }
 {}
 
-/// States that no clock reference of it has an error (ETSI TR 101 290, 5.2.2, 2.3.a, 2.3.b and 2.4): each comes at most 100 ms after the one
-/// before it on its PID, with a value within a tick of its place.
+/// States that no clock reference of it has an error (ETSI TR 101 290, 5.2.2, 2.3.a, 2.3.b and 2.4): each comes at most
+/// 100 ms after the one before it on its PID, with a value within a tick of its place.
 pub fn muxed_references()
     ensures run { RunReferencesLaw }
     ensures jobs { JobReferencesLaw }
@@ -181,8 +181,8 @@ pub fn viewed_counters()
 {}
 
 /// States that in the output of a multiplexer, at its rate, no section of the PAT, of a program's map, of NIT, SDT and
-/// EIT of the actual stream, and of the TDT is late by the rules of a view (ETSI TR 101 290, 1.3.a, 1.5.a, 3.1.a, 3.5.a,
-/// 3.6.a and 3.8): of the EIT sections 0 and 1 each by themselves.
+/// EIT of the actual stream, and of the TDT is late by the rules of a view (ETSI TR 101 290, 1.3.a, 1.5.a, 3.1.a,
+/// 3.5.a, 3.6.a and 3.8): of the EIT sections 0 and 1 each by themselves.
 pub fn muxed_tables()
     ensures run { RunTablesLaw }
     ensures jobs { JobTablesLaw }
@@ -214,8 +214,9 @@ pub fn muxed_table_events()
     ensures jobs { JobTableEventsLaw }
 {}
 
-/// States that without ready-made tables the verdict of a view on this output depends on buffers and units alone: no
-/// packet is refused, no error of a counter, a clock reference or a table is counted, and no byte is left.
+/// States that without ready-made tables the counts of a view on this output (`is_good` of `ts_report`) depend on
+/// buffers and units alone: no packet is refused, no error of a counter, a clock reference or a table is counted, and no
+/// byte is left. The verdict of `tsview` also needs that no event is a fault.
 pub fn muxed_verdicts()
     ensures run { RunVerdictLaw }
     ensures jobs { JobVerdictLaw }

@@ -2,22 +2,30 @@
 //!
 //! Each function here does nothing: its contract is the law, over the definitions of `ts_report`, `tstd` and
 //! `mux_core`. Definitions in `specs/`:
-//! - `StreamPackets`: which packets are a stream's, and how its buffers see them; `StreamUnits`: which units they carry.
-//! - `WholeStreams`: what a stream's last lines say of all its packets at a constant rate; `TimedStreams`: whichever way they arrive.
-//! - `WindowLows`, `HeldWindows`: the least that a window's line says of a main buffer; `ClockedWindows`: the same by clock references.
-//! - `WindowHighs`, `TransportHighs`: the greatest of the main and transport buffer; `FirstHighs`: both in the window where they begin.
+//! - `StreamPackets`: which packets are a stream's, and how its buffers see them; `StreamUnits`: which units they
+//!   carry.
+//! - `WholeStreams`: what a stream's last lines say of all its packets at a constant rate; `TimedStreams`: whichever
+//!   way they arrive.
+//! - `WindowLows`, `HeldWindows`: the least that a window's line says of a main buffer; `ClockedWindows`: the same by
+//!   clock references.
+//! - `WindowHighs`, `TransportHighs`: the greatest of the main and transport buffer; `FirstHighs`: both in the window
+//!   where they begin.
 //! - `MainExcesses`: when a main buffer has no excess; `MeasuredStreams`: what measuring the same bytes finds.
-//! - `MuxedStreams`, `ViewedRuns`: a multiplexer's output, with no late unit and no main buffer too full, and when its tables come first.
+//! - `MuxedStreams`, `ViewedRuns`: a multiplexer's output, with no late unit and no main buffer too full, and when its
+//!   tables come first.
 //! - `ViewedReferences`: a multiplexer's output, with no clock reference late or inaccurate.
 //! - `VideoExcesses`: a multiplexer's output, with neither buffer of video too full.
 //! - `FrameExcesses`: a multiplexer's output, with no main buffer of sound too full that is viewed by access units.
-//! - `ViewedCounters`, `ViewedSections`, `ViewedTables`: a view's events of counters, check words and late tables; `ViewedVerdicts`: its verdict.
+//! - `ViewedCounters`, `ViewedSections`, `ViewedTables`: a view's events of counters, check words and late tables;
+//!   `ViewedVerdicts`: its verdict.
 //! - `MuxedTables`, `HomeTables`: a multiplexer's tables, never late, and on their PIDs.
-//! - `CarriedStreams`: which packets carry units, and their clock references; `AsMeasured`: when the figures equal the measured numbers.
+//! - `CarriedStreams`: which packets carry units, and their clock references; `AsMeasured`: when the figures equal the
+//!   measured numbers.
 //!
-//! - [`laws`]: the last lines of a stream are about all packets of its PID and say no more than the measured numbers, and the same numbers
-//!   if units are carried so; a multiplexer's output has no excess of a transport buffer, no late unit, and no excess of a main buffer;
-//!   nor a break of a counter, a wrong check word, a late table that is not ready-made, or an error of a clock reference.
+//! - [`laws`]: the last lines of a stream are about all packets of its PID and say no more than the measured numbers,
+//!   and the same numbers if units are carried so; a multiplexer's output has no excess of a transport buffer, no late
+//!   unit, and no excess of a main buffer; nor a break of a counter, a wrong check word, a late table that is not
+//!   ready-made, or an error of a clock reference.
 #![tactic(auto)]
 
 pub mod laws;

@@ -1,4 +1,4 @@
--- What is found has begun by then, packet by packet of a stream.
+-- In each packet of a stream, the unit of a finding begins no later than this packet.
 use Rattle.std.proofs.Common.{ℕ, zero, suc, ◌-◌, ◌≤◌, ◌==◌, Bool, true, false, cond, List, [], ◌∷◌, ◌++◌, length, map, Option, Some, None, Result, Ok, Err}
 use Rattle.std.proofs.Common.{arith}
 use Rattle.std.specs.Prelude.{option_map}
@@ -17,7 +17,7 @@ use Rattle.pid_findings.specs.Shown.{with_pid}
 use Rattle.demux.specs.Stream.{States, entry_of, findings_by, state_of, states_by, without_pid, with_state}
 use Rattle.monitor.proofs.MapSteps.{all_begun_by_then, begun_by_then}
 
--- 1. At one packet
+-- 1. The findings at one packet
 
 abbrev pub founds_by : ℕ → List Found → Type 0
 founds_by index [] = Unit {0}
@@ -117,7 +117,7 @@ at_by m held h = by m.duplicate
     by true = (tt, tt)
     by false = break_by m.entry.index m.broken (role m) held h
 
--- 2. What is open
+-- 2. The open unit of a PID
 
 open_by : (index : ℕ) (part : OpenUnit) (o : Option WhatView) → part.packet ≤ index → part_by index (unless_decided part o)
 unfolding unless_decided
@@ -148,7 +148,7 @@ step_by : (m : Marked) (s : PidState) → part_by m.entry.index s.open_unit → 
 unfolding step_marked
 step_by m s h = next_by m.entry.index (role m) (unbroken m.broken s.open_unit) (unbroken_by m.entry.index m.broken s.open_unit h)
 
--- 3. The states of a stream
+-- 3. The states of all PIDs of a stream
 
 abbrev pub states_within : ℕ → States → Type 0
 states_within index [] = Unit {0}
@@ -179,9 +179,9 @@ with_within index pid state (x ∷ states) k h = by (pid == x.0) (with_within in
     by true l = (k, h.1)
     by false l = (h.0, l)
 
-pub told_by : (pid index : ℕ) (found : List Found) → founds_by index found → all_begun_by_then (map (with_pid pid index) found)
-told_by pid index [] h = tt
-told_by pid index (x ∷ found) h = (h.0, told_by pid index found h.1)
+pub reported_by : (pid index : ℕ) (found : List Found) → founds_by index found → all_begun_by_then (map (with_pid pid index) found)
+reported_by pid index [] h = tt
+reported_by pid index (x ∷ found) h = (h.0, reported_by pid index found h.1)
 
 pub findings_within : (index : ℕ) (bytes : List ℕ) (states : States) (r : Result PacketView PacketError) → states_within index states →
     all_begun_by_then (findings_by index bytes states r)
@@ -196,7 +196,7 @@ findings_within index bytes states (Ok packet) h = by packet.header.transport_er
         (cond z [] (map (with_pid packet.header.pid index) (found_by s (entry_of index bytes packet)))))
     by true z = (tt, tt)
     by false true = tt
-    by false false = told_by packet.header.pid index (found_by s (entry_of index bytes packet))
+    by false false = reported_by packet.header.pid index (found_by s (entry_of index bytes packet))
         (at_by (mark s.last (entry_of index bytes packet)) s.open_unit (state_within index packet.header.pid states h))
 
 pub states_next : (index : ℕ) (bytes : List ℕ) (states : States) (r : Result PacketView PacketError) → states_within index states →

@@ -1,4 +1,4 @@
--- The order in which the program compares faults is that of the definition.
+-- The program compares faults in the order of the definition.
 use Rattle.std.proofs.Common.{◌≡◌, ℕ, ◌-◌, ◌==◌, ◌<◌, Bool, true, false, cond, List, [], ◌∷◌, Option, Some, None, refl, sym, ap, subst, ◌∙◌, arith}
 use Rattle.std.specs.Prelude.{nat_lt, slice_index_or}
 use Rattle.std.specs.List.{list_all}
@@ -42,7 +42,7 @@ listed rules.Pcr = (refl, refl)
 listed rules.Pts = (refl, refl)
 listed rules.Cut = (refl, refl)
 
--- what passes for all that are listed passes for each
+-- A test that each listed rule passes is passed by every rule.
 each_rule : (p : Rule → Bool) → list_all p all_rules ≡ true → (r : Rule) → p r ≡ true
 unfolding all_rules
 each_rule p h r =

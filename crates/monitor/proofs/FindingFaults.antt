@@ -1,4 +1,4 @@
--- Findings that fail by themselves, on each PID and in the whole stream.
+-- Findings that are faults by themselves, on each PID and in the whole stream.
 use Rattle.std.proofs.Common.{⊎_elim, ◌≡◌, ℕ, ◌==◌, Bool, true, false, cond, List, [], ◌∷◌, ◌++◌, map, Option, Some, None, refl, sym, ap, subst, ◌∙◌, arith}
 use Rattle.std.specs.List.{flat_map}
 use Rattle.std.proofs.lemmas.Bool.Decides.{nat_tests}
@@ -14,11 +14,11 @@ use Rattle.monitor.proofs.FindingSteps.{faults_on, faults_of_all}
 no_false : true ≡ false → ⊥
 no_false e = grind arith
 
--- the faults of a PID's findings, as they stand in the stream
-pub faults_told : (pid : ℕ) (found : List PidFinding) → faults_of_all (map (with_pid_at pid) found) ≡ finding_faults pid found
+-- The faults of a PID's findings are the same among the findings of the stream.
+pub faults_reported : (pid : ℕ) (found : List PidFinding) → faults_of_all (map (with_pid_at pid) found) ≡ finding_faults pid found
 unfolding faults_of_all faults_on
-faults_told pid [] = refl
-faults_told pid (x ∷ found) = ap (λ (xs : List StreamFault). failing (Some pid) x.packet (finding_rule x.found.what) ++ xs) (faults_told pid found)
+faults_reported pid [] = refl
+faults_reported pid (x ∷ found) = ap (λ (xs : List StreamFault). failing (Some pid) x.packet (finding_rule x.found.what) ++ xs) (faults_reported pid found)
 
 pub of_pid_in : (pid : ℕ) (z : StreamFault) (found : List FindingView) → has z (faults_of_all (found_of pid found)) ≡ true → has z (faults_of_all found) ≡ true
 unfolding faults_of_all
@@ -34,7 +34,7 @@ of_pid_in pid z (f ∷ found) e = by (of_pid_in pid z found) (has_pid pid f.pid)
         ⊎_elim (in_left z new (faults_of_all found)) (λ m. in_right z new (faults_of_all found) (h m)) (in_either z new (faults_of_all (found_of pid found)) k)
     by h false k = in_right z new (faults_of_all found) (h k)
 
--- a finding of some PID stands behind each fault
+-- Each fault is due to a finding on some PID.
 pid_of : (z : StreamFault) (packet : ℕ) (o : Option ℕ) (f : FindingView) → f.pid ≡ o → has z (faults_on f.packet f.pid f.what) ≡ true →
     (pid : ℕ) × (has_pid pid f.pid ≡ true)
 unfolding faults_on has
@@ -66,7 +66,7 @@ of_pid_out z (f ∷ found) e = ⊎_elim here (there (of_pid_out z found)) (in_ei
         has z (faults_of_all found) ≡ true → (pid : ℕ) × (has z (faults_of_all (found_of pid (f ∷ found))) ≡ true)
     there h m = let k = h m in (k.0, by k.0 (has_pid k.0 f.pid) k.1)
 
--- so the faults of a stream's findings are those of each PID
+-- The faults of a stream's findings are the faults of all PIDs' findings.
 pub findings_on_each : (found : List FindingView) (on : ℕ → List PidFinding) (pids : List ℕ) →
     ((pid : ℕ) → found_of pid found ≡ map (with_pid_at pid) (on pid)) →
     ((pid : ℕ) (z : StreamFault) → has z (finding_faults pid (on pid)) ≡ true → within pid pids) →
@@ -74,7 +74,7 @@ pub findings_on_each : (found : List FindingView) (on : ℕ → List PidFinding)
 findings_on_each found on pids same_found covers = alike_from (faults_of_all found) (flat_map (λ pid. finding_faults pid (on pid)) pids) there back
   where
     is : (pid : ℕ) → faults_of_all (found_of pid found) ≡ finding_faults pid (on pid)
-    is pid = ap faults_of_all (same_found pid) ∙ faults_told pid (on pid)
+    is pid = ap faults_of_all (same_found pid) ∙ faults_reported pid (on pid)
 
     there : (z : StreamFault) → has z (faults_of_all found) ≡ true → has z (flat_map (λ pid. finding_faults pid (on pid)) pids) ≡ true
     there z e =

@@ -1,4 +1,4 @@
--- Findings one by one, and what they leave as a whole.
+-- The monitor's state after each finding, and after all findings.
 use Rattle.std.proofs.Common.{◌≡◌, ℕ, ◌==◌, Bool, true, false, cond, List, [], ◌∷◌, ◌++◌, Option, Some, None, refl, sym, ap, ◌∙◌, append_assoc}
 use Rattle.std.proofs.lemmas.List.{append-nil}
 use Rattle.psi_tables.specs.declared.error.SectionError.TheVariants as section_errors
@@ -17,7 +17,7 @@ use Rattle.monitor.specs.ProgramMaps.{ProgramMapState, map_begins, named_by}
 use Rattle.monitor.specs.FindingStates.{FindingState, all_noted, noted_from, begun_by, begun_noted, what_noted}
 use Rattle.monitor.specs.Rules.{finding_rule, failing}
 
--- 1. What one finding does to each part
+-- 1. The change by one finding in each part of the state
 
 unfoldable pub faults_on : ℕ → Option ℕ → WhatView → List StreamFault
 faults_on packet None what = []
@@ -128,7 +128,7 @@ finding_is s packet (Some pid) begun what =
     ap (λ (t : FindingState). what_noted t pid packet what) (begun_is s pid packet begun)
     ∙ what_is _ pid packet what
 
--- 2. All findings
+-- 2. The change by all findings
 
 unfoldable pub faults_of_all : List FindingView → List StreamFault
 faults_of_all [] = []

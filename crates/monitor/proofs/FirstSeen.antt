@@ -1,4 +1,4 @@
--- The PIDs of packets in the order in which they are first seen.
+-- The PIDs of packets in the order of their first packets.
 use Rattle.std.proofs.lemmas.Bool.Decides.{nat_tests}
 use Rattle.std.proofs.Common.{arith, ◌≡◌, ℕ, ◌==◌, Bool, true, false, cond, nat_eq, List, [], ◌∷◌, ◌++◌, map, filter, Option, Some, Result, Ok, Err, refl, sym}
 use Rattle.std.proofs.Common.{ap, ap₂, ◌∙◌, append_assoc}
@@ -18,7 +18,7 @@ use Rattle.monitor.proofs.LatePlaces.{same_number, turned_test}
 use Rattle.monitor.proofs.PidEntries.{absent, unique, unique_insert}
 use Rattle.monitor.proofs.PacketSteps.{carried_all, start_of, starts_of}
 
--- 1. Keys
+-- 1. Keys of entries
 
 abbrev pub keys : {V : Type 0} → List (ℕ × V) → List ℕ
 keys es = map (λ e. e.0) es
@@ -111,7 +111,7 @@ keys_all es (x ∷ xs) = keys_all (packet_counted es x.0 x.1) xs ∙ by (is_in x
 pub keys_first_seen : (xs : List (ℕ × Bool)) → keys (carried_all [] xs) ≡ first_seen (map (λ x. x.0) xs)
 keys_first_seen xs = keys_all [] xs ∙ all_new (first_seen (map (λ x. x.0) xs))
 
--- 2. No PID stands twice, so entries are told by their keys
+-- 2. One entry for each PID, identified by its key
 
 pub carried_unique : (es : List (ℕ × PacketCounts)) (xs : List (ℕ × Bool)) → unique es → unique (carried_all es xs)
 unfolding carried_all

@@ -1,4 +1,4 @@
--- What is found in a whole stream, to its end: of each PID, in the order of its packets.
+-- The findings of a whole stream, to its end, on each PID and in the order of the packets.
 use Rattle.std.proofs.Common.{◌≡◌, ℕ, zero, suc, zero-add, ◌+◌, ◌-◌, ◌*◌, ◌/◌, ◌^◌, ◌≤◌, ◌<◌, ◌==◌, Bool, true, false, cond, List, [], ◌∷◌, ◌++◌, length, take}
 use Rattle.std.proofs.Common.{drop, map, None, Result, Ok, Err, refl, sym, ap, ap₂, subst, ◌∙◌, arith, append_assoc, length-drop}
 use Rattle.std.specs.Prelude.{All}
@@ -23,7 +23,7 @@ use Rattle.demux.proofs.PushedBytes.{pushed_less}
 use Rattle.demux.proofs.FoundSoFar.{all_are_found, nothing_at_first, packets_add}
 use Rattle.demux.proofs.WholeStream.{each_pid_alone}
 use Rattle.monitor.specs.Begins.{found_on}
-use Rattle.monitor.proofs.BegunByThen.{ended_by, findings_within, states_longer, states_next, states_within, told_by}
+use Rattle.monitor.proofs.BegunByThen.{ended_by, findings_within, states_longer, states_next, states_within, reported_by}
 use Rattle.monitor.proofs.MapsOfPid.{rising_from}
 use Rattle.monitor.proofs.MapSteps.{all_begun_by_then}
 
@@ -64,7 +64,7 @@ pub packet_count : (k : ℕ) (bytes : List ℕ) → length (first_chunks 188 k b
 packet_count zero bytes = refl
 packet_count (suc k) bytes = let e = packet_count k (drop 188 bytes) in omega arith
 
--- 2. What stays as packets are taken
+-- 2. The parts of the state that no packet changes
 
 pub kept_held : (s : StreamState) (packets : List (List ℕ)) → (taken_all s packets).held ≡ s.held
 unfolding taken_all taken
@@ -88,7 +88,7 @@ count_all s (packet ∷ packets) h =
     let e : next_packet s.packets ≡ s.packets + 1 = omega arith in
     count_all (taken s packet) packets (omega arith) ∙ omega arith
 
--- 3. The end
+-- 3. The end of the stream
 
 held_of : (pid packet : ℕ) (held : List ℕ) → found_of pid (held_found packet held) ≡ []
 held_of pid packet [] = refl
@@ -106,7 +106,7 @@ finished_of pid s e =
     ∙ ap (λ (xs : List FindingView). found_of pid s.found ++ xs)
     (of_append pid held ends ∙ ap (λ (xs : List FindingView). xs ++ found_of pid ends) (held_of pid s.packets s.held))
 
--- what is held of a packet is of no PID
+-- The held bytes of an incomplete packet do not change the findings of any PID.
 held_no_matter : (pid : ℕ) (s : StreamState) (held : List ℕ) → s.ended ≡ false →
     found_of pid (finished (record s { held = held })).found ≡ found_of pid (finished s).found
 held_no_matter pid s held e = finished_of pid (record s { held = held }) e ∙ sym (finished_of pid s e)
@@ -138,7 +138,7 @@ of_one_pid pid bytes p n =
     ∙ ap (found_of pid) (sym whole)
     ∙ (each_pid_alone pid bytes p n).1
 
--- 5. Null packets have no findings
+-- 5. Null packets, which have no findings
 
 abbrev no_null : States → Type 0
 no_null [] = Unit {0}
@@ -210,15 +210,15 @@ of_each bytes n pid = by (pid == 8191) refl
     by true e = ap (λ (k : ℕ). found_of k (found_whole bytes)) (same_number pid 8191 e) ∙ of_null bytes
     by false e = of_one_pid pid bytes e n
 
--- 6. In the order of the packets, and begun by then
+-- 6. The order of the findings, and the begins of their units
 
 abbrev all_at : ℕ → List FindingView → Type 0
 all_at packet [] = Unit {0}
 all_at packet (f ∷ found) = (f.packet ≡ packet) × all_at packet found
 
-at_told : (q index : ℕ) (found : List Found) → all_at index (map (with_pid q index) found)
-at_told q index [] = tt
-at_told q index (x ∷ found) = (refl, at_told q index found)
+at_reported : (q index : ℕ) (found : List Found) → all_at index (map (with_pid q index) found)
+at_reported q index [] = tt
+at_reported q index (x ∷ found) = (refl, at_reported q index found)
 
 at_findings : (index : ℕ) (bytes : List ℕ) (states : States) (r : Result PacketView PacketError) → all_at index (findings_by index bytes states r)
 unfolding findings_by
@@ -229,7 +229,7 @@ at_findings index bytes states (Ok packet) = by packet.header.transport_error_in
         (cond z [] (map (with_pid packet.header.pid index) (found_by (state_of packet.header.pid states) (entry_of index bytes packet)))))
     by true z = (refl, tt)
     by false true = tt
-    by false false = at_told packet.header.pid index (found_by (state_of packet.header.pid states) (entry_of index bytes packet))
+    by false false = at_reported packet.header.pid index (found_by (state_of packet.header.pid states) (entry_of index bytes packet))
 
 at_append : (packet : ℕ) (xs ys : List FindingView) → all_at packet xs → all_at packet ys → all_at packet (xs ++ ys)
 at_append packet [] ys h k = k
@@ -239,7 +239,7 @@ at_ended : (packet : ℕ) (states : States) → all_at packet (ended_found packe
 unfolding ended_found
 at_ended packet [] = tt
 at_ended packet (x ∷ states) =
-    at_append packet (map (with_pid x.0 packet) (ended true x.1.open_unit)) (ended_found packet states) (at_told x.0 packet (ended true x.1.open_unit))
+    at_append packet (map (with_pid x.0 packet) (ended true x.1.open_unit)) (ended_found packet states) (at_reported x.0 packet (ended true x.1.open_unit))
     (at_ended packet states)
 
 rising_less : (low high : ℕ) (found : List FindingView) → low ≤ high → rising_from high found → rising_from low found
@@ -306,7 +306,7 @@ unfolding ended_found
 begun_ended packet [] h = tt
 begun_ended packet (x ∷ states) h =
     begun_append (map (with_pid x.0 packet) (ended true x.1.open_unit)) (ended_found packet states)
-    (told_by x.0 packet (ended true x.1.open_unit) (ended_by packet true x.1.open_unit h.0)) (begun_ended packet states h.1)
+    (reported_by x.0 packet (ended true x.1.open_unit) (ended_by packet true x.1.open_unit h.0)) (begun_ended packet states h.1)
 
 pub begun_whole : (bytes : List ℕ) → length bytes / 188 < 2 ^ 64 - 1 → all_begun_by_then (found_whole bytes)
 begun_whole bytes n =

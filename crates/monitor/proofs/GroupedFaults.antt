@@ -1,4 +1,4 @@
--- Group by group, the faults that are kept of a stream are those of its packets and findings.
+-- The faults in the monitor's state, in each group, are the faults of the stream's packets and findings.
 use Rattle.std.proofs.Common.{◌⊎◌, inl, inr, ◌≡◌, ℕ, ◌-◌, ◌*◌, ◌/◌, ◌^◌, ◌<◌, ◌==◌, Bool, true, false, cond, List, [], ◌∷◌, ◌++◌, length, map, filter, Some}
 use Rattle.std.proofs.Common.{refl, sym, ap, ap₂, subst, ◌∙◌, arith}
 use Rattle.std.specs.Prelude.{not, ◌&&◌}
@@ -23,11 +23,11 @@ use Rattle.monitor.proofs.LatePlaces.{gaps_of_each_pid, same_number}
 use Rattle.monitor.proofs.LateFaults.{alike, late_on_each, within}
 use Rattle.monitor.proofs.PacketSteps.{marked_append, pcr_pairs, pcr_places_of}
 use Rattle.monitor.proofs.FindingSteps.{faults_of_all, pts_of_all, table_of_all}
-use Rattle.monitor.proofs.TableBegins.{begins_in, begins_told, late_from_none, on_pid, pts_is, pts_pairs, pts_places_of, pts_told, table_is}
+use Rattle.monitor.proofs.TableBegins.{begins_in, begins_reported, late_from_none, on_pid, pts_is, pts_pairs, pts_places_of, pts_reported, table_is}
 use Rattle.monitor.proofs.FindingFaults.{findings_on_each}
 use Rattle.monitor.proofs.FoundWhole.{found_whole, of_each}
 
--- 1. A PID without packets has nothing
+-- 1. PIDs without packets, which have no findings
 
 listed_or : (pid : ℕ) (entries : List Entry) → (filter (λ entry. is_of_pid pid entry.packet) entries ≡ [])
     ⊎ within pid (map (λ entry. entry.packet.header.pid) (filter (λ entry. not entry.packet.header.transport_error_indicator) entries))
@@ -90,7 +90,7 @@ pts_alike rate bytes n =
     (sym (pts_is (no_marks (700 * rate)) found))
     (late_on_each rules.Pts (marked_all (no_marks (700 * rate)) pairs).late (pts_late rate bytes) (packet_pids bytes)
     (λ pid. gaps_of_each_pid rate 700 pid pairs
-    ∙ ap (late rate 700) (pts_places_of pid found ∙ ap (filter_map (λ f. pts_begin f.begun)) (of_each bytes n pid) ∙ pts_told pid (found_on pid bytes)))
+    ∙ ap (late rate 700) (pts_places_of pid found ∙ ap (filter_map (λ f. pts_begin f.begun)) (of_each bytes n pid) ∙ pts_reported pid (found_on pid bytes)))
     (λ pid x h. by pid x h (has_packets pid bytes)))
   where
     found : List FindingView
@@ -103,7 +103,7 @@ pts_alike rate bytes n =
     by pid x h (inl e) = absurd (subst (λ (at : List PidFinding). within x (late rate 700 (pts_begins at))) (none_on pid bytes e) h)
     by pid x h (inr k) = k
 
--- 3. Findings that fail by themselves
+-- 3. Findings that are faults by themselves
 
 no_false : true ≡ false → ⊥
 no_false e = grind arith
@@ -123,7 +123,8 @@ findings_alike bytes n =
 
 begins_whole : (pid table_id : ℕ) (bytes : List ℕ) → length bytes / 188 < 2 ^ 64 - 1 →
     begins_in pid table_id (found_whole bytes) ≡ table_begins table_id (found_on pid bytes)
-begins_whole pid table_id bytes n = ap (filter_map (λ f. table_begin table_id f.begun)) (of_each bytes n pid) ∙ begins_told table_id pid (found_on pid bytes)
+begins_whole pid table_id bytes n = ap (filter_map (λ f. table_begin table_id f.begun)) (of_each bytes n pid)
+    ∙ begins_reported table_id pid (found_on pid bytes)
 
 itself : (pid : ℕ) → (pid == pid) ≡ true
 itself pid = grind (arith, nat_tests)
@@ -136,7 +137,7 @@ table_group rule rate limit pid table_id bytes n =
     ∙ ap (λ (xs : List ℕ). map (late_fault rule) (marked_all (no_marks (limit * rate)) (on_pid pid xs)).late) (begins_whole pid table_id bytes n)
     ∙ late_from_none rule rate limit pid (table_begins table_id (found_on pid bytes)) (itself pid)
 
--- the program association table, from the beginning to the end
+-- The marks of the program association table, from the begin of the stream to its end
 pat_marks : (limit_times_rate count : ℕ) (xs : List ℕ) →
     marked (marked_all (marked (no_marks limit_times_rate) 0 0) (on_pid 0 xs)) 0 count ≡ marked_all (no_marks limit_times_rate)
     (on_pid 0 (0 ∷ xs ++ count ∷ []))

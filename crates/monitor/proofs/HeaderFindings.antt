@@ -1,4 +1,4 @@
--- What is noted of findings is no body of a PES packet.
+-- The monitor's state does not depend on the bodies of PES packets.
 use Rattle.std.proofs.Common.{◌≡◌, ◌∙◌, ℕ, suc, ◌<◌, ◌≤◌, true, List, [], ◌∷◌, ◌++◌, length, map, drop, slice_get, Option, Some, None, inl, inr, refl, sym, ap}
 use Rattle.std.proofs.Common.{arith}
 use Rattle.std.proofs.lemmas.List.{drop_all}
@@ -41,14 +41,14 @@ all_besides s [] = refl
 all_besides s (x ∷ found) =
     ap (λ (t : FindingState). all_noted t (all_without_body found)) (noted_besides s x.packet x.pid x refl) ∙ all_besides (finding_noted s x) found
 
--- findings that are the same besides bodies
+-- Findings that differ only in bodies lead to the same state.
 pub all_alike : (s : FindingState) (x y : List FindingView) → all_without_body x ≡ all_without_body y → all_noted s x ≡ all_noted s y
 all_alike s x y e = sym (all_besides s x) ∙ ap (all_noted s) e ∙ all_besides s y
 
 pub noted_in : (s : FindingState) (none new found : List FindingView) → none ≡ [] → AddsHeaders none new found → all_noted s new ≡ all_noted s found
 noted_in s none new found e added = all_alike s new found (added ∙ ap (λ (x : List FindingView). all_without_body x ++ all_without_body found) e)
 
--- the end, PID by PID
+-- The findings at the end, PID by PID
 noted_both : (s : FindingState) (xs ys : List FindingView) → all_noted s (xs ++ ys) ≡ all_noted (all_noted s xs) ys
 unfolding all_noted
 noted_both s [] ys = refl

@@ -1,4 +1,4 @@
--- The faults of what comes too late, for each PID: which are there.
+-- The faults of late packets, on each PID.
 use Rattle.std.proofs.Common.{◌⊎◌, inl, inr, ⊎_elim, ◌≡◌, ℕ, ◌==◌, Bool, true, false, cond, List, [], ◌∷◌, ◌++◌, map, filter, Some, refl, sym, ap, ap₂, subst}
 use Rattle.std.proofs.Common.{◌∙◌, arith}
 use Rattle.std.specs.Prelude.{◌||◌}
@@ -14,7 +14,7 @@ use Rattle.monitor.specs.Faults.{on_each}
 use Rattle.monitor.proofs.LatePlaces.{same_number}
 use Rattle.monitor.proofs.SameOrder.{has, same}
 
--- 1. Lists one after another
+-- 1. Concatenated lists
 
 pub has_append : (z : StreamFault) (xs ys : List StreamFault) → has z (xs ++ ys) ≡ (has z xs || has z ys)
 unfolding has
@@ -25,7 +25,7 @@ has_append z (x ∷ xs) ys = ap (λ (b : Bool). same z x || b) (has_append z xs 
     assoc true b c = refl
     assoc false b c = refl
 
--- the same members
+-- The two lists have the same members.
 abbrev pub alike : List StreamFault → List StreamFault → Type 0
 alike xs ys = (z : StreamFault) → has z xs ≡ has z ys
 
@@ -35,7 +35,7 @@ alike_append xs ys us vs h k z = has_append z xs us ∙ ap₂ (λ (a b : Bool). 
 pub alike_is : (xs ys : List StreamFault) → xs ≡ ys → alike xs ys
 alike_is xs ys e z = ap (λ (l : List StreamFault). has z l) e
 
--- 2. Two facts decide whether lists are alike
+-- 2. Lists with the same members, by two inclusions
 
 no_false : true ≡ false → ⊥
 no_false e = grind arith
@@ -67,9 +67,9 @@ in_right z xs ys e = has_append z xs ys ∙ ap (λ (b : Bool). has z xs || b) e 
 pub in_either : (z : StreamFault) (xs ys : List StreamFault) → has z (xs ++ ys) ≡ true → (has z xs ≡ true) ⊎ (has z ys ≡ true)
 in_either z xs ys e = either (has z xs) (has z ys) (sym (has_append z xs ys) ∙ e)
 
--- 3. For each of some PIDs
+-- 3. The faults of several PIDs
 
--- a number is in a list
+-- The number x is in the list.
 abbrev pub within : ℕ → List ℕ → Type 0
 within x [] = ⊥
 within x (y ∷ ys) = (x ≡ y) ⊎ within x ys
@@ -85,7 +85,7 @@ unfolding has
 each_out z f xs [] h e = absurd (no_false (sym e))
 each_out z f xs (q ∷ pids) h e = ⊎_elim (h q) (each_out z f xs pids h) (in_either z (f q) (flat_map f pids) e)
 
--- what comes too late on a PID is there on its own
+-- Each late packet of a PID is among the late packets of the stream.
 pub late_in : (rule : Rule) (pid : ℕ) (z : StreamFault) (lates : List LatePacket) → has z (map (fault rule (Some pid)) (late_of pid lates)) ≡ true →
     has z (map (late_fault rule) lates) ≡ true
 late_in rule pid z [] e = e
@@ -105,7 +105,7 @@ late_in rule pid z (x ∷ lates) e = by (late_in rule pid z lates) (x.pid == pid
         (in_either z (fault rule (Some pid) x.packet ∷ []) (map (fault rule (Some pid)) (late_of pid lates)) f)
     by h false n f = rest h f
 
--- and nothing else is there
+-- Each late packet of the stream is among the late packets of some PID.
 pub late_out : (rule : Rule) (z : StreamFault) (lates : List LatePacket) → has z (map (late_fault rule) lates) ≡ true →
     (pid : ℕ) × (has z (map (fault rule (Some pid)) (late_of pid lates)) ≡ true)
 unfolding has
@@ -132,7 +132,7 @@ unfolding has
 place rule z pid [] e = absurd (no_false (sym e))
 place rule z pid (x ∷ xs) e = (x, inl refl)
 
--- so what comes too late is what does on each PID, where the PIDs are all at hand
+-- The late packets of the stream are the late packets of all PIDs, if the list contains each PID with a late packet.
 pub late_on_each : (rule : Rule) (lates : List LatePacket) (places : ℕ → List ℕ) (pids : List ℕ) → ((pid : ℕ) → late_of pid lates ≡ places pid) →
     ((pid x : ℕ) → within x (places pid) → within pid pids) → alike (map (late_fault rule) lates) (on_each rule places pids)
 late_on_each rule lates places pids same_places covers = alike_from (map (late_fault rule) lates) (on_each rule places pids) there back

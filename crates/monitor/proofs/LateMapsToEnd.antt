@@ -1,4 +1,4 @@
--- Program maps that are late, to the end of the stream, on each PID that is named.
+-- Late program maps, to the end of the stream, on each named PID.
 use Rattle.std.proofs.Common.{arith, inl, inr, ◌≡◌, ℕ, ◌-◌, ◌*◌, ◌==◌, Bool, true, false, cond, nat_eq, List, [], ◌∷◌, ◌++◌, map, Option, Some, None, refl, sym}
 use Rattle.std.proofs.Common.{ap, ap₂, subst, ◌∙◌}
 use Rattle.std.specs.List.{flat_map, filter_map, cons_option}
@@ -24,9 +24,9 @@ use Rattle.monitor.proofs.FindingSteps.{maps_of_all}
 use Rattle.monitor.proofs.LateFaults.{alike, late_on_each, within}
 use Rattle.monitor.proofs.MapSteps.{KeptOf, all_begun_by_then, begin_on, maps_kept, pids_on}
 use Rattle.monitor.proofs.MapsOfPid.{begins_all, ended_then, late_new, map_late_is, or_since, rising_from, since_of, state_new}
-use Rattle.monitor.proofs.TableBegins.{begins_told}
+use Rattle.monitor.proofs.TableBegins.{begins_reported}
 
--- 1. The gaps that the end of the stream closes
+-- 1. The gaps before the end of the stream
 
 abbrev ended_one : ℕ → ℕ → ℕ × NamedMap → List LatePacket
 ended_one limit_times_rate count entry = map (λ x. record { pid = entry.0; packet = x }) (step limit_times_rate (Some entry.1.last) count)
@@ -83,7 +83,7 @@ ended_of pid limit_times_rate count (entry ∷ named) h = by (entry.0 == pid) re
         ∙ ap₂ (λ (xs ys : List ℕ). xs ++ ys) (own_lates pid entry.0 new false e) k
         ∙ sym (rw f refl)
 
--- 2. Names and begins of one PID, as they stand among its own findings
+-- 2. The names and the begins of one PID, among this PID's findings
 
 begins_of : (pid : ℕ) (found : List FindingView) → begins_all pid found ≡ filter_map (λ f. table_begin 0x02 f.begun) (found_of pid found)
 begins_of pid [] = refl
@@ -110,30 +110,30 @@ lookup_append pid (x ∷ xs) ys = by (nat_eq pid x.0) (lookup_append pid xs ys)
     by true h = refl
     by false h = h
 
-abbrev namings_told : List FindingView → List (ℕ × ℕ)
-namings_told found = flat_map (λ f. at_packet f.packet (pids_named_in f.what)) found
+abbrev namings_reported : List FindingView → List (ℕ × ℕ)
+namings_reported found = flat_map (λ f. at_packet f.packet (pids_named_in f.what)) found
 
-since_is : (pid : ℕ) (found : List FindingView) → since_of pid found ≡ lookup (nat_eq pid) (namings_told (found_of 0 found))
+since_is : (pid : ℕ) (found : List FindingView) → since_of pid found ≡ lookup (nat_eq pid) (namings_reported (found_of 0 found))
 unfolding since_of
 since_is pid [] = refl
 since_is pid (f ∷ found) = by f.pid (since_is pid found)
   where
-    inner : (t : Bool) → since_of pid found ≡ lookup (nat_eq pid) (namings_told (found_of 0 found)) →
+    inner : (t : Bool) → since_of pid found ≡ lookup (nat_eq pid) (namings_reported (found_of 0 found)) →
         or_since (lookup (nat_eq pid) (at_packet f.packet (cond t (pids_named_in f.what) []))) (since_of pid found)
-        ≡ lookup (nat_eq pid) (namings_told (cond t (f ∷ found_of 0 found) (found_of 0 found)))
+        ≡ lookup (nat_eq pid) (namings_reported (cond t (f ∷ found_of 0 found) (found_of 0 found)))
     inner true h = ap (or_since (lookup (nat_eq pid) (at_packet f.packet (pids_named_in f.what)))) h
-        ∙ sym (lookup_append pid (at_packet f.packet (pids_named_in f.what)) (namings_told (found_of 0 found)))
+        ∙ sym (lookup_append pid (at_packet f.packet (pids_named_in f.what)) (namings_reported (found_of 0 found)))
     inner false h = h
 
-    by : (q : Option ℕ) → since_of pid found ≡ lookup (nat_eq pid) (namings_told (found_of 0 found)) →
+    by : (q : Option ℕ) → since_of pid found ≡ lookup (nat_eq pid) (namings_reported (found_of 0 found)) →
         or_since (lookup (nat_eq pid) (at_packet f.packet (pids_on q f.what))) (since_of pid found)
-        ≡ lookup (nat_eq pid) (namings_told (cond (has_pid 0 q) (f ∷ found_of 0 found) (found_of 0 found)))
+        ≡ lookup (nat_eq pid) (namings_reported (cond (has_pid 0 q) (f ∷ found_of 0 found) (found_of 0 found)))
     by None h = h
     by (Some q) h = inner (q == 0) h
 
-told_namings : (pid : ℕ) (found : List PidFinding) → namings_told (map (with_pid_at pid) found) ≡ namings found
-told_namings pid [] = refl
-told_namings pid (x ∷ found) = ap (λ (xs : List (ℕ × ℕ)). at_packet x.packet (pids_named_in x.found.what) ++ xs) (told_namings pid found)
+reported_namings : (pid : ℕ) (found : List PidFinding) → namings_reported (map (with_pid_at pid) found) ≡ namings found
+reported_namings pid [] = refl
+reported_namings pid (x ∷ found) = ap (λ (xs : List (ℕ × ℕ)). at_packet x.packet (pids_named_in x.found.what) ++ xs) (reported_namings pid found)
 
 -- 3. All late program maps
 
@@ -184,11 +184,11 @@ maps_alike rate count found on same_found rises begun =
         ∙ sym (map-append (late_fault rules.Pmt) s.late (ended_lates s.limit_times_rate count s.named))
 
     since : (pid : ℕ) → since_of pid found ≡ lookup (nat_eq pid) (namings (on 0))
-    since pid = since_is pid found ∙ ap (λ (xs : List FindingView). lookup (nat_eq pid) (namings_told xs)) (same_found 0)
-        ∙ ap (lookup (nat_eq pid)) (told_namings 0 (on 0))
+    since pid = since_is pid found ∙ ap (λ (xs : List FindingView). lookup (nat_eq pid) (namings_reported xs)) (same_found 0)
+        ∙ ap (lookup (nat_eq pid)) (reported_namings 0 (on 0))
 
     begins : (pid : ℕ) → begins_all pid found ≡ table_begins 0x02 (on pid)
-    begins pid = begins_of pid found ∙ ap (filter_map (λ f. table_begin 0x02 f.begun)) (same_found pid) ∙ begins_told 0x02 pid (on pid)
+    begins pid = begins_of pid found ∙ ap (filter_map (λ f. table_begin 0x02 f.begun)) (same_found pid) ∙ begins_reported 0x02 pid (on pid)
 
     lates : (pid : ℕ) → late_of pid (s.late ++ ended_lates s.limit_times_rate count s.named) ≡ places pid
     lates pid =

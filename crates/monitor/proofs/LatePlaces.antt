@@ -1,4 +1,4 @@
--- Places of PIDs one by one, and the places of each PID as a whole.
+-- Places are marked one by one; the result is the late places of each PID.
 use Rattle.std.proofs.Common.{◌≡◌, ℕ, ◌-◌, ◌*◌, ◌==◌, Bool, true, false, cond, nat_eq, List, [], ◌∷◌, ◌++◌, map, filter, Option, Some, None, refl, sym, ap, ap₂}
 use Rattle.std.proofs.Common.{subst, ◌∙◌, arith, append_assoc}
 use Rattle.std.specs.List.{zip}
@@ -24,7 +24,7 @@ turned_test a b = by (a == b) (b == a) refl refl
     by true false p q = absurd (grind (arith, nat_tests))
     by false true p q = absurd (grind (arith, nat_tests))
 
--- the place that comes late after the one before
+-- The place x, if it is late after the place before it
 abbrev pub step : ℕ → Option ℕ → ℕ → List ℕ
 step limit_times_rate None x = []
 step limit_times_rate (Some before) x = cond (is_long limit_times_rate (x - before)) (x ∷ []) []
@@ -33,7 +33,7 @@ abbrev pub after : ℕ → Option ℕ → List ℕ → List ℕ
 after limit_times_rate last [] = []
 after limit_times_rate last (x ∷ xs) = step limit_times_rate last x ++ after limit_times_rate (Some x) xs
 
--- what an insert finds
+-- The value of a PID after an insert
 pub found_if : (pid q x : ℕ) (es : List (ℕ × ℕ)) (t : Bool) → (q == pid) ≡ t →
     lookup (nat_eq pid) (insert_entry nat_eq es q x) ≡ cond t (Some x) (lookup (nat_eq pid) es)
 found_if pid q x [] t e = rw (turned_test pid q ∙ e) refl
@@ -95,7 +95,7 @@ marks_late pid s (p ∷ places) =
         (late_here s.limit_times_rate pid p.0 p.1 (lookup (nat_eq p.0) s.last) false e) (found_if pid p.0 p.1 s.last false e)
         ∙ append_assoc (late_of pid s.late) [] (after s.limit_times_rate (lookup (nat_eq pid) s.last) (places_of pid places))
 
--- the gaps as a filter over successive places
+-- The late places are a filter over pairs of successive places.
 pub after_one : (rate limit before : ℕ) (xs : List ℕ) → after (limit * rate) (Some before) xs ≡ late rate limit (before ∷ xs)
 after_one rate limit before [] = refl
 after_one rate limit before (x ∷ xs) = by (is_long (limit * rate) (x - before)) (after_one rate limit x xs)

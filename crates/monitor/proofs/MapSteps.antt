@@ -1,4 +1,4 @@
--- Program maps of one PID, finding by finding.
+-- The state of one PID's program map, finding by finding.
 use Rattle.std.proofs.Common.{◌≡◌, ℕ, ◌-◌, ◌≤◌, ◌==◌, Bool, true, false, cond, nat_eq, List, [], ◌∷◌, ◌++◌, Option, Some, None, refl, sym, ap, ap₂, ◌∙◌, arith}
 use Rattle.std.proofs.Common.{append_assoc}
 use Rattle.std.specs.Prelude.{◌||◌, nat_le, nat_lt, not}
@@ -34,7 +34,7 @@ or_none : (o : Option NamedMap) → o ≡ or_named o None
 or_none None = refl
 or_none (Some n) = refl
 
--- the state of a PID, its late packets, the limit, and that no PID stands twice
+-- The state, the late packets and the limit after a finding; no PID has two entries.
 record Kept (pid : ℕ) (s t : ProgramMapState) (o : Option NamedMap) (new : List ℕ) : Type 0 where
   state : lookup (nat_eq pid) t.named ≡ o
   late : late_of pid t.late ≡ late_of pid s.late ++ new
@@ -85,13 +85,13 @@ names pid q packet s (IsBadPacket error) = nothing_named pid packet s (q == 0)
 names pid q packet s IsErrored = nothing_named pid packet s (q == 0)
 names pid q packet s (IsStray size) = nothing_named pid packet s (q == 0)
 
--- 2. Begins
+-- 2. Begins of sections
 
 abbrev pub begin_on : ℕ → Option ℕ → Option (ℕ × Kind) → Option ℕ
 begin_on pid None begun = None
 begin_on pid (Some q) begun = cond (q == pid) (table_begin 0x02 begun) None
 
--- what begins does not begin after the packet at which it is found
+-- A section begins no later than the packet at which it is found.
 abbrev pub begun_by_then : ℕ → Option (ℕ × Kind) → Type 0
 begun_by_then packet None = Unit {0}
 begun_by_then packet (Some b) = b.0 ≤ packet
@@ -136,7 +136,7 @@ late_map_here pid q limit_times_rate last x t e = by t e (is_long limit_times_ra
     by false e true = rw e refl
     by false e false = refl
 
--- where nothing begins on it, a PID stays as it is
+-- If no section begins on a PID, the PID's state remains the same.
 no_begin : (pid : ℕ) (s : ProgramMapState) →
     Kept pid s s (after_begin (lookup (nat_eq pid) s.named) None) (late_after s.limit_times_rate (lookup (nat_eq pid) s.named) None)
 no_begin pid s = record {
@@ -219,7 +219,7 @@ begins pid q found s (Some (x, Table table_id)) h = by (table_id == 0x02) (q == 
     by false true f = no_begin pid s
     by false false f = no_begin pid s
 
--- 3. One finding, and all
+-- 3. One finding, and all findings
 
 abbrev pub next_named : Option NamedMap → Option ℕ → Option ℕ → Option NamedMap
 next_named o b z = or_named (after_begin o b) z

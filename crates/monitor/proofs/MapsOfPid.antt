@@ -1,4 +1,4 @@
--- Program maps of one PID: from the packet on in which it is first named.
+-- The program map of one PID, from the packet that first names the PID.
 use Rattle.std.proofs.Common.{◌≡◌, ℕ, ◌*◌, ◌≤◌, ◌==◌, Bool, true, false, cond, nat_eq, List, [], ◌∷◌, ◌++◌, filter, Option, Some, None, refl, sym, ap, subst}
 use Rattle.std.proofs.Common.{◌∙◌, arith, append_assoc}
 use Rattle.std.specs.Prelude.{nat_lt}
@@ -26,7 +26,7 @@ last_of b (x ∷ xs) = last_of x xs
 abbrev pub begins_all : ℕ → List FindingView → List ℕ
 begins_all pid found = filter_map (λ f. begin_in pid f) found
 
--- 1. Once it is named
+-- 1. The state after the PID is named
 
 state_known : (pid since last : ℕ) (found : List FindingView) →
     state_after pid (Some (record { since = since; last = last })) found ≡ Some
@@ -90,7 +90,7 @@ late_known pid limit_times_rate since last (f ∷ found) = by (begin_in pid f) (
     by None h = h last
     by (Some x) h = inner x h (nat_lt since x) refl
 
--- 2. Before it is named
+-- 2. The state before the PID is named
 
 abbrev pub or_since : Option ℕ → Option ℕ → Option ℕ
 or_since (Some z) o = Some z
@@ -100,7 +100,7 @@ unfoldable pub since_of : ℕ → List FindingView → Option ℕ
 since_of pid [] = None
 since_of pid (f ∷ found) = or_since (naming_in pid f) (since_of pid found)
 
--- the packets of findings do not fall
+-- The packet numbers of findings do not decrease.
 abbrev pub rising_from : ℕ → List FindingView → Type 0
 rising_from low [] = Unit {0}
 rising_from low (f ∷ found) = (low ≤ f.packet) × rising_from f.packet found
@@ -209,7 +209,7 @@ late_new pid limit_times_rate low (f ∷ found) h b = by (naming_in pid f) refl 
         ∙ ap (λ (xs : List ℕ). after limit_times_rate (Some w) xs)
         (sym (dropped w (begin_in pid f) (begins_all pid found) (λ x k. let m : x ≤ f.packet = begin_le pid f.packet x f.pid f.begun b.0 k in omega arith)))
 
--- 3. To the end of the stream
+-- 3. The state at the end of the stream
 
 abbrev pub ended_then : ℕ → ℕ → Option NamedMap → List ℕ
 ended_then limit_times_rate count None = []

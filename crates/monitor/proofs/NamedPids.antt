@@ -28,7 +28,7 @@ or_twice None false packet rest = refl
 or_twice (Some n) true packet rest = refl
 or_twice (Some n) false packet rest = refl
 
--- one PID more
+-- One more named PID changes the entry of this PID only.
 lookup_named : (pid q packet : ℕ) (s : ProgramMapState) (o : Option NamedMap) (t : Bool) → lookup (nat_eq q) s.named ≡ o → (q == pid) ≡ t →
     lookup (nat_eq pid) (named_from s q packet o).named ≡ or_named (lookup (nat_eq pid) s.named) (cond t (Some packet) None)
 unfolding named_from
@@ -51,7 +51,7 @@ unfolding named_from
 named_unique q packet s None h = unique_insert q (fresh packet) s.named h
 named_unique q packet s (Some n) h = h
 
--- all PIDs of a section
+-- All PIDs of a section
 abbrev pub at_packet : ℕ → List ℕ → List (ℕ × ℕ)
 at_packet packet pids = map (λ pid. (pid, packet)) pids
 

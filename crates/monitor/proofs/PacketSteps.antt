@@ -1,4 +1,4 @@
--- A stream packet by packet, and what is seen of its packets as a whole.
+-- The monitor's state after each packet of a stream, computed from all its packets.
 use Rattle.std.proofs.Common.{◌≡◌, ℕ, ◌+◌, ◌^◌, ◌<◌, ◌==◌, Bool, true, false, cond, List, [], ◌∷◌, ◌++◌, length, filter, None, Result, Ok, Err, refl, sym, ap}
 use Rattle.std.proofs.Common.{◌∙◌, arith, append_assoc}
 use Rattle.std.specs.List.{enumerate_from, filter_map, flat_map, cons_option}
@@ -28,14 +28,14 @@ use Rattle.monitor.specs.Faults.{packet_faults}
 use Rattle.monitor.specs.Begins.{pcr_places}
 use Rattle.monitor.proofs.HeaderFindings.{all_alike}
 
--- 1. The parts of what is kept
+-- 1. The parts of the state
 
 pub noted_append : (s : FindingState) (xs ys : List FindingView) → all_noted s (xs ++ ys) ≡ all_noted (all_noted s xs) ys
 unfolding all_noted
 noted_append s [] ys = refl
 noted_append s (x ∷ xs) ys = noted_append (finding_noted s x) xs ys
 
--- of a stream that is this one besides bodies
+-- A step without bodies gives the next state without its bodies.
 next_besides : (s t : StreamState) (bytes : List ℕ) → s ≡ without_bodies t → headers_taken s bytes ≡ without_bodies (stream.taken t bytes)
 next_besides s t bytes e = ap (λ (x : StreamState). headers_taken x bytes) e ∙ taken_same t bytes
 
@@ -81,7 +81,7 @@ taken_seen s (bytes ∷ packets) h =
     taken_seen (packet_taken s bytes) packets (omega arith)
     ∙ ap (λ (i : ℕ). seen_all (packet_watched s.seen s.packets bytes) (enumerate_from i packets)) e
 
--- 2. Packets that fail by themselves
+-- 2. Packets that are faults by themselves
 
 fault_of_packet : (s : PacketState) (index : ℕ) (r : Result PacketView PacketError) →
     (packet_watched_by s index r).faults ≡ s.faults ++ failing None index (packet_rule r)
@@ -138,7 +138,7 @@ seen_pcr seen (p ∷ packets) =
     ∙ ap (λ (s : RecurrenceState). marked_all s (pcr_pairs packets)) (pcr_of_packet seen p.0 (packet_at p.1))
     ∙ sym (marked_append seen.pcr (pcr_pair p.0 (packet_at p.1)) (pcr_pairs packets))
 
--- the packets of a PID among these
+-- The packets of one PID in this list
 abbrev pub listed : ℕ → List (ℕ × List ℕ) → List Entry
 listed pid packets = filter (λ entry. is_of_pid pid entry.packet) (filter_map (λ p. entry_of p.0 p.1 (packet_at p.1)) packets)
 

@@ -1,4 +1,4 @@
--- Entries by PID: what an insert leaves, and that no PID stands twice.
+-- Entries by PID after an insert; no PID has two entries.
 use Rattle.std.proofs.Common.{◌≡◌, ℕ, ◌==◌, Bool, true, false, cond, nat_eq, List, [], ◌∷◌, Option, Some, None, refl, ap, subst, ◌∙◌}
 use Rattle.std.specs.Map.{lookup}
 use Rattle.indexmap.specs.IndexMap.{insert_entry}

@@ -1,4 +1,4 @@
--- Packets in which nothing is found, that have a payload alone.
+-- Packets without findings that have only a payload.
 use Rattle.std.proofs.Common.{◌≡◌, ℕ, false, List, [], Ok, refl}
 use Rattle.ts_packet.specs.Reading.{packet_at}
 use Rattle.pid_findings.specs.GoingOn.{pid_in, plain_view}

@@ -11,7 +11,7 @@ use Rattle.monitor.specs.MonitorStates.{MonitorState}
 use Rattle.monitor.specs.PacketStates.{PacketState}
 use Rattle.monitor.specs.Reports.{ReportView, all_counts, all_faults, grouped_faults, pid_counts, report_of}
 
--- the counts of the PIDs and the faults in order are a report
+-- The sorted counts of the PIDs and the sorted faults make a report.
 pub reported : (s : MonitorState) (demux : StreamState) (packets : ℕ) (seen : PacketState) (found : FindingState) (pids : List PidCounts)
     (faults : List StreamFault)
     (finding_counts : List (ℕ × FindingCounts)) (packet_counts : List (ℕ × PacketCounts)) →

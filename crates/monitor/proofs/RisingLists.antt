@@ -1,4 +1,4 @@
--- A list that is sorted, each once: it rises, and has the members that it contains.
+-- A strictly sorted list rises, and `has` finds exactly the members that it contains.
 use Rattle.std.proofs.Common.{◌≡◌, ◌⊎◌, zero, suc, inl, inr, ⊎_elim, Bool, true, false, List, [], ◌∷◌, refl, sym, ap, subst, ◌∙◌, arith}
 use Rattle.std.specs.Prelude.{◌||◌}
 use Rattle.std.specs.List.{AllByRecursion, Any, Contains}
@@ -33,7 +33,7 @@ contains_from_has z (x ∷ xs) e =
     (λ s. let c = contains_from_has z xs s in (suc c.0, omega (arith, c.1), c.2))
     (either (same z x) (has z xs) e)
 
--- two lists that contain the same have the same
+-- If two lists contain the same faults, `has` finds the same faults in both.
 pub has_same : (xs ys : List StreamFault) → ((z : StreamFault) → Contains xs z → Contains ys z) → ((z : StreamFault) → Contains ys z → Contains xs z) →
     (z : StreamFault) → has z xs ≡ has z ys
 has_same xs ys f g z = by (has z xs) (has z ys) refl refl
@@ -44,7 +44,7 @@ has_same xs ys f g z = by (has z xs) (has z ys) refl refl
     by true false p q = sym (has_from_contains z ys (f z (contains_from_has z xs p))) ∙ q
     by false true p q = sym p ∙ has_from_contains z xs (g z (contains_from_has z ys q))
 
--- what is strictly sorted in the program's order rises
+-- A list that is strictly sorted in the program's order rises.
 pub rising_sorted : (xs : List StreamFault) → IsStrictlySortedBy faults_ord.cmp-value.it xs → rising xs
 unfolding IsStrictlySortedBy has
 rising_sorted [] h = tt
@@ -58,7 +58,7 @@ rising_sorted (x ∷ xs) h = (λ z e. below xs z h.0 e, rising_sorted xs h.1)
         (λ s. below ys z a.1 s)
         (either (same z y) (has z ys) e)
 
--- so it is the list in order, where each contains what the other has
+-- If a strictly sorted list has the same faults as another list, it is this list in order.
 pub sorted_is_in_order : (xs ys : List StreamFault) → IsStrictlySortedBy faults_ord.cmp-value.it ys →
     ((z : StreamFault) → Contains xs z → Any (λ y. faults_ord.cmp-value.it z y ≡ Equal) ys) → ((z : StreamFault) → Contains ys z → Contains xs z) →
     ys ≡ in_order xs

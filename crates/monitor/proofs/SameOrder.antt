@@ -1,11 +1,11 @@
--- The same faults in order are the same list.
+-- Faults that compare as equal are the same, so lists in order with the same members are the same.
 use Rattle.std.proofs.Common.{◌⊎◌, inl, inr, ⊎_elim, ◌≡◌, Bool, true, false, cond, List, [], ◌∷◌, refl, sym, ap, ap₂, subst, ◌∙◌, arith}
 use Rattle.std.specs.Prelude.{◌&&◌, ◌||◌, not}
 use Rattle.monitor.specs.declared.fault.StreamFault.{StreamFault}
 use Rattle.monitor.specs.InOrder.{is_before, placed, in_order}
 use Rattle.monitor.proofs.SortedFaults.{before_trans, before_apart, before_none}
 
--- neither stands before the other
+-- Returns whether f is not before g, and g is not before f.
 unfoldable pub same : StreamFault → StreamFault → Bool
 same f g = not (is_before f g) && not (is_before g f)
 
@@ -46,7 +46,7 @@ or_twice : (a b : Bool) → (a || b) ≡ (a || (a || b))
 or_twice true b = refl
 or_twice false b = refl
 
--- what is in a list with one more in its place
+-- The members of a list after an insert in its place
 has_placed : (x f : StreamFault) (faults : List StreamFault) → has x (placed f faults) ≡ (same x f || has x faults)
 unfolding placed has
 has_placed x f [] = refl
@@ -63,7 +63,7 @@ unfolding in_order has
 has_in_order x [] = refl
 has_in_order x (f ∷ faults) = has_placed x f (in_order faults) ∙ ap (λ (c : Bool). same x f || c) (has_in_order x faults)
 
--- each stands before those after it
+-- A fault is before all faults after it in the list.
 abbrev pub above : StreamFault → List StreamFault → Type 0
 above f faults = (x : StreamFault) → has x faults ≡ true → is_before f x ≡ true
 
@@ -99,7 +99,7 @@ unfolding in_order
 rising_in_order [] = tt
 rising_in_order (f ∷ faults) = rising_placed f (in_order faults) (rising_in_order faults)
 
--- lists in order with the same members
+-- Lists in order with the same members are the same.
 heads : (x y : StreamFault) (xs ys : List StreamFault) → rising (x ∷ xs) → rising (y ∷ ys) → ((z : StreamFault) → has z (x ∷ xs) ≡ has z (y ∷ ys)) → x ≡ y
 unfolding has
 heads x y xs ys h k e =
@@ -136,7 +136,7 @@ settled (x ∷ xs) (y ∷ ys) h k e =
     let same_has : (z : StreamFault) → has z (x ∷ xs) ≡ has z (x ∷ ys) = λ z. e z ∙ ap (λ (f : StreamFault). has z (f ∷ ys)) (sym n) in
     ap₂ (λ (f : StreamFault) (fs : List StreamFault). f ∷ fs) n (settled xs ys h.1 k.1 (tails x xs ys h.0 above_y same_has))
 
--- the order of a list's faults, and how often each is there, does not matter
+-- Two lists with the same members are the same list in order, whatever their order and repetitions.
 pub in_order_same : (xs ys : List StreamFault) → ((z : StreamFault) → has z xs ≡ has z ys) → in_order xs ≡ in_order ys
 in_order_same xs ys e =
     settled (in_order xs) (in_order ys) (rising_in_order xs) (rising_in_order ys) (λ z. has_in_order z xs ∙ e z ∙ sym (has_in_order z ys))

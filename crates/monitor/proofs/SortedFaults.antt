@@ -1,4 +1,4 @@
--- Faults in order: a list of faults in which each stands before those after it is settled by its members.
+-- If each fault of a list is before all faults after it, the members determine the list.
 use Rattle.std.proofs.Common.{◌≡◌, ℕ, ◌==◌, Bool, true, false, cond, Option, Some, None, refl, sym, ap, ◌∙◌, arith}
 use Rattle.std.specs.Prelude.{nat_lt}
 use Rattle.std.proofs.lemmas.Bool.Decides.{nat_tests}
@@ -69,7 +69,7 @@ pid_same None (Some b) p q = absurd (grind arith)
 pid_same (Some a) None p q = absurd (grind arith)
 pid_same (Some a) (Some b) p q = let n : a ≡ b = grind (arith, nat_tests) in ap (λ (k : ℕ). Some k) n
 
--- the rule of a number
+-- The rule with this number
 rule_of : ℕ → Rule
 rule_of n = cond (n == 1) rules.Sync (cond (n == 2) rules.Packet (cond (n == 3) rules.Error (cond (n == 4) rules.Counter (cond (n == 5) rules.Crc
     (cond (n == 6) rules.Section (cond (n == 7) rules.Pat (cond (n == 8) rules.Pmt (cond (n == 9) rules.Nit (cond (n == 10) rules.Sdt

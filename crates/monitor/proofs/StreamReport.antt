@@ -1,4 +1,4 @@
--- The report by what is kept of a stream is the report by its packets and findings.
+-- The report that the monitor computes from its state is the report of the stream's packets and findings.
 use Rattle.std.proofs.Common.{◌≡◌, ℕ, zero-add, ◌+◌, ◌-◌, ◌*◌, ◌/◌, ◌%◌, ◌^◌, ◌<◌, ◌==◌, Bool, true, false, cond, nat_eq, List, [], ◌∷◌, ◌++◌, length, map}
 use Rattle.std.proofs.Common.{Option, None, refl, sym, ap, ap₂, subst, ◌∙◌, arith, append_assoc}
 use Rattle.std.specs.Prelude.{not}
@@ -43,7 +43,7 @@ use Rattle.monitor.proofs.FoundWhole.{begun_whole, ended_whole, found_whole, of_
 use Rattle.monitor.proofs.LateMapsToEnd.{maps_alike}
 use Rattle.monitor.proofs.GroupedFaults.{findings_alike, pat_group, pcr_alike, pts_alike, table_group}
 
--- 1. What is kept of a whole stream
+-- 1. The state at the end of a whole stream
 
 whole_seen : ℕ → ℕ → List ℕ → PacketState
 whole_seen rate limit bytes = seen_to_end (seen_all (no_packets (limit * rate)) (enumerate_from 0 (cut_packets bytes))) (length bytes / 188) (is_cut bytes)
@@ -192,7 +192,7 @@ report_without_state rate limit bytes n =
     ∙ ap₂ (λ (pids : List PidCounts) (faults : List StreamFault). record { packets = length bytes / 188; pids = pids; faults = faults })
     (counts_are rate limit bytes n) (faults_are rate limit bytes n)
 
--- 5. Packet by packet
+-- 5. The state after each packet
 
 taken_more : (s : MonitorState) (packets : List (List ℕ)) (packet : List ℕ) →
     packet_taken (packets_taken s packets) packet ≡ packets_taken s (packets ++ packet ∷ [])

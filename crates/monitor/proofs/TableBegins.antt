@@ -1,4 +1,4 @@
--- Sections of one table, and PES packets with a PTS: what is kept of where they begin, from what is found as a whole.
+-- Sections of one table, and PES packets with a PTS: the state has the places at which the findings begin.
 use Rattle.std.proofs.Common.{◌≡◌, ℕ, ◌-◌, ◌*◌, ◌==◌, Bool, true, false, cond, nat_eq, List, [], ◌∷◌, ◌++◌, map, Option, Some, None, refl, sym, ap, ap₂, ◌∙◌}
 use Rattle.std.proofs.Common.{append_assoc}
 use Rattle.std.specs.Prelude.{◌&&◌}
@@ -60,7 +60,7 @@ late_from_none rule rate limit pid xs e =
 
 -- 2. Sections of a table
 
--- where they begin, in what is found on a PID
+-- The packets where sections of a table begin, among the findings of a PID
 abbrev pub begins_in : ℕ → ℕ → List FindingView → List ℕ
 begins_in pid table_id found = filter_map (λ f. table_begin table_id f.begun) (found_of pid found)
 
@@ -130,11 +130,11 @@ table_is s (f ∷ found) =
     (sym (marked_append s.marks (on_pid s.pid new) (on_pid s.pid rest))
     ∙ ap (marked_all s.marks) (sym (map-append (λ x. (s.pid, x)) new rest) ∙ ap (on_pid s.pid) (sym (begins_more s.pid s.table_id f found))))
 
--- what is found on a PID, told of the stream
-pub begins_told : (table_id pid : ℕ) (found : List PidFinding) →
+-- The begins in a PID's findings are the same among the findings of the stream.
+pub begins_reported : (table_id pid : ℕ) (found : List PidFinding) →
     filter_map (λ f. table_begin table_id f.begun) (map (with_pid_at pid) found) ≡ table_begins table_id found
-begins_told table_id pid [] = refl
-begins_told table_id pid (x ∷ found) = ap (λ (xs : List ℕ). cons_option (table_begin table_id x.found.begun) xs) (begins_told table_id pid found)
+begins_reported table_id pid [] = refl
+begins_reported table_id pid (x ∷ found) = ap (λ (xs : List ℕ). cons_option (table_begin table_id x.found.begun) xs) (begins_reported table_id pid found)
 
 -- 3. PES packets with a PTS
 
@@ -183,6 +183,6 @@ pub pts_places_of : (pid : ℕ) (found : List FindingView) → places_of pid (pt
 pts_places_of pid [] = refl
 pts_places_of pid (f ∷ found) = pts_place pid f.packet f.pid f.begun f.what (pts_pairs found) (found_of pid found) (pts_places_of pid found)
 
-pub pts_told : (pid : ℕ) (found : List PidFinding) → filter_map (λ f. pts_begin f.begun) (map (with_pid_at pid) found) ≡ pts_begins found
-pts_told pid [] = refl
-pts_told pid (x ∷ found) = ap (λ (xs : List ℕ). cons_option (pts_begin x.found.begun) xs) (pts_told pid found)
+pub pts_reported : (pid : ℕ) (found : List PidFinding) → filter_map (λ f. pts_begin f.begun) (map (with_pid_at pid) found) ≡ pts_begins found
+pts_reported pid [] = refl
+pts_reported pid (x ∷ found) = ap (λ (xs : List ℕ). cons_option (pts_begin x.found.begun) xs) (pts_reported pid found)

@@ -1,4 +1,4 @@
--- What a monitor has taken: more packets, and the report of them all.
+-- The packets that a monitor has taken, and the report of all of them.
 use Rattle.std.proofs.Common.{◌≡◌, ℕ, ◌^◌, ◌<◌, Bool, List, [], ◌∷◌, ◌++◌, length, Result, Ok, Err, refl, sym, ap, ap₂, arith, ◌∙◌}
 use Rattle.std.specs.Prelude.{IfOk, OnOk}
 use Rattle.ts_packet.specs.PidList.{cut_packets}
@@ -34,7 +34,7 @@ pub reports_if : {V E : Type 0} (view : V → ReportView) (r : Result V E) (moni
 reports_if view (Ok report) monitor cut e = reports_taken monitor cut (view report) e
 reports_if view (Err v) monitor cut e = tt
 
--- what a monitor that took the whole packets of these bytes reports is the report of a stream of these bytes
+-- If a monitor took the whole packets of these bytes, it reports the report of these bytes as a stream.
 pub whole_report : {V E : Type 0} (view : V → ReportView) (rate limit : ℕ) (bytes : List ℕ) (packets : List (List ℕ)) (cut : Bool) (before after : MonitorState)
     (r : Result V E) →
     HasTaken rate limit [] before → Takes packets before after → packets ≡ cut_packets bytes → cut ≡ is_cut bytes →
@@ -43,6 +43,6 @@ whole_report view rate limit bytes packets cut before after (Ok report) none tak
     λ room. said rate limit packets bytes (takes rate limit [] none) (record { packets_are = sym are; cut_is = sym is }) (omega arith)
 whole_report view rate limit bytes packets cut before after (Err v) none takes are is said = tt
 
--- bytes in memory are fewer than 2^64
+-- Bytes in memory are fewer than 2^64.
 pub with_room : (bytes : List ℕ) (report wanted : ReportView) → length bytes < 2 ^ 64 → (length bytes < 2 ^ 64 → report ≡ wanted) → report ≡ wanted
 with_room bytes report wanted room said = said room

@@ -1,4 +1,4 @@
--- Counts of one PID, one by one and as a whole.
+-- The counts of one PID, packet by packet and for the whole stream.
 use Rattle.std.proofs.Common.{◌≡◌, ℕ, ◌+◌, ◌-◌, ◌^◌, ◌≤◌, ◌==◌, Bool, true, false, cond, List, [], ◌∷◌, ◌++◌, length, map, filter, Option, Some, None, Result}
 use Rattle.std.proofs.Common.{Ok, Err, refl, sym, ap, ap₂, ◌∙◌, arith}
 use Rattle.std.specs.Prelude.{◌&&◌, not}
@@ -21,7 +21,7 @@ use Rattle.monitor.proofs.PidEntries.{inserted}
 use Rattle.monitor.proofs.PacketSteps.{carried_all, listed, start_of, starts_of}
 use Rattle.monitor.proofs.FindingSteps.{counts_of_found, counts_on}
 
--- 1. Packets and those that begin a payload unit
+-- 1. Packets, and packets that begin a payload unit
 
 abbrev tally : ℕ → PacketCounts → List (ℕ × Bool) → PacketCounts
 tally pid c [] = c

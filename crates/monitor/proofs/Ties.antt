@@ -1,4 +1,4 @@
--- Elements that are equal by a test are equal in the order that goes with it.
+-- Elements that a test finds equal are equal in the order that belongs to the test.
 use Rattle.std.proofs.Common.{◌≡◌, Bool, true, List, sym, ◌∙◌}
 use Rattle.std.specs.List.{Any}
 use Rattle.std.specs.Cmp.{Equal-is}

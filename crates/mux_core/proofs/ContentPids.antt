@@ -1,4 +1,4 @@
--- The PID that each slot's packet is on.
+-- The PID of each slot's packet.
 use Rattle.std.proofs.Common.{◌≡◌, ◌⊎◌, ℕ, ◌+◌, ◌*◌, ◌/◌, ◌<◌, ◌==◌, ◌&&◌, true, false, List, Option, Some, None, slice_get, option_map, refl, ap, sym, ◌∙◌}
 use Rattle.std.proofs.Common.{arith, inl, inr}
 use Rattle.std.proofs.lemmas.Bool.{cases_Bool, eqb-true, ne_eqb}
@@ -25,7 +25,7 @@ use Rattle.table_rounds.proofs.CarriedBytes.{part_fits}
 use Rattle.mux_core.specs.Scheduled.{Scheduled}
 use Rattle.mux_core.specs.Histories.{owned_stream, table_of, stream_in, pcr_content, table_in, content_in, content_at}
 
--- the PID that a slot's packet is on
+-- The PID of a slot's packet.
 unfoldable pub content_pid : Content → ℕ
 content_pid (PayloadContent pid number start payload) = pid
 content_pid (PcrContent pid pcr) = pid
@@ -46,14 +46,14 @@ content_pid_view (PayloadContent p number start payload) = refl
 content_pid_view (PcrContent p pcr) = refl
 content_pid_view NullContent = refl
 
--- no packet is marked as wrong
+-- No packet has the transport_error_indicator set.
 pub content_unmarked : (c : Content) → (view_of c).header.transport_error_indicator ≡ false
 unfolding view_of
 content_unmarked (PayloadContent pid number start payload) = refl
 content_unmarked (PcrContent pid pcr) = refl
 content_unmarked NullContent = refl
 
--- a packet is the null packet, or on the PID of what its slot names
+-- A packet is the null packet, or has the PID that its slot names.
 abbrev Speaks : Option ℕ → Content → Type 0
 Speaks o c = (c ≡ NullContent) ⊎ (o ≡ Some (content_pid c))
 
@@ -92,7 +92,7 @@ speaks d units s (Pcr i) = clock_speaks d s (slice_get d.description.programs i)
 speaks d units s (Table t) = table_speaks d s t (slice_get (table_kinds d.description) t)
 speaks d units s Null = inl refl
 
--- a slot whose packet is on this PID, not that of null packets, names what has it
+-- A slot whose packet has a PID below 8191 names that PID.
 pub names : (d : Scheduled) (units : ℕ → List AccessUnit) (s pid : ℕ) → pid < 8191 → is_of_pid pid (view_of (content_at d units s)) ≡ true →
     slot_pid d.description (slot_of d.schedule s) ≡ Some pid
 unfolding content_at
@@ -104,7 +104,7 @@ names d units s pid below e =
       | inr named ↦ named ∙ ap Some same
     ]
 
--- in other slots the PID of a slot's part is silent
+-- If a slot of the description names a PID, the packets of all other slots have other PIDs.
 pub silent : (d : Scheduled) (units : ℕ → List AccessUnit) (s pid : ℕ) (slot : Slot) → IsInRange d.description → slot_pid d.description slot ≡ Some pid
     → (slot_of d.schedule s ≡ slot → ⊥) → is_of_pid pid (view_of (content_at d units s)) ≡ false
 silent d units s pid slot r is other = elim (cases_Bool (is_of_pid pid (view_of (content_at d units s)))) [
@@ -115,7 +115,7 @@ silent d units s pid slot r is other = elim (cases_Bool (is_of_pid pid (view_of 
 pub not_null : (d : Scheduled) (pid : ℕ) (slot : Slot) → IsInRange d.description → slot_pid d.description slot ≡ Some pid → (pid == 8191) ≡ false
 not_null d pid slot r is = let below = slots_below d.description slot pid r is in ne_eqb pid 8191 (λ e. omega (arith, e, below))
 
--- ---- each can be a packet
+-- The fields of each packet fit
 
 reference_fits : (rate base0 i : ℕ) → ReferenceFits (pcr_at rate base0 i)
 reference_fits rate base0 i =
@@ -137,7 +137,7 @@ clock_fits d s i (Some p) r e =
     let below = slots_below d.description (Pcr i) p.pcr_pid r e in
     (omega (arith, below), reference_fits d.description.rate d.description.base0 (188 * s + 10))
 
--- streams' contents fit by themselves
+-- The contents of all streams fit into packets.
 abbrev pub StreamsFit : Scheduled → (ℕ → List AccessUnit) → Type 0
 StreamsFit d units = (k s : ℕ) (x : DescribedStream) → slice_get d.description.streams k ≡ Some x →
     ContentFits (stream_content (owned_stream d k x) (units k) s)

@@ -1,4 +1,4 @@
--- What a decoder gets from bytes that keep what they promise.
+-- What a decoder gets from bytes that keep their promises.
 use Rattle.std.proofs.Common.{◌≡◌, ◌⊎◌, ◌≤◌, ◌<◌, ℕ, zero, suc, ◌+◌, ◌*◌, ◌/◌, ◌%◌, ◌==◌, Bool, true, false, List, [], ◌∷◌, ◌++◌, length, map, filter, take}
 use Rattle.std.proofs.Common.{drop, slice_get, option_map, Some, None, Ok, All, refl, sym, ap, subst, ◌∙◌, inl, inr, arith}
 use Rattle.std.specs.Prelude.{◌&&◌, not}
@@ -21,8 +21,11 @@ use Rattle.description_parts.specs.Ranges.{IsInRange}
 use Rattle.slot_plan.specs.declared.slot.Slot.{Slot}
 use Rattle.slot_plan.specs.SlotPids.{slot_pid}
 use Rattle.slot_plan.proofs.SlotPids.{slots_below}
+use Rattle.unit_timing.specs.declared.multiplexing_buffer.MultiplexingBuffer.{MultiplexingBuffer}
 use Rattle.unit_timing.specs.Arrived.{AllLeft}
 use Rattle.unit_timing.specs.Transport.{pes_left, slots_of}
+use Rattle.unit_timing.specs.VideoBuffers.{multiplexing_left}
+use Rattle.plan_timing.specs.Waits.{pes_entered}
 use Rattle.unit_timing.proofs.LateUnits.{late_law}
 use Rattle.clock27.specs.Arrival.{arrivals}
 use Rattle.clock27.specs.Departure.{departures}
@@ -32,15 +35,16 @@ use Rattle.unit_queue.proofs.Leftover.{text_some}
 use Rattle.tstd.specs.Carried.{packets_on, timed_pes_packets}
 use Rattle.mux_core.specs.Scheduled.{Scheduled}
 use Rattle.mux_core.specs.Histories.{owned_stream}
-use Rattle.mux_core.specs.Headline.{StreamKept, Headline, IsTransportPacket, IsNamed, IsAccessAtStart}
+use Rattle.mux_core.specs.Headline.{StreamKept, VideoKept, Headline, IsTransportPacket, IsNamed, IsAccessAtStart}
 use Rattle.mux_core.specs.Decoder.{Follow, pieces_on, put_together, cut_thing}
-use Rattle.mux_core.specs.DecodedRuns.{IsDue, Arrives, StreamDecoded, DecodedLaw}
+use Rattle.mux_core.specs.DecodedRuns.{IsDue, Arrives, ArrivesInEb, StreamDecoded, DecodedLaw}
+use Rattle.mux_core.proofs.DecodedPackets.{all_in_the_clear, have_clocks, has_stamps, section_comes}
 use Rattle.mux_core.proofs.KnownRanges.{stream_range}
 use Rattle.mux_core.proofs.RandomAccess.{access_on}
 use Rattle.mux_core.proofs.PutUnits.{Sent, SentBytes, bytes_in, cut_one, cut_all, sent_bytes, pes_whole}
-use Rattle.mux_core.proofs.UnitBytes.{unit_bytes, unit_left, left_few, piece_bytes}
+use Rattle.mux_core.proofs.UnitBytes.{unit_bytes, unit_left, unit_stays, left_few, piece_bytes}
 
--- ---- counters
+-- Continuity counters
 
 pub count_on : (es : List Entry) → ((j : ℕ) (e : Entry) → slice_get es j ≡ Some e → e.packet.header.continuity_counter ≡ j % 16) → Follow es
 count_on es counters j e f here next =
@@ -48,13 +52,13 @@ count_on es counters j e f here next =
     let two : f.packet.header.continuity_counter ≡ suc j % 16 = counters (suc j) f next in
     omega (arith, one, two)
 
--- ---- packets
+-- Packets
 
 chunk_count : (k : ℕ) (bytes : List ℕ) → length (first_chunks 188 k bytes) ≡ k
 chunk_count zero bytes = refl
 chunk_count (suc k) bytes = ap suc (chunk_count k (drop 188 bytes))
 
--- the packets of chunks, the first of which has this index
+-- The packets of chunks; the first chunk has this index.
 entries_from : ℕ → List (List ℕ) → List Entry
 entries_from index chunks = filter_map (λ p. entry_of p.0 p.1 (packet_at p.1)) (enumerate_from index chunks)
 
@@ -70,7 +74,7 @@ each_read : (bytes : List ℕ) → All IsTransportPacket (cut_packets bytes) →
 unfolding entries_from
 each_read bytes all = all_entries 0 (cut_packets bytes) all ∙ chunk_count (length bytes / 188) bytes
 
--- ---- PIDs
+-- PIDs
 
 abbrev IsKnown : Described → Entry → Type 0
 IsKnown d e = (e.packet ≡ null_view) ⊎ IsNamed d e.packet
@@ -128,9 +132,9 @@ null_alone d (e ∷ es) r all =
       | inr n ↦ rw n rest
     ]
 
--- ---- units
+-- Units
 
--- a unit's PES packet, and whether a decoder may begin with it
+-- A unit's PES packet, and whether a decoder may begin at the unit.
 abbrev sent_as : OwnedStream → AccessUnit → Sent
 sent_as l u = (has_access u, pes_bytes l u)
 
@@ -141,7 +145,7 @@ some_bytes : (l : OwnedStream) (us : List AccessUnit) → All SentBytes (map (se
 some_bytes l [] = All-nil SentBytes
 some_bytes l (u ∷ us) = All-cons SentBytes (sent_as l u) (map (sent_as l) us) (omega (arith, text_some l u)) (some_bytes l us)
 
--- the PES packets alone
+-- The PES packets of units, without the marks of random access.
 bytes_sent : (l : OwnedStream) (us : List AccessUnit) (k : ℕ) → sent_bytes (take k (map (sent_as l) us)) ≡ take k (map (pes_bytes l) us)
 bytes_sent l [] zero = refl
 bytes_sent l [] (suc k) = refl
@@ -155,7 +159,7 @@ with_next (x ∷ pes) p zero is = let same : x ≡ p = cc in length-append x [] 
 with_next (x ∷ pes) p (suc i) is =
     omega (arith, with_next pes p i is, length-append x (concat (take (suc i) pes)), length-append x (concat (take i pes)))
 
--- where the bytes of a due unit stand, and that they have left
+-- The bytes of a due unit are in the payloads of its PID, and they have left the transport buffer.
 record Came (d : Scheduled) (k : ℕ) (s : DescribedStream) (units : List AccessUnit) (i : ℕ) (u : AccessUnit) (bytes : List ℕ) : Type 0 where
   sent : length (concat (take i (map (pes_bytes (owned_stream d k s)) units))) + length (pes_bytes (owned_stream d k s) u)
       ≤ length (concat (map (λ e. payload_of e.packet) (pid_list s.pid bytes)))
@@ -183,6 +187,19 @@ came d k s units slots bytes i u kept is due =
     let few = left_few (pid_list s.pid bytes) (departures rate 0 (arrivals s.rx (slots_of (packets_on s.pid bytes)))) in
     record { sent = omega (arith, enough, few); left = enough; in_time = mine.1 }
 
+in_eb : (d : Scheduled) (k : ℕ) (s : DescribedStream) (b : MultiplexingBuffer) (units : List AccessUnit) (slots : ℕ) (bytes : List ℕ) (i : ℕ)
+    (u : AccessUnit) → VideoKept d s b units slots bytes → slice_get units i ≡ Some u → IsDue d.description slots u →
+    ArrivesInEb d.description s b u.dts (length (concat (take i (map (pes_bytes (owned_stream d k s)) units)))) (length (pes_bytes (owned_stream d k s) u)) bytes
+in_eb d k s b units slots bytes i u kept is due =
+    let l = owned_stream d k s in
+    let left : List ℕ = multiplexing_left d.description.rate s.rx b.rbx (packets_on s.pid bytes) in
+    let mine = unit_left (λ (x : AccessUnit). x.dts) (pes_bytes l) (λ (x : AccessUnit). field_size x.marks.random_access) d.description.rate (s.rx * b.rbx) slots
+    units u i left kept.whole is due in
+    record {
+      left = omega (arith, mine.0, text_some l u, length-drop (length (concat (take i (map (pes_bytes l) units)))) left);
+      in_time = mine.1;
+    }
+
 pub stream_decoded : (d : Scheduled) (k : ℕ) (s : DescribedStream) (units : List AccessUnit) (slots : ℕ) (bytes : List ℕ) → IsInRange d.description →
     slice_get d.description.streams k ≡ Some s → All (λ e. IsAccessAtStart e.packet) (entries_of bytes) → StreamKept d k s units slots bytes →
     StreamDecoded d k s units slots bytes
@@ -199,6 +216,11 @@ stream_decoded d k s units slots bytes r there known kept = record {
   arrive = λ i u is due.
       let c = came d k s units slots bytes i u kept is due in
       record { there = unit_bytes pes (pes_bytes l u) _ i kept.carried (named i u is) c.sent; left = c.left; in_time = c.in_time };
+  video = λ b has i u is due. in_eb d k s b units slots bytes i u (kept.video b has) is due;
+  stamps = λ i u is fits. has_stamps s.stream_id d.description.base0 u fits;
+  stay = λ i u is.
+      unit_stays (λ (x : AccessUnit). x.dts) (pes_bytes l) (λ (x : AccessUnit). field_size x.marks.random_access) 90000 d.description.rate s.rx units u i
+      (pes_entered s.rx (packets_on s.pid bytes)) kept.waits is;
   soon = λ j e u here sender.
       let released = kept.not_early j e u here sender in
       let most = mul-le-mul_right d.description.rate (stream_range d.description k s r there).most_lead in
@@ -214,7 +236,7 @@ stream_decoded d k s units slots bytes r there known kept = record {
     named : (i : ℕ) (u : AccessUnit) → slice_get units i ≡ Some u → slice_get pes i ≡ Some (pes_bytes l u)
     named i u is = slice_get-map (pes_bytes l) units i ∙ ap (option_map (pes_bytes l)) is
 
--- ---- the whole
+-- The law `decoded`
 
 pub decoded : DecodedLaw
 decoded d units slots bytes r h =
@@ -222,8 +244,16 @@ decoded d units slots bytes r h =
     record {
       read = each_read bytes h.packets ∙ count;
       unmarked = all_clear d.description (entries_of bytes) h.pids;
+      clear = all_in_the_clear d.description (entries_of bytes) h.clear;
       silent = λ pid other none. none_listed d.description pid (entries_of bytes) other none h.pids;
       nulls = null_alone d.description (entries_of bytes) r h.pids;
       streams = λ k s is. stream_decoded d k s (units k) slots bytes r is h.access (h.streams k s is);
-      tables = λ t lt. count_on (pid_list _ bytes) (h.tables t lt).sections.counters;
+      programs = λ i p is. record {
+        clocks = have_clocks d.description.rate d.description.base0 p.pcr_pid (pid_list p.pcr_pid bytes) (h.programs i p is).clocks;
+        recur = (h.programs i p is).pcrs_recur;
+      };
+      tables = λ t lt. record {
+        follow = count_on (pid_list _ bytes) (h.tables t lt).sections.counters;
+        sections = λ j within. section_comes d t slots bytes j (h.tables t lt) within;
+      };
     }

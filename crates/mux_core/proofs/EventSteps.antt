@@ -1,4 +1,4 @@
--- Units fed and slots written in any order.
+-- Feeding units and writing slots in any order.
 use Rattle.std.proofs.Common.{◌≡◌, ℕ, suc, ◌+◌, ◌<◌, ◌≤◌, ◌^◌, Bool, false, cond, List, [], ◌∷◌, ◌++◌, Option, Some, None, Result, Ok, Err, refl, sym, ap, ◌∙◌}
 use Rattle.std.proofs.Common.{subst, arith, append_assoc, append-nil, inl, inr}
 use Rattle.std.specs.Prelude.{slice_get, IfErr}
@@ -13,16 +13,16 @@ use Rattle.unit_queue.specs.declared.refusal.FeedError.{FeedError}
 use Rattle.packet_output.specs.Formats.{formatted}
 use Rattle.mux_core.specs.Scheduled.{Scheduled}
 use Rattle.mux_core.specs.Histories.{History, content_at, bytes_of, empty_history, next_slot}
-use Rattle.mux_core.specs.MuxStates.{MuxState, Stands, Gives, Takes, feed_cause}
+use Rattle.mux_core.specs.MuxStates.{MuxState, Represents, Gives, Takes, feed_cause}
 use Rattle.mux_core.specs.Headline.{Headline}
-use Rattle.mux_core.specs.Events.{Step, FeedStep, SlotStep, fed_history, step_history, history_after, Adds, StandsOn, WrittenStays, OrderIsFree}
+use Rattle.mux_core.specs.Events.{Step, FeedStep, SlotStep, fed_history, step_history, history_after, Adds, StillRepresents, WrittenStays, OrderIsFree}
 use Rattle.mux_core.specs.declared.done.Done.{Done}
 use Rattle.mux_core.proofs.FedUnits.{bytes_kept}
 use Rattle.mux_core.proofs.MuxStates.{feed_laws}
-use Rattle.mux_core.proofs.Accepted.{standing}
+use Rattle.mux_core.proofs.Accepted.{any_state}
 use Rattle.mux_core.proofs.JobWriting.{output_bytes, output_more}
 
--- the bytes of one slot more
+-- Each slot appends its packet to the bytes of the history.
 bytes_more : (d : Scheduled) (h : History) → bytes_of d (next_slot h) ≡ bytes_of d h ++ packet_of (content_at d h.units h.slots)
 unfolding formatted
 bytes_more d h =
@@ -41,7 +41,7 @@ adds_more d h g k old mid new a b = record {
   output = b.output ∙ ap (λ (l : List ℕ). l ++ b.added) a.output ∙ append_assoc old a.added b.added;
 }
 
--- ---- one slot
+-- One slot
 
 slot_there : (d : Scheduled) (capacity : ℕ) (h : History) → h.slots < 2 ^ 40 → step_history d capacity h SlotStep ≡ next_slot h
 unfolding step_history
@@ -52,9 +52,9 @@ unfolding step_history
 slot_past d capacity h le = ap (λ (b : Bool). cond b (next_slot h) h) (le-ltb h.slots (2 ^ 40) le)
 
 pub slot_given : (h : History) (old new : MuxState) (packet : List ℕ) → Gives h old (Ok packet) new →
-    StandsOn (step_history old.schedule old.capacity h SlotStep) old new
+    StillRepresents (step_history old.schedule old.capacity h SlotStep) old new
 slot_given h old new packet g = record {
-  stands = subst (λ (x : History). Stands x new) (sym (slot_there old.schedule old.capacity h g.0)) g.3;
+  represents = subst (λ (x : History). Represents x new) (sym (slot_there old.schedule old.capacity h g.0)) g.3;
   same_schedule = g.2;
   same_capacity = g.4;
 }
@@ -65,11 +65,11 @@ slot_added h old new packet out g =
     subst (λ (x : History). Adds old.schedule h x out (out ++ packet)) (sym (slot_there old.schedule old.capacity h g.0))
     (record { added = packet; bytes = bytes_more old.schedule h ∙ ap (λ (l : List ℕ). bytes_of old.schedule h ++ l) (sym g.1); output = refl })
 
-pub done_stands : (h : History) (old new : MuxState) (e : Done) → Stands h old → Gives h old (Err e) new →
-    StandsOn (step_history old.schedule old.capacity h SlotStep) old new
-done_stands h old new e st g = subst (λ (x : History). StandsOn x old new) (sym (slot_past old.schedule old.capacity h g.0))
+pub done_represents : (h : History) (old new : MuxState) (e : Done) → Represents h old → Gives h old (Err e) new →
+    StillRepresents (step_history old.schedule old.capacity h SlotStep) old new
+done_represents h old new e st g = subst (λ (x : History). StillRepresents x old new) (sym (slot_past old.schedule old.capacity h g.0))
     (record {
-      stands = subst (λ (m : MuxState). Stands h m) (sym g.1) st;
+      represents = subst (λ (m : MuxState). Represents h m) (sym g.1) st;
       same_schedule = ap (λ (m : MuxState). m.schedule) g.1;
       same_capacity =
           ap (λ (m : MuxState). m.capacity) g.1;
@@ -80,14 +80,14 @@ pub done_added : (h : History) (old new : MuxState) (e : Done) (out : List ℕ) 
 done_added h old new e out g =
     subst (λ (x : History). Adds old.schedule h x out out) (sym (slot_past old.schedule old.capacity h g.0)) (adds_none old.schedule h out)
 
--- ---- one unit
+-- One unit
 
-unit_stands : {V : Type 0} (h : History) (old new : MuxState) (k : ℕ) (u : AccessUnit) (result : Result V (FeedError × AccessUnit)) → Stands h old →
-    Takes h old k u (refusal result) new → IfErr result (λ e. (e.1 ≡ u) × (new ≡ old)) → StandsOn (fed_history h k u (refusal result)) old new
+unit_represents : {V : Type 0} (h : History) (old new : MuxState) (k : ℕ) (u : AccessUnit) (result : Result V (FeedError × AccessUnit)) → Represents h old →
+    Takes h old k u (refusal result) new → IfErr result (λ e. (e.1 ≡ u) × (new ≡ old)) → StillRepresents (fed_history h k u (refusal result)) old new
 unfolding fed_history
-unit_stands h old new k u (Ok x) st t same = record { stands = t.stands refl; same_schedule = t.same_schedule; same_capacity = t.same_capacity }
-unit_stands h old new k u (Err e) st t same = record {
-  stands = subst (λ (m : MuxState). Stands h m) (sym same.1) st;
+unit_represents h old new k u (Ok x) st t same = record { represents = t.represents refl; same_schedule = t.same_schedule; same_capacity = t.same_capacity }
+unit_represents h old new k u (Err e) st t same = record {
+  represents = subst (λ (m : MuxState). Represents h m) (sym same.1) st;
   same_schedule = t.same_schedule;
   same_capacity = t.same_capacity;
 }
@@ -102,61 +102,62 @@ pub unit_kept : (d : Scheduled) (capacity : ℕ) (h : History) (k : ℕ) (u : Ac
 unfolding step_history
 unit_kept d capacity h k u = unit_kept_in d capacity h k u (feed_cause d capacity h k u (slice_get d.description.streams k)) refl
 
-pub unit_taken : {V : Type 0} (h : History) (old new : MuxState) (k : ℕ) (u : AccessUnit) (result : Result V (FeedError × AccessUnit)) → Stands h old →
+pub unit_taken : {V : Type 0} (h : History) (old new : MuxState) (k : ℕ) (u : AccessUnit) (result : Result V (FeedError × AccessUnit)) → Represents h old →
     Takes h old k u (refusal result) new → IfErr result (λ e. (e.1 ≡ u) × (new ≡ old)) →
-    StandsOn (step_history old.schedule old.capacity h (FeedStep k u)) old new
+    StillRepresents (step_history old.schedule old.capacity h (FeedStep k u)) old new
 unfolding step_history
 unit_taken h old new k u result st t same =
-    subst (λ (x : Option FeedError). StandsOn (fed_history h k u x) old new) t.first (unit_stands h old new k u result st t same)
+    subst (λ (x : Option FeedError). StillRepresents (fed_history h k u x) old new) t.first (unit_represents h old new k u result st t same)
 
--- ---- events in their order
+-- Steps in their order
 
 pub record Driven (h : History) (old new : MuxState) (steps left : List Step) (out now : List ℕ) : Type 0 where
   pub so_far : History
   pub is : history_after old.schedule old.capacity h steps ≡ history_after old.schedule old.capacity so_far left
-  pub stands : StandsOn so_far old new
+  pub represents : StillRepresents so_far old new
   pub adds : Adds old.schedule h so_far out now
 
-pub driven_none : (h : History) (m : MuxState) (steps : List Step) (out : List ℕ) → Stands h m → Driven h m m steps steps out out
+pub driven_none : (h : History) (m : MuxState) (steps : List Step) (out : List ℕ) → Represents h m → Driven h m m steps steps out out
 driven_none h m steps out st =
-    record { so_far = h; is = refl; stands = record { stands = st; same_schedule = refl; same_capacity = refl }; adds = adds_none m.schedule h out }
+    record { so_far = h; is = refl; represents = record { represents = st; same_schedule = refl; same_capacity = refl }; adds = adds_none m.schedule h out }
 
 pub driven_more : (h : History) (old mid new : MuxState) (steps left : List Step) (step : Step) (out now later : List ℕ)
     (w : Driven h old mid steps (step ∷ left) out now) →
-    StandsOn (step_history mid.schedule mid.capacity w.so_far step) mid new →
+    StillRepresents (step_history mid.schedule mid.capacity w.so_far step) mid new →
     Adds mid.schedule w.so_far (step_history mid.schedule mid.capacity w.so_far step) now later → Driven h old new steps left out later
 unfolding history_after
 driven_more h old mid new steps left step out now later w on adds =
     let same : step_history mid.schedule mid.capacity w.so_far step ≡ step_history old.schedule old.capacity w.so_far step =
-    ap (λ (d : Scheduled). step_history d mid.capacity w.so_far step) w.stands.same_schedule
-    ∙ ap (λ (n : ℕ). step_history old.schedule n w.so_far step) w.stands.same_capacity in
-    let there = subst (λ (x : History). StandsOn x mid new) same on in
+    ap (λ (d : Scheduled). step_history d mid.capacity w.so_far step) w.represents.same_schedule
+    ∙ ap (λ (n : ℕ). step_history old.schedule n w.so_far step) w.represents.same_capacity in
+    let there = subst (λ (x : History). StillRepresents x mid new) same on in
     record {
       so_far = step_history old.schedule old.capacity w.so_far step;
       is = w.is;
-      stands = record {
-        stands = there.stands;
-        same_schedule = there.same_schedule ∙ w.stands.same_schedule;
+      represents = record {
+        represents = there.represents;
+        same_schedule = there.same_schedule ∙ w.represents.same_schedule;
         same_capacity =
-            there.same_capacity ∙ w.stands.same_capacity;
+            there.same_capacity ∙ w.represents.same_capacity;
       };
       adds = adds_more old.schedule h w.so_far (step_history old.schedule old.capacity w.so_far step) out now later w.adds
           (subst (λ (x : History). Adds old.schedule w.so_far x now later) same
-          (subst (λ (d : Scheduled). Adds d w.so_far (step_history mid.schedule mid.capacity w.so_far step) now later) w.stands.same_schedule adds));
+          (subst (λ (d : Scheduled). Adds d w.so_far (step_history mid.schedule mid.capacity w.so_far step) now later) w.represents.same_schedule adds));
     }
 
 pub driven_unit : (d : Scheduled) (h later : History) (out : List ℕ) → bytes_of d later ≡ bytes_of d h → Adds d h later out out
 driven_unit d h later out e = record { added = []; bytes = e ∙ sym (append-nil (bytes_of d h)); output = sym (append-nil out) }
 
--- all are done
+-- Once no step is left, the history is the final history.
 driven_to : (h : History) (old new : MuxState) (steps left : List Step) (out now : List ℕ) (w : Driven h old new steps left out now) → left ≡ [] →
     w.so_far ≡ history_after old.schedule old.capacity h steps
 unfolding history_after
 driven_to h old new steps left out now w none = sym (w.is ∙ ap (λ (l : List Step). history_after old.schedule old.capacity w.so_far l) none)
 
-pub driven_stands : (h : History) (old new : MuxState) (steps left : List Step) (out now : List ℕ) → Driven h old new steps left out now → left ≡ [] →
-    StandsOn (history_after old.schedule old.capacity h steps) old new
-driven_stands h old new steps left out now w none = subst (λ (x : History). StandsOn x old new) (driven_to h old new steps left out now w none) w.stands
+pub driven_represents : (h : History) (old new : MuxState) (steps left : List Step) (out now : List ℕ) → Driven h old new steps left out now → left ≡ [] →
+    StillRepresents (history_after old.schedule old.capacity h steps) old new
+driven_represents h old new steps left out now w none =
+    subst (λ (x : History). StillRepresents x old new) (driven_to h old new steps left out now w none) w.represents
 
 pub driven_adds : (h : History) (old new : MuxState) (steps left : List Step) (out now : List ℕ) → Driven h old new steps left out now → left ≡ [] →
     Adds old.schedule h (history_after old.schedule old.capacity h steps) out now
@@ -167,13 +168,13 @@ pub driven_headline : (h : History) (old new : MuxState) (steps left : List Step
     Headline old.schedule (history_after old.schedule old.capacity h steps).units (history_after old.schedule old.capacity h steps).slots
     (bytes_of old.schedule (history_after old.schedule old.capacity h steps))
 driven_headline h old new steps left out now ranges promised w none =
-    let on = driven_stands h old new steps left out now w none in
+    let on = driven_represents h old new steps left out now w none in
     let after = history_after old.schedule old.capacity h steps in
     subst (λ (d : Scheduled). Headline d after.units after.slots (run_bytes (content_at d after.units) 0 after.slots)) on.same_schedule
-    (standing after new after.slots (subst (λ (d : Scheduled). IsInRange d.description) (sym on.same_schedule) ranges)
-    (subst (λ (d : Scheduled). Promised d.description d.schedule) (sym on.same_schedule) promised) on.stands)
+    (any_state after new after.slots (subst (λ (d : Scheduled). IsInRange d.description) (sym on.same_schedule) ranges)
+    (subst (λ (d : Scheduled). Promised d.description d.schedule) (sym on.same_schedule) promised) on.represents)
 
--- ---- laws
+-- Laws of steps
 
 step_stays : (d : Scheduled) (capacity : ℕ) (h : History) (step : Step) →
     (added : List ℕ) × (bytes_of d (step_history d capacity h step) ≡ bytes_of d h ++ added)

@@ -1,4 +1,4 @@
--- One unit: it is refused for the cause that the history gives, and an accepted one is one more of its stream, before which nothing changes.
+-- Feeding one unit: a refused unit is refused for the cause that the history gives. An accepted unit is appended to its stream and changes no earlier slot.
 use Rattle.std.specs.Prelude.{ℕ, suc, zero, ◌+◌, ◌<◌, cond, Bool, true, List, [], ◌∷◌, ◌++◌, Option, Some, None, slice_get, option_map}
 use Rattle.std.proofs.Common.{◌≡◌, ◌≢◌, inl, inr, refl, sym, ◌∙◌, ap, subst, arith}
 use Rattle.std.proofs.lemmas.Bool.{eq-eqb, ne_eqb, cases_eq}
@@ -19,7 +19,7 @@ use Rattle.unit_queue.specs.QueueSteps.{accepted}
 use Rattle.unit_queue.specs.Laws.{CauseLaw, FedLaw, LaterUnitLaw}
 use Rattle.mux_core.specs.Scheduled.{Scheduled}
 use Rattle.mux_core.specs.Histories.{History, owned_stream, parameters_of, stream_in, content_in, content_at, bytes_of, with_unit}
-use Rattle.mux_core.specs.MuxStates.{MuxState, Stands, QueueStands, Takes, feed_cause, refusal_of}
+use Rattle.mux_core.specs.MuxStates.{MuxState, Represents, QueueRepresents, Takes, feed_cause, refusal_of}
 use Rattle.mux_core.specs.SlotSteps.{queue_cause, queues_with, fed}
 
 pub record FeedLaws : Type 0 where
@@ -27,25 +27,25 @@ pub record FeedLaws : Type 0 where
   pub fed : FedLaw
   pub later : LaterUnitLaw
 
--- the rules of each stream are such as a queue asks for
+-- The parameters of each stream are in the ranges that its queue requires.
 abbrev pub ParametersKnown : Scheduled → Type 0
 ParametersKnown d = (k : ℕ) (s : DescribedStream) → slice_get d.description.streams k ≡ Some s → ParametersInRange (parameters_of d.description s)
 
--- ---- the cause
+-- The cause of a refusal
 
 cause_is : CauseLaw → (d : Scheduled) (h : History) (capacity k : ℕ) (u : AccessUnit) (q : Option Queue) (s : Option DescribedStream) →
-    QueueStands d h capacity k q s → queue_cause h.slots u q ≡ feed_cause d capacity h k u s
+    QueueRepresents d h capacity k q s → queue_cause h.slots u q ≡ feed_cause d capacity h k u s
 unfolding queue_cause feed_cause
 cause_is law d h capacity k u (Some q) (Some s) st = law (owned_stream d k s) h.slots capacity (h.units k) q u st
 cause_is law d h capacity k u (Some q) None st = absurd st
 cause_is law d h capacity k u None (Some s) st = absurd st
 cause_is law d h capacity k u None None st = refl
 
--- ---- the queues
+-- The queues after a unit
 
 stream_fed : FedLaw → (d : Scheduled) (h : History) (capacity k : ℕ) (u : AccessUnit) (q : Option Queue) (s : Option DescribedStream) →
-    ParametersKnown d → slice_get d.description.streams k ≡ s → feed_cause d capacity h k u s ≡ None → QueueStands d h capacity k q s →
-    QueueStands d (with_unit h k u) capacity k (option_map (λ x. accepted x u) q) s
+    ParametersKnown d → slice_get d.description.streams k ≡ s → feed_cause d capacity h k u s ≡ None → QueueRepresents d h capacity k q s →
+    QueueRepresents d (with_unit h k u) capacity k (option_map (λ x. accepted x u) q) s
 unfolding feed_cause
 stream_fed law d h capacity k u (Some q) (Some s) rules is none st =
     subst (λ (b : Bool). QueueHolds (owned_stream d k s) h.slots capacity (cond b (h.units k ++ (u ∷ [])) (h.units k)) (accepted q u)) (sym (eq-eqb k k refl))
@@ -55,7 +55,7 @@ stream_fed law d h capacity k u None (Some s) rules is none st = st
 stream_fed law d h capacity k u None None rules is none st = st
 
 stream_unfed : (d : Scheduled) (h : History) (capacity j k : ℕ) (u : AccessUnit) (q : Option Queue) (s : Option DescribedStream) → j ≢ k →
-    QueueStands d h capacity j q s → QueueStands d (with_unit h k u) capacity j q s
+    QueueRepresents d h capacity j q s → QueueRepresents d (with_unit h k u) capacity j q s
 stream_unfed d h capacity j k u (Some q) (Some s) ne st =
     subst (λ (b : Bool). QueueHolds (owned_stream d j s) h.slots capacity (cond b (h.units j ++ (u ∷ [])) (h.units j)) q) (sym (ne_eqb j k ne)) st
 stream_unfed d h capacity j k u (Some q) None ne st = st
@@ -75,20 +75,21 @@ fed_other j k u queues (Some q) ne = slice_get-set_other queues k j (accepted q 
 
 streams_fed : FedLaw → (d : Scheduled) (h : History) (capacity k : ℕ) (u : AccessUnit) (queues : List Queue) → ParametersKnown d →
     feed_cause d capacity h k u (slice_get d.description.streams k) ≡ None →
-    ((j : ℕ) → QueueStands d h capacity j (slice_get queues j) (slice_get d.description.streams j)) → (j : ℕ) →
-    QueueStands d (with_unit h k u) capacity j (slice_get (queues_with queues k u (slice_get queues k)) j) (slice_get d.description.streams j)
+    ((j : ℕ) → QueueRepresents d h capacity j (slice_get queues j) (slice_get d.description.streams j)) → (j : ℕ) →
+    QueueRepresents d (with_unit h k u) capacity j (slice_get (queues_with queues k u (slice_get queues k)) j) (slice_get d.description.streams j)
 streams_fed law d h capacity k u queues rules none st j = elim (cases_eq j k) [
   | inl e ↦ subst
-      (λ (n : ℕ). QueueStands d (with_unit h k u) capacity n (slice_get (queues_with queues k u (slice_get queues k)) n) (slice_get d.description.streams n))
-      (sym e) (subst (λ (o : Option Queue). QueueStands d (with_unit h k u) capacity k o (slice_get d.description.streams k))
+      (λ (n : ℕ). QueueRepresents d (with_unit h k u) capacity n (slice_get (queues_with queues k u (slice_get queues k)) n)
+      (slice_get d.description.streams n))
+      (sym e) (subst (λ (o : Option Queue). QueueRepresents d (with_unit h k u) capacity k o (slice_get d.description.streams k))
       (sym (fed_same k u queues (slice_get queues k) refl))
       (stream_fed law d h capacity k u (slice_get queues k) (slice_get d.description.streams k) rules refl none (st k)))
-  | inr ne ↦ subst (λ (o : Option Queue). QueueStands d (with_unit h k u) capacity j o (slice_get d.description.streams j))
+  | inr ne ↦ subst (λ (o : Option Queue). QueueRepresents d (with_unit h k u) capacity j o (slice_get d.description.streams j))
       (sym (fed_other j k u queues (slice_get queues k) ne))
       (stream_unfed d h capacity j k u (slice_get queues j) (slice_get d.description.streams j) ne (st j))
 ]
 
--- ---- what was written stays
+-- A new unit changes no slot that is already written
 
 own_kept : LaterUnitLaw → (d : Scheduled) (h : History) (capacity k t : ℕ) (u : AccessUnit) (s : Option DescribedStream) →
     feed_cause d capacity h k u s ≡ None → owned d.schedule (StreamItem k) t ≡ true → t < h.slots →
@@ -120,7 +121,7 @@ content_kept law d h capacity k t u (Pcr p) is none lt = refl
 content_kept law d h capacity k t u (Table x) is none lt = refl
 content_kept law d h capacity k t u Null is none lt = refl
 
--- equal slots give equal bytes
+-- Equal contents give equal bytes.
 pub run_same : (f g : ℕ → Content) (s n : ℕ) → ((t : ℕ) → t < s + n → f t ≡ g t) → run_bytes f s n ≡ run_bytes g s n
 unfolding run_bytes
 run_same f g s zero same = refl
@@ -134,26 +135,26 @@ unfolding content_at
 bytes_kept law d h capacity k u none = run_same (content_at d (with_unit h k u).units) (content_at d h.units) 0 h.slots
     (λ t lt. content_kept law d h capacity k t u (slot_of d.schedule t) refl none (omega (arith, lt)))
 
--- ---- the whole
+-- The state and the history after a unit
 
--- how the state takes a unit
+-- The state after a unit is offered: it is refused for the queue's cause, or the state is `fed`.
 pub record Feeds (old : MuxState) (k : ℕ) (u : AccessUnit) (refused : Option FeedError) (new : MuxState) : Type 0 where
   pub first : refused ≡ queue_cause old.slots u (slice_get old.queues k)
   pub taken : refused ≡ None → new ≡ fed old k u
   pub same_schedule : new.schedule ≡ old.schedule
   pub same_capacity : new.capacity ≡ old.capacity
 
-cause_of : CauseLaw → (h : History) (m : MuxState) (k : ℕ) (u : AccessUnit) → Stands h m → queue_cause m.slots u (slice_get m.queues k) ≡ refusal_of m h k u
+cause_of : CauseLaw → (h : History) (m : MuxState) (k : ℕ) (u : AccessUnit) → Represents h m → queue_cause m.slots u (slice_get m.queues k) ≡ refusal_of m h k u
 cause_of law h m k u st = ap (λ (n : ℕ). queue_cause n u (slice_get m.queues k)) st.written
     ∙ cause_is law m.schedule h m.capacity k u (slice_get m.queues k) (slice_get m.schedule.description.streams k) (st.streams k)
 
 pub takes : FeedLaws → (h : History) (old : MuxState) (k : ℕ) (u : AccessUnit) (refused : Option FeedError) (new : MuxState) → ParametersKnown old.schedule →
-    Stands h old → Feeds old k u refused new → Takes h old k u refused new
+    Represents h old → Feeds old k u refused new → Takes h old k u refused new
 takes laws h old k u refused new rules st feeds =
     let first = feeds.first ∙ cause_of laws.cause h old k u st in
     record {
       first = first;
-      stands = λ none. subst (λ (m : MuxState). Stands (with_unit h k u) m) (sym (feeds.taken none)) (record {
+      represents = λ none. subst (λ (m : MuxState). Represents (with_unit h k u) m) (sym (feeds.taken none)) (record {
         written = st.written;
         streams = streams_fed laws.fed old.schedule h old.capacity k u old.queues rules (sym first ∙ none) st.streams;
         tables = st.tables;

@@ -15,11 +15,11 @@ use Rattle.table_rounds.specs.Carousels.{Carousel}
 use Rattle.table_rounds.proofs.CarouselSteps.{first_carousel_holds}
 use Rattle.mux_core.specs.Scheduled.{Scheduled}
 use Rattle.mux_core.specs.Histories.{empty_history, parameters_of, owned_stream, table_of}
-use Rattle.mux_core.specs.MuxStates.{Stands, QueueStands, CarouselStands}
+use Rattle.mux_core.specs.MuxStates.{Represents, QueueRepresents, CarouselRepresents}
 use Rattle.mux_core.specs.NewMux.{first_queue, first_carousel, first_carousels}
 use Rattle.mux_core.proofs.KnownRanges.{parameters_fit, tables_known}
 
--- ---- one more of them
+-- One more queue or carousel
 
 pub next_queue : (d : Described) (capacity i : ℕ) (queues : List Queue) (s : DescribedStream) → s ≡ get_or d.streams i s → i < length d.streams →
     queues ≡ map (first_queue d capacity) (take i d.streams) →
@@ -55,7 +55,7 @@ pub carousels_none : (d : Described) → [] ≡ first_carousels d 0 0
 unfolding first_carousels
 carousels_none d = refl
 
--- ---- what they stand for
+-- The first queues and carousels represent the empty history
 
 queues_at : (d : Described) (capacity k : ℕ) (streams : List DescribedStream) →
     slice_get (map (first_queue d capacity) streams) k ≡ option_map (first_queue d capacity) (slice_get streams k)
@@ -63,10 +63,10 @@ queues_at d capacity k [] = refl
 queues_at d capacity zero (s ∷ streams) = refl
 queues_at d capacity (suc k) (s ∷ streams) = queues_at d capacity k streams
 
-queue_stands : (d : Scheduled) (capacity k : ℕ) (s : Option DescribedStream) →
-    QueueStands d empty_history capacity k (option_map (first_queue d.description capacity) s) s
-queue_stands d capacity k (Some s) = first_law (owned_stream d k s) capacity
-queue_stands d capacity k None = tt
+queue_represents : (d : Scheduled) (capacity k : ℕ) (s : Option DescribedStream) →
+    QueueRepresents d empty_history capacity k (option_map (first_queue d.description capacity) s) s
+queue_represents d capacity k (Some s) = first_law (owned_stream d k s) capacity
+queue_represents d capacity k None = tt
 
 carousels_at : (d : Described) (t k : ℕ) (kinds : List TableKind) →
     slice_get (first_carousels d t (length kinds)) k ≡ option_map (λ x. first_carousel d (t + k)) (slice_get kinds k)
@@ -79,32 +79,33 @@ carousels_here : (d : Described) (k : ℕ) (kinds : List TableKind) →
     slice_get (first_carousels d 0 (length kinds)) k ≡ option_map (λ x. first_carousel d k) (slice_get kinds k)
 carousels_here d k kinds = carousels_at d 0 k kinds ∙ ap (λ (n : ℕ). option_map (λ x. first_carousel d n) (slice_get kinds k)) (omega arith)
 
-carousel_stands : (d : Scheduled) (t : ℕ) (kind : Option TableKind) → IsInRange d.description → slice_get (table_kinds d.description) t ≡ kind →
-    CarouselStands d empty_history t (option_map (λ x. first_carousel d.description t) kind) kind
-carousel_stands d t (Some kind) ranges is = first_carousel_holds (table_of d t) ((tables_known sections_law d ranges).places t kind is)
-carousel_stands d t None ranges is = tt
+carousel_represents : (d : Scheduled) (t : ℕ) (kind : Option TableKind) → IsInRange d.description → slice_get (table_kinds d.description) t ≡ kind →
+    CarouselRepresents d empty_history t (option_map (λ x. first_carousel d.description t) kind) kind
+carousel_represents d t (Some kind) ranges is = first_carousel_holds (table_of d t) ((tables_known sections_law d ranges).places t kind is)
+carousel_represents d t None ranges is = tt
 
-pub stands_first : (d : Scheduled) (capacity : ℕ) → IsInRange d.description →
-    Stands empty_history (record {
+pub represents_first : (d : Scheduled) (capacity : ℕ) → IsInRange d.description →
+    Represents empty_history (record {
       schedule = d;
       queues = map (first_queue d.description capacity) d.description.streams;
       carousels = first_carousels d.description 0 (table_count d.description);
       capacity = capacity;
       slots = 0;
     })
-stands_first d capacity ranges = record {
+represents_first d capacity ranges = record {
   written = refl;
-  streams = λ k. subst (λ (q : Option Queue). QueueStands d empty_history capacity k q (slice_get d.description.streams k))
-      (sym (queues_at d.description capacity k d.description.streams)) (queue_stands d capacity k (slice_get d.description.streams k));
-  tables = λ t. subst (λ (x : Option Carousel). CarouselStands d empty_history t x (slice_get (table_kinds d.description) t))
-      (sym (carousels_here d.description t (table_kinds d.description))) (carousel_stands d t (slice_get (table_kinds d.description) t) ranges refl);
+  streams = λ k. subst (λ (q : Option Queue). QueueRepresents d empty_history capacity k q (slice_get d.description.streams k))
+      (sym (queues_at d.description capacity k d.description.streams)) (queue_represents d capacity k (slice_get d.description.streams k));
+  tables = λ t. subst (λ (x : Option Carousel). CarouselRepresents d empty_history t x (slice_get (table_kinds d.description) t))
+      (sym (carousels_here d.description t (table_kinds d.description))) (carousel_represents d t (slice_get (table_kinds d.description) t) ranges refl);
 }
 
 pub begins : (d : Scheduled) (queues : List Queue) (carousels : List Carousel) (capacity : ℕ) → IsInRange d.description →
     queues ≡ map (first_queue d.description capacity) d.description.streams → carousels ≡ first_carousels d.description 0 (table_count d.description) →
-    Stands empty_history (record { schedule = d; queues = queues; carousels = carousels; capacity = capacity; slots = 0 })
+    Represents empty_history (record { schedule = d; queues = queues; carousels = carousels; capacity = capacity; slots = 0 })
 begins d queues carousels capacity ranges are are_carousels =
-    subst (λ (qs : List Queue). Stands empty_history (record { schedule = d; queues = qs; carousels = carousels; capacity = capacity; slots = 0 })) (sym are)
-    (subst (λ (ts : List Carousel). Stands empty_history
+    subst (λ (qs : List Queue). Represents empty_history (record { schedule = d; queues = qs; carousels = carousels; capacity = capacity; slots = 0 }))
+    (sym are)
+    (subst (λ (ts : List Carousel). Represents empty_history
     (record { schedule = d; queues = map (first_queue d.description capacity) d.description.streams; carousels = ts; capacity = capacity; slots = 0 }))
-    (sym are_carousels) (stands_first d capacity ranges))
+    (sym are_carousels) (represents_first d capacity ranges))

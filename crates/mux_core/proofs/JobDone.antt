@@ -1,4 +1,4 @@
--- A job from its units to the last byte.
+-- A job, from its units to the last byte.
 use Rattle.std.proofs.Common.{◌≡◌, ℕ, zero, suc, ◌+◌, ◌*◌, ◌<◌, ◌≤◌, ◌^◌, Bool, true, false, List, [], ◌∷◌, length, take, Option, Some, None, Result, Ok, Err}
 use Rattle.std.proofs.Common.{sym, ap, ◌∙◌, subst, arith}
 use Rattle.std.specs.Prelude.{IfOk, if◌then◌else◌}
@@ -28,10 +28,10 @@ use Rattle.mux_core.specs.WholeJobs.{Writes, OnWriting, AllFed, slots_cause, per
 use Rattle.mux_core.specs.declared.multiplexing.MuxError.{MuxError}
 use Rattle.mux_core.specs.declared.multiplexing.MuxError.TheVariants.{TooManySlots, Periods, Feed, Device, Memory}
 use Rattle.mux_core.proofs.Whole.{contents_fit}
-use Rattle.mux_core.proofs.Accepted.{units_kept, standing}
+use Rattle.mux_core.proofs.Accepted.{units_kept, any_state}
 use Rattle.mux_core.proofs.MeasurableRuns.{accepted_declared, measures_well}
 
--- ---- lengths
+-- Lengths
 
 leaving_size : (hex : Bool) (packet : List ℕ) → length packet ≡ 188 → length (formatted hex packet) ≡ slot_size hex
 unfolding formatted
@@ -53,14 +53,14 @@ pub output_short : (hex : Bool) (slots : ℕ) → slots ≤ 2 ^ 40 → slot_size
 output_short false slots most = omega (arith, most)
 output_short true slots most = omega (arith, most)
 
--- ---- what is answered
+-- The results of a job
 
 pub cause_is : (d : Scheduled) (capacity : ℕ) (units : List (ℕ × AccessUnit)) (o : Option MuxError) → capacity ≡ capacity_for units →
     first_refused d capacity [] units ≡ o → job_cause None d units ≡ o
 unfolding or_cause
 cause_is d capacity units o e is = ap (λ (n : ℕ). first_refused d n [] units) (sym e) ∙ is
 
--- where a cause lies in the job's numbers
+-- If the job's numbers give a cause, it is the cause of the job.
 pub early_is : (early : Option MuxError) (d : Scheduled) (units : List (ℕ × AccessUnit)) (e : MuxError) → early ≡ Some e → job_cause early d units ≡ Some e
 unfolding or_cause
 early_is early d units e is = ap (λ (x : Option MuxError). or_cause x (first_refused d (capacity_for units) [] units)) is
@@ -85,14 +85,14 @@ wrong_periods period periods e = ap (λ (b : Bool). if b then None else Some Per
 pub right_periods : (period periods : ℕ) → is_periods period periods ≡ true → periods_cause period periods ≡ None
 right_periods period periods e = ap (λ (b : Bool). if b then None else Some Periods) e
 
--- where no cause lies in them
+-- If the job's numbers give no cause, the cause comes from the units.
 pub refuses_as : (early : Option MuxError) (line d : Scheduled) (units : List (ℕ × AccessUnit)) (result : Result ℕ MuxError) → early ≡ None → line ≡ d →
     Refuses None (job_cause None line units) result → Refuses early (job_cause early d units) result
 refuses_as early line d units result none same r =
     subst (λ (x : Option MuxError). Refuses x (job_cause x d units) result) (sym none)
     (subst (λ (x : Scheduled). Refuses None (job_cause None x units) result) same r)
 
--- where no cause holds
+-- If there is no cause, no result of writing all slots is a refusal.
 pub answers : (cause : Option MuxError) (out : List ℕ) (old new : Option (List ℕ)) (result : Result ℕ MuxError) → cause ≡ None → WritesAll out old new result →
     Refuses None cause result
 answers cause out old new (Ok sent) none w = none
@@ -127,16 +127,16 @@ on_writing (Err (Feed index refused)) p = tt
 on_writing (Err (Device sent)) p = p
 on_writing (Err Memory) p = tt
 
--- ---- of units that are all fed
+-- Jobs whose units are all accepted
 
--- the output has its length
+-- The output has the length of its slots.
 pub fed_size : (old new : MuxState) (units : List (ℕ × AccessUnit)) (hex : Bool) (slots : ℕ) → IsInRange old.schedule.description → AllFed old units new →
     length (output_of hex old.schedule (job_history units slots)) ≡ slot_size hex * slots
 fed_size old new units hex slots ranges fed =
     output_size hex (content_at old.schedule (λ k. units_of k units)) 0 slots
     (subst (λ (d : Scheduled). Fits (content_at d (λ k. units_of k units))) fed.same_schedule
     (contents_fit new.schedule (λ k. units_of k units) (subst (λ (d : Scheduled). IsInRange d.description) (sym fed.same_schedule) ranges)
-    (units_kept (job_history units 0) new (subst (λ (d : Scheduled). IsInRange d.description) (sym fed.same_schedule) ranges) fed.stands)))
+    (units_kept (job_history units 0) new (subst (λ (d : Scheduled). IsInRange d.description) (sym fed.same_schedule) ranges) fed.represents)))
 
 pub fed_short : (old new : MuxState) (units : List (ℕ × AccessUnit)) (hex : Bool) (slots : ℕ) → IsInRange old.schedule.description → slots ≤ 2 ^ 40 →
     AllFed old units new →
@@ -144,16 +144,16 @@ pub fed_short : (old new : MuxState) (units : List (ℕ × AccessUnit)) (hex : B
 fed_short old new units hex slots ranges most fed =
     subst (λ (n : ℕ). n < 2 ^ 64) (sym (fed_size old new units hex slots ranges fed)) (output_short hex slots most)
 
--- and keeps every promise
+-- The output keeps every promise.
 pub fed_headline : (old new : MuxState) (units : List (ℕ × AccessUnit)) (slots : ℕ) → IsInRange old.schedule.description →
     Promised old.schedule.description old.schedule.schedule →
     AllFed old units new → Headline old.schedule (λ k. units_of k units) slots (bytes_of old.schedule (job_history units slots))
 fed_headline old new units slots ranges promised fed =
     subst (λ (d : Scheduled). Headline d (λ k. units_of k units) slots (run_bytes (content_at d (λ k. units_of k units)) 0 slots)) fed.same_schedule
-    (standing (job_history units 0) new slots (subst (λ (d : Scheduled). IsInRange d.description) (sym fed.same_schedule) ranges)
-    (subst (λ (d : Scheduled). Promised d.description d.schedule) (sym fed.same_schedule) promised) fed.stands)
+    (any_state (job_history units 0) new slots (subst (λ (d : Scheduled). IsInRange d.description) (sym fed.same_schedule) ranges)
+    (subst (λ (d : Scheduled). Promised d.description d.schedule) (sym fed.same_schedule) promised) fed.represents)
 
--- so that it is measured, and no fault is found
+-- The output can be measured, and no fault is found in it.
 pub fed_measured : (old new : MuxState) (units : List (ℕ × AccessUnit)) (slots : ℕ) → IsInRange old.schedule.description →
     Promised old.schedule.description old.schedule.schedule →
     AllFed old units new → MeasuresWell old.schedule units (bytes_of old.schedule (job_history units slots))
@@ -161,7 +161,7 @@ fed_measured old new units slots ranges promised fed =
     measures_well old.schedule units slots (bytes_of old.schedule (job_history units slots)) (fed_headline old new units slots ranges promised fed)
     (accepted_declared old.schedule old.capacity [] units fed.none_refused)
 
--- what was written of the multiplexer that was fed, as of the one before
+-- Writing with the fed multiplexer writes the output that the first multiplexer's schedule defines.
 pub fed_writes : (old new : MuxState) (units : List (ℕ × AccessUnit)) (hex : Bool) (slots : ℕ) (before after : Option (List ℕ)) (result : Result ℕ MuxError)
     (kept : Bool) →
     AllFed old units new → kept ≡ hex → WritesAll (run_output kept (content_at new.schedule (λ k. units_of k units)) 0 slots) before after result →

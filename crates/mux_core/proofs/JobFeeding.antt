@@ -10,12 +10,12 @@ use Rattle.pes_packet.specs.Units.{units_of}
 use Rattle.unit_queue.specs.declared.refusal.FeedError.{FeedError}
 use Rattle.mux_core.specs.Scheduled.{Scheduled}
 use Rattle.mux_core.specs.Histories.{History, with_unit}
-use Rattle.mux_core.specs.MuxStates.{MuxState, Stands, Takes, feed_cause}
+use Rattle.mux_core.specs.MuxStates.{MuxState, Represents, Takes, feed_cause}
 use Rattle.mux_core.specs.WholeJobs.{job_history, or_cause, unit_refused, cause_after, first_refused, AllFed}
 use Rattle.mux_core.specs.declared.multiplexing.MuxError.TheVariants.{Feed}
 use Rattle.mux_core.proofs.UnitCounts.{own_units, other_units, units_append}
 
--- one unit more of its stream
+-- A fed unit is appended to its own stream only.
 units_more : (fed : List (ℕ × AccessUnit)) (entry : ℕ × AccessUnit) (j : ℕ) →
     cond (nat_eq j entry.0) (units_of j fed ++ (entry.1 ∷ [])) (units_of j fed) ≡ units_of j (fed ++ (entry ∷ []))
 units_more fed entry j = elim (cases_eq j entry.0) [
@@ -29,17 +29,17 @@ units_more fed entry j = elim (cases_eq j entry.0) [
 pub history_more : (fed : List (ℕ × AccessUnit)) (entry : ℕ × AccessUnit) → with_unit (job_history fed 0) entry.0 entry.1 ≡ job_history (fed ++ (entry ∷ [])) 0
 history_more fed entry = ap (λ (units : ℕ → List AccessUnit). record { units = units; slots = 0 }) (fun_ext (units_more fed entry))
 
--- the units fed so far, and those left
+-- The units that are fed already, and the units that are left.
 pub record FedSoFar (old : MuxState) (units : List (ℕ × AccessUnit)) (new : MuxState) (index : ℕ) (left : List (ℕ × AccessUnit)) : Type 0 where
   pub fed : List (ℕ × AccessUnit)
   pub all : units ≡ fed ++ left
   pub index_is : index ≡ length fed
-  pub stands : Stands (job_history fed 0) new
+  pub represents : Represents (job_history fed 0) new
   pub same_schedule : new.schedule ≡ old.schedule
   pub same_capacity : new.capacity ≡ old.capacity
   pub is : first_refused old.schedule old.capacity [] units ≡ first_refused old.schedule old.capacity fed left
 
--- the next unit is judged as the history so far says
+-- The next unit is refused if and only if it is the first refused unit of the job.
 judged : (old mid : MuxState) (units : List (ℕ × AccessUnit)) (index : ℕ) (entry : ℕ × AccessUnit) (left : List (ℕ × AccessUnit)) (refused : Option FeedError)
     (new : MuxState)
     (w : FedSoFar old units mid index (entry ∷ left)) → Takes (job_history w.fed 0) mid entry.0 entry.1 refused new →
@@ -61,7 +61,7 @@ fed_more old mid units index entry left new w takes = record {
   fed = w.fed ++ (entry ∷ []);
   all = w.all ∙ sym (append_assoc w.fed (entry ∷ []) left);
   index_is = omega (arith, w.index_is, length-append w.fed (entry ∷ []));
-  stands = subst (λ (h : History). Stands h new) (history_more w.fed entry) (takes.stands refl);
+  represents = subst (λ (h : History). Represents h new) (history_more w.fed entry) (takes.represents refl);
   same_schedule = takes.same_schedule ∙ w.same_schedule;
   same_capacity = takes.same_capacity ∙ w.same_capacity;
   is = judged old mid units index entry left None new w takes;
@@ -81,6 +81,6 @@ fed_all old new units index left w none =
     let same : units ≡ w.fed = w.all ∙ ap (λ (l : List (ℕ × AccessUnit)). w.fed ++ l) none ∙ append-nil w.fed in
     record {
       none_refused = w.is ∙ ap (λ (l : List (ℕ × AccessUnit)). first_refused old.schedule old.capacity w.fed l) none;
-      stands = subst (λ (l : List (ℕ × AccessUnit)). Stands (job_history l 0) new) (sym same) w.stands;
+      represents = subst (λ (l : List (ℕ × AccessUnit)). Represents (job_history l 0) new) (sym same) w.represents;
       same_schedule = w.same_schedule;
     }

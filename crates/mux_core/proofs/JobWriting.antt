@@ -6,18 +6,18 @@ use Rattle.packet_output.specs.Buffer.{Buffered, IsOutput, Took}
 use Rattle.packet_output.specs.Formats.{formatted}
 use Rattle.mux_core.specs.Scheduled.{Scheduled}
 use Rattle.mux_core.specs.Histories.{History, content_at}
-use Rattle.mux_core.specs.MuxStates.{MuxState, Stands, Gives}
+use Rattle.mux_core.specs.MuxStates.{MuxState, Represents, Gives}
 use Rattle.mux_core.specs.WholeJobs.{run_output}
 use Rattle.mux_core.specs.declared.done.Done.{Done}
 use Rattle.packet_output.proofs.Written.{took_longer}
 
--- packets that leave as bytes are the bytes
+-- Output in binary form is the bytes of the packets.
 pub output_bytes : (content : ℕ → Content) (s n : ℕ) → run_output false content s n ≡ run_bytes content s n
 unfolding run_output run_bytes formatted
 output_bytes content s zero = refl
 output_bytes content s (suc n) = ap (λ (l : List ℕ). packet_of (content s) ++ l) (output_bytes content (suc s) n)
 
--- the output of slots, and of others after them
+-- The output of n + m slots is the output of n slots, then of m slots.
 output_parts : (hex : Bool) (content : ℕ → Content) (s n m : ℕ) → run_output hex content s (n + m) ≡ run_output hex content s n
     ++ run_output hex content (s + n) m
 unfolding run_output
@@ -41,26 +41,26 @@ output_more hex content n =
     output_parts hex content 0 n 1 ∙ ap (λ (k : ℕ). run_output hex content 0 n ++ run_output hex content k 1) f
     ∙ ap (λ (l : List ℕ). run_output hex content 0 n ++ l) (output_one hex content n)
 
--- the history with n slots
+-- The history with n written slots.
 abbrev pub at_slot : History → ℕ → History
 at_slot h n = record { units = h.units; slots = n }
 
--- n slots are written
+-- The state and the output after n slots.
 pub record SlotsWritten (h : History) (old new : MuxState) (hex : Bool) (n : ℕ) (start now : Option (List ℕ)) (packets : Buffered) : Type 0 where
-  pub stands : Stands (at_slot h n) new
+  pub represents : Represents (at_slot h n) new
   pub same_schedule : new.schedule ≡ old.schedule
   pub holds : IsOutput start now packets (run_output hex (content_at old.schedule h.units) 0 n)
 
 pub written_none : (h : History) (old : MuxState) (hex : Bool) (start now : Option (List ℕ)) (packets : Buffered) → h.slots ≡ 0 →
-    Stands h old → IsOutput start now packets [] → SlotsWritten h old old hex 0 start now packets
+    Represents h old → IsOutput start now packets [] → SlotsWritten h old old hex 0 start now packets
 unfolding run_output
-written_none h old hex start now packets none stands holds = record {
-  stands = subst (λ (n : ℕ). Stands (record { units = h.units; slots = n }) old) none stands;
+written_none h old hex start now packets none represents holds = record {
+  represents = subst (λ (n : ℕ). Represents (record { units = h.units; slots = n }) old) none represents;
   same_schedule = refl;
   holds = holds;
 }
 
--- the output with one packet more
+-- One more packet extends the output by one slot.
 next_output : (h : History) (old mid new : MuxState) (hex phex : Bool) (n : ℕ) (packet : List ℕ) → mid.schedule ≡ old.schedule → phex ≡ hex →
     Gives (at_slot h n) mid (Ok packet) new →
     run_output hex (content_at old.schedule h.units) 0 n ++ formatted phex packet ≡ run_output hex (content_at old.schedule h.units) 0 (n + 1)
@@ -78,7 +78,7 @@ pub written_more : (h : History) (old mid new : MuxState) (hex phex : Bool) (n :
 written_more h old mid new hex phex n start now later packets after packet w same gives holds =
     let next : suc n ≡ n + 1 = omega arith in
     record {
-      stands = subst (λ (k : ℕ). Stands (at_slot h k) new) next gives.3;
+      represents = subst (λ (k : ℕ). Represents (at_slot h k) new) next gives.3;
       same_schedule = gives.2 ∙ w.same_schedule;
       holds = subst (λ (l : List ℕ). IsOutput start later after l) (next_output h old mid new hex phex n packet w.same_schedule same gives) holds;
     }
@@ -97,6 +97,6 @@ written_failed h old mid new hex phex n slots sent start now later packets packe
     let here = subst (λ (l : List ℕ). Took start later sent l) (next_output h old mid new hex phex n packet w.same_schedule same gives) took in
     subst (λ (l : List ℕ). Took start later sent l) (sym whole) (took_longer start later sent (run_output hex content 0 (n + 1)) rest here)
 
--- no run of that many slots is over
+-- A run of at most 2^40 slots does not end early.
 pub not_done : {V : Type 0} (h : History) (mid new : MuxState) (n slots : ℕ) (e : Done) → n < slots → slots ≤ 2 ^ 40 → Gives (at_slot h n) mid (Err e) new → V
 not_done h mid new n slots e below most gives = absurd (omega (arith, below, most, gives.0))

@@ -1,4 +1,4 @@
--- What the ranges of a description say of its streams and tables.
+-- What the ranges of a description say about its streams and tables.
 use Rattle.std.specs.Prelude.{ℕ, ◌<◌, ◌≤◌, Some, length, slice_get, IsTrue}
 use Rattle.std.proofs.Common.{◌≡◌, inl, inr, refl, arith}
 use Rattle.std.proofs.lemmas.Bool.{lt-ltb}
@@ -19,7 +19,7 @@ use Rattle.description.specs.Pids.{SectionsLaw}
 use Rattle.mux_core.proofs.FedUnits.{ParametersKnown}
 use Rattle.mux_core.proofs.SlotSteps.{TablesKnown}
 
--- the numbers of a stream are in their ranges
+-- The numbers of a stream are in their ranges.
 pub stream_range : (d : Described) (k : ℕ) (s : DescribedStream) → IsInRange d → slice_get d.streams k ≡ Some s → IsStream s
 stream_range d k s ranges is =
     rw (get_or_from_slice_get d.streams k s s is) at (All-get_or IsStream d.streams k s (slice_get_within d.streams k s is) ranges.streams)

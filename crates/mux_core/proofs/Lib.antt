@@ -9,6 +9,7 @@ pub mod TablesRead
 pub mod Programs
 pub mod Sizes
 pub mod RandomAccess
+pub mod ClearPackets
 pub mod StreamsAlone
 pub mod StreamsKept
 pub mod Whole
@@ -17,6 +18,7 @@ pub mod MeasurableRuns
 pub mod PutTogether
 pub mod PutUnits
 pub mod UnitBytes
+pub mod DecodedPackets
 pub mod DecodedRuns
 pub mod Accepted
 pub mod FirstStates

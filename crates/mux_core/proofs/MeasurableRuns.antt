@@ -1,4 +1,4 @@
--- What keeps its promises can be measured, where its units are declared; and units that were accepted are.
+-- Bytes that keep their promises can be measured if their units are declared; accepted units are declared.
 use Rattle.std.proofs.Common.{◌≡◌, ℕ, suc, ◌+◌, ◌%◌, ◌≤◌, ◌&&◌, Bool, true, List, [], ◌∷◌, ◌++◌, length, slice_get, Option, Some, None, Ok, All, refl, subst}
 use Rattle.std.proofs.Common.{arith}
 use Rattle.std.specs.List.{list_all}
@@ -26,7 +26,7 @@ use Rattle.mux_core.proofs.MeasuredRuns.{measured}
 and_true : (a b : Bool) → a ≡ true → b ≡ true → (a && b) ≡ true
 and_true a b p q = rw (p, q) refl
 
--- ---- no cause of refusal
+-- No cause of refusal
 
 first_none : (index : ℕ) (chunks : List (List ℕ)) → All IsTransportPacket chunks → first_unreadable index chunks ≡ None
 unfolding first_unreadable
@@ -58,7 +58,7 @@ measurable d units slots bytes h declared =
     subst (λ (n : ℕ). carries s.pid s.stream_id d.description.base0 (units_of n units) bytes ≡ true) at (h.streams k s e).carried) in
     rw (whole, first_none 0 _ h.packets, declared, carried) refl
 
--- ---- accepted units are declared
+-- Accepted units are declared
 
 within : (d : Scheduled) (capacity : ℕ) (h : History) (k : ℕ) (u : AccessUnit) (o : Option DescribedStream) → feed_cause d capacity h k u o ≡ None →
     is_within (length u.bytes) o ≡ true
@@ -92,7 +92,7 @@ accepted_declared d capacity fed (entry ∷ rest) e =
     and_true _ _ (within d capacity (job_history fed 0) entry.0 entry.1 (slice_get d.description.streams entry.0) none)
     (accepted_declared d capacity (fed ++ (entry ∷ [])) rest parts.1)
 
--- ---- so it is measured, and no fault is found
+-- The bytes can be measured, and no fault is found
 
 pub measures_well : (d : Scheduled) (units : List (ℕ × AccessUnit)) (slots : ℕ) (bytes : List ℕ) → Headline d (λ k. units_of k units) slots bytes →
     list_all (is_declared d.description) units ≡ true → MeasuresWell d units bytes

@@ -1,4 +1,4 @@
--- What is measured of bytes that keep what they promise.
+-- What measuring finds in bytes that keep their promises.
 use Rattle.std.proofs.Common.{◌≡◌, ℕ, suc, ◌+◌, ◌*◌, ◌/◌, ◌≤◌, List, [], ◌∷◌, length, slice_get, Option, Some, None, refl, ap, subst, ◌∙◌, arith}
 use Rattle.pes_packet.specs.AccessUnits.{AccessUnit}
 use Rattle.pes_packet.specs.Units.{units_of}
@@ -14,7 +14,7 @@ use Rattle.mux_core.specs.Scheduled.{Scheduled}
 use Rattle.mux_core.specs.Headline.{StreamKept, VideoKept}
 use Rattle.mux_core.specs.MeasuredRuns.{MeasuredLaw}
 
--- where no unit of any of these streams is late, there is no first one
+-- If no stream has a late unit, there is no first late unit.
 none_late : (d : Described) (units : List (ℕ × AccessUnit)) (bytes : List ℕ) (number : ℕ) (streams : List DescribedStream)
     → ((k : ℕ) (s : DescribedStream) → slice_get streams k ≡ Some s →
     late_in d.rate d.base0 (length bytes / 188) s (units_of (number + k) units) (packets_on s.pid bytes) s.multiplexing ≡ None)
@@ -31,7 +31,7 @@ none_late d units bytes number (s ∷ streams) none =
     in
     ap (λ o. late_or number o (late_from d units bytes (number + 1) streams)) first ∙ rest
 
--- a stream of which every promise is kept has no late unit, in its transport buffer or, of video, in its elementary stream buffer
+-- A stream that keeps all its promises has no late unit: not in its transport buffer, and for video not in its elementary stream buffer.
 late_nowhere : (d : Scheduled) (k : ℕ) (s : DescribedStream) (units : List AccessUnit) (slots : ℕ) (bytes : List ℕ) (o : Option MultiplexingBuffer) →
     ((b : MultiplexingBuffer) → o ≡ Some b → VideoKept d s b units slots bytes) → StreamKept d k s units slots bytes →
     late_in d.description.rate d.description.base0 slots s units (packets_on s.pid bytes) o ≡ None
@@ -41,7 +41,7 @@ late_nowhere d k s units slots bytes (Some b) video kept =
     late_law.none_late d.description.rate (s.rx * b.rbx) slots 0 (timed_pes_packets s.stream_id d.description.base0 units)
     (multiplexing_left d.description.rate s.rx b.rbx (packets_on s.pid bytes)) (video b refl).whole
 
--- the two numbers of a video stream
+-- The two fullness numbers of a video stream.
 two_numbers : (rate base0 : ℕ) (s : DescribedStream) (units : List AccessUnit) (bytes : List ℕ) (o : Option MultiplexingBuffer) (p : Option VideoFullness)
     (b : MultiplexingBuffer) (v : VideoFullness) → o ≡ Some b → p ≡ Some v → HasVideoFullness rate base0 s units (packets_on s.pid bytes) o p →
     IsVideoFullness rate base0 s units (packets_on s.pid bytes) b v

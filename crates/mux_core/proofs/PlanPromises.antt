@@ -1,4 +1,4 @@
--- The promises of a schedule one by one.
+-- The promises of a schedule, one by one.
 use Rattle.unit_timing.specs.Plans.{run_packets}
 use Rattle.unit_timing.specs.Transport.{pes_left}
 use Rattle.unit_timing.proofs.NotEarly.{run_left}

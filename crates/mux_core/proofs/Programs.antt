@@ -1,4 +1,4 @@
--- The clock references and the tables' buffers of a program in the finished bytes.
+-- The clock references of a program, and the buffers of its tables, in the finished bytes.
 use Rattle.std.proofs.Common.{◌≡◌, ℕ, zero, suc, ◌+◌, ◌-◌, ◌*◌, ◌<◌, ◌≤◌, ◌==◌, ◌||◌, Bool, true, List, [], ◌∷◌, length, map, Some, slice_get, refl, ap, sym}
 use Rattle.std.proofs.Common.{subst, ◌∙◌, arith, inl, inr, eq-eqb}
 use Rattle.std.proofs.lemmas.Bool.{cases_Bool, false≢true, eqb-true}
@@ -33,7 +33,7 @@ use Rattle.mux_core.specs.Headline.{ProgramKept}
 use Rattle.mux_core.proofs.ContentPids.{names, silent, content_pid, is_content_pid}
 use Rattle.mux_core.proofs.RisingSlots.{part_rises}
 
--- ---- clock references
+-- Clock references
 
 clock_named : (d : Scheduled) (i : ℕ) (p : DescribedProgram) → slice_get d.description.programs i ≡ Some p → slot_pid d.description (Pcr i) ≡ Some p.pcr_pid
 unfolding slot_pid
@@ -45,7 +45,7 @@ own_is i (Pcr j) e = ap Pcr (sym (eqb-true i j e))
 own_is i (Table t) e = absurd (false≢true e)
 own_is i Null e = absurd (false≢true e)
 
--- the clock in a slot, as it is written there
+-- The clock reference that a slot writes.
 abbrev clock_of : (d : Scheduled) (p : DescribedProgram) → ℕ → Content
 clock_of d p s = PcrContent p.pcr_pid (pcr_at d.description.rate d.description.base0 (188 * s + 10))
 
@@ -59,7 +59,7 @@ clock_pid : (d : Scheduled) (p : DescribedProgram) (s : ℕ) → is_of_pid p.pcr
 unfolding content_pid
 clock_pid d p s = is_content_pid p.pcr_pid (clock_of d p s) ∙ eq-eqb p.pcr_pid p.pcr_pid refl
 
--- exactly its own slots are on the PID
+-- The packets with a program's PCR PID are exactly the packets in its clock's slots.
 clock_slots : (d : Scheduled) (units : ℕ → List AccessUnit) (i : ℕ) (p : DescribedProgram) → IsInRange d.description →
     slice_get d.description.programs i ≡ Some p → (s : ℕ)
     → is_of_pid p.pcr_pid (view_of (content_at d units s)) ≡ owned d.schedule (PcrItem i) s
@@ -68,7 +68,7 @@ clock_slots d units i p r is s = elim (cases_Bool (owned d.schedule (PcrItem i) 
   | inr n ↦ silent d units s p.pcr_pid (Pcr i) r (clock_named d i p is) (λ e. false≢true (sym n ∙ ap (is_own (PcrItem i)) e ∙ eq-eqb i i refl)) ∙ sym n
 ]
 
--- what each says
+-- The value of each clock reference is the clock at its slot.
 clock_says : (d : Scheduled) (p : DescribedProgram) (content : ℕ → Content) (s n : ℕ) →
     ((t : ℕ) → is_of_pid p.pcr_pid (view_of (content t)) ≡ true → content t ≡ clock_of d p t)
     → map (λ e. e.packet) (entries_in p.pcr_pid content s n)
@@ -88,7 +88,7 @@ pub indices_at_ten : (es : List Entry) → map (λ e. 188 * e.index + 10) es ≡
 indices_at_ten [] = refl
 indices_at_ten (e ∷ es) = ap (λ (l : List ℕ). (188 * e.index + 10) ∷ l) (indices_at_ten es)
 
--- ---- the tables' buffers
+-- The buffers of tables
 
 pat_named : (d : Scheduled) → slot_pid d.description (Table 0) ≡ Some 0
 unfolding slot_pid
@@ -107,7 +107,7 @@ pmt_named d i p is =
     let of_kind : table_pid d.description (i + 1) ≡ kind_pid d.description (Pmt i) = rw (kind, table_pid) refl in
     named ∙ ap Some (of_kind ∙ pid)
 
--- a slot whose packet enters the program's buffers is one of its system's
+-- Whether a slot's packet enters the program's system buffers.
 abbrev enters : ℕ → (ℕ → Content) → ℕ → Bool
 enters pmt_pid content s = is_of_pid 0 (view_of (content s)) || is_of_pid pmt_pid (view_of (content s))
 

@@ -1,4 +1,4 @@
--- What is put together of payloads that were cut one thing after another.
+-- Joining the payloads of things that were cut one after another.
 use Rattle.std.proofs.Common.{◌≡◌, ◌≤◌, ◌<◌, ℕ, zero, suc, ◌+◌, ◌-◌, Bool, true, false, List, [], ◌∷◌, ◌++◌, length, take, slice_get, Some, All, refl, sym, ap}
 use Rattle.std.proofs.Common.{ap₂, subst, ◌∙◌, arith, append_assoc}
 use Rattle.std.specs.List.{concat, flat_map}
@@ -24,7 +24,7 @@ unfolding marked
 marked_length start [] = refl
 marked_length start (x ∷ xs) = ap suc (marked_length Continues xs)
 
--- nothing is left of the one before where the next begins
+-- Cut things begin with a start, so no bytes precede the first start.
 anew : (cs : List (Bool × List (List ℕ))) (k : ℕ) → All IsSome cs → until_next (take k (all_marked cs)) ≡ []
 unfolding until_next marked
 anew [] zero some = refl
@@ -34,7 +34,7 @@ anew ((access, []) ∷ cs) (suc k) some = absurd (let no = All-head IsSome (acce
 anew ((true, b ∷ bs) ∷ cs) (suc k) some = refl
 anew ((false, b ∷ bs) ∷ cs) (suc k) some = refl
 
--- the rest of one thing, and what comes after it
+-- The payloads up to the next start are the rest of one thing.
 until_rest : (bs : List (List ℕ)) (rest : List Piece) → until_next rest ≡ [] → until_next (marked Continues bs ++ rest) ≡ concat bs
 unfolding until_next marked
 until_rest [] rest none = none
@@ -54,7 +54,7 @@ put_first true (b ∷ bs) rest some none =
 put_first false (b ∷ bs) rest some none =
     ap₂ (λ (x : List ℕ) (ys : List (List ℕ)). (b ++ x) ∷ ys) (until_rest bs rest none) (put_rest bs rest)
 
--- the first thing is whole: it, and what is put together of the rest
+-- If the first thing is complete, the result is the first thing, then the things joined from the rest.
 put_more : (c : Bool × List (List ℕ)) (cs : List (Bool × List (List ℕ))) (m : ℕ) → All IsSome (c ∷ cs) → length c.1 ≤ m →
     put_together (take m (all_marked (c ∷ cs))) ≡ concat c.1 ∷ put_together (take (m - length c.1) (all_marked cs))
 put_more c cs m some enough =

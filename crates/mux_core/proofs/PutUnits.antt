@@ -1,4 +1,4 @@
--- Where payloads have the bytes of a PES packet, it is put together whole.
+-- If payloads have all bytes of a PES packet, joining them gives the whole PES packet.
 use Rattle.std.proofs.Common.{◌≡◌, ◌≤◌, ◌<◌, ℕ, zero, suc, ◌+◌, ◌-◌, Bool, true, false, List, [], ◌∷◌, ◌++◌, length, map, take, drop, slice_get, option_map}
 use Rattle.std.proofs.Common.{Some, All, refl, sym, ap, subst, ◌∙◌, inl, inr, arith}
 use Rattle.std.specs.List.{concat, flat_map}
@@ -19,7 +19,7 @@ use Rattle.unit_queue.specs.Payloads.{marked}
 use Rattle.mux_core.specs.Decoder.{put_together, cut_thing}
 use Rattle.mux_core.proofs.PutTogether.{IsSome, all_marked, put_law}
 
--- the bytes of payloads
+-- The number of bytes in payloads.
 unfoldable pub bytes_in : List Piece → ℕ
 bytes_in [] = 0
 bytes_in (p ∷ ps) = length p.bytes + bytes_in ps
@@ -32,7 +32,7 @@ unfolding bytes_in
 bytes_append [] qs = omega arith
 bytes_append (p ∷ ps) qs = omega (arith, bytes_append ps qs)
 
--- fewer payloads have fewer bytes
+-- Fewer payloads have fewer bytes.
 fewer : (ps : List Piece) (m : ℕ) → All HasBytes ps → m < length ps → bytes_in (take m ps) < bytes_in ps
 unfolding bytes_in
 fewer [] m some lt = absurd (omega (arith, lt))
@@ -63,7 +63,7 @@ marked_some start (x ∷ xs) some =
     All-cons HasBytes (record { start = start; bytes = x }) (marked Continues xs) (All-head SomeBytes x xs some)
     (marked_some Continues xs (All-tail SomeBytes x xs some))
 
--- ---- of PES packets, each with whether a decoder may begin with it
+-- PES packets, each with a mark whether a decoder may begin there
 
 abbrev pub Sent : Type 0
 Sent = Bool × List ℕ
@@ -80,7 +80,7 @@ cut_all pes = all_marked (map cut_one pes)
 abbrev pub sent_bytes : List Sent → List (List ℕ)
 sent_bytes pes = map (λ p. p.1) pes
 
--- none of its payloads is empty
+-- No payload of a PES packet is empty.
 unit_some : (access : Bool) (pes : List ℕ) → 1 ≤ length pes → All SomeBytes (unit_pieces access pes)
 unfolding unit_pieces
 unit_some true pes some =
@@ -114,7 +114,7 @@ some_pieces (p ∷ pes) some =
 all_take : (pes : List Sent) (k : ℕ) → All SentBytes pes → All SentBytes (take k pes)
 all_take pes k some = All-take SentBytes k pes some
 
--- payloads that are the first of those that PES packets are cut into, as far as the end of one: it is whole
+-- If payloads of cut PES packets reach the end of a PES packet, joining them gives the whole PES packet.
 pub pes_whole : (pes : List Sent) (p : Sent) (m i : ℕ) (ps : List Piece) → All SentBytes pes → slice_get pes i ≡ Some p → ps ≡ take m (cut_all pes) →
     length (concat (sent_bytes (take (suc i) pes))) ≤ bytes_in ps → slice_get (put_together ps) i ≡ Some p.1
 pes_whole pes p m i ps some is cut le =

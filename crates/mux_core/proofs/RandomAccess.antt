@@ -1,4 +1,4 @@
--- The random_access_indicator in the finished bytes: on the first packets of the units with which a decoder may begin, and on no others.
+-- The random_access_indicator in the finished bytes: it is set exactly on the first packets of units at which a decoder may begin.
 use Rattle.std.proofs.Common.{◌≡◌, ◌-◌, ℕ, zero, suc, Bool, true, false, List, [], ◌∷◌, length, map, take, All, refl, sym, ap, ap₂, ◌∙◌, subst}
 use Rattle.std.proofs.lemmas.List.{take-map}
 use Rattle.std.proofs.lemmas.List.Elements.{All-nil, All-cons, All-head, All-tail, All-filter}
@@ -13,7 +13,7 @@ use Rattle.slot_contents.proofs.Runs.{all_entries, run_entries}
 use Rattle.unit_queue.specs.Payloads.{piece_in}
 use Rattle.mux_core.specs.Headline.{IsAccessAtStart}
 
--- an adaptation field of stuffing does not have it
+-- A stuffing adaptation field has no random_access_indicator.
 stuffing_has_none : (n : ℕ) → has_access (stuffing_field n) ≡ false
 unfolding stuffing_field
 stuffing_has_none zero = refl
@@ -44,7 +44,7 @@ all_known content s (suc n) =
 pub access_known : (content : ℕ → Content) (n : ℕ) → Fits content → All (λ e. IsAccessAtStart e.packet) (entries_of (run_bytes content 0 n))
 access_known content n fits = subst (All IsKnown) (sym (run_entries content n fits)) (all_known content 0 n)
 
--- ---- of a PID
+-- The indicators of one PID
 
 each_access : (es : List Entry) → All IsKnown es →
     map (λ e. has_access e.packet.adaptation) es ≡ map (λ p. is_access p.start) (map (λ e. piece_in (payload_at e)) es)
@@ -52,7 +52,7 @@ each_access [] all = refl
 each_access (e ∷ es) all =
     ap₂ (λ (b : Bool) (bs : List Bool). b ∷ bs) (All-head IsKnown e es all) (each_access es (All-tail IsKnown e es all))
 
--- the payloads on a PID are the first of these: its packets have the indicator exactly where these say so
+-- If the payloads of a PID are the first of these pieces, its packets have the indicator exactly as the pieces say.
 pub access_on : (pid : ℕ) (bytes : List ℕ) (ps : List Piece) → All (λ e. IsAccessAtStart e.packet) (entries_of bytes) →
     map (λ e. piece_in (payload_at e)) (pid_list pid bytes) ≡ take (length (pid_list pid bytes)) ps →
     map (λ e. has_access e.packet.adaptation) (pid_list pid bytes) ≡ take (length (pid_list pid bytes)) (map (λ p. is_access p.start) ps)

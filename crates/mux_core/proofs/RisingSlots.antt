@@ -1,4 +1,4 @@
--- A part of an item's own slots rises through them.
+-- The values of an item rise through the item's slots.
 use Rattle.std.proofs.Common.{◌≡◌, ℕ, zero, suc, Bool, true, List, [], ◌∷◌, arith, inl, inr}
 use Rattle.std.proofs.lemmas.Bool.{cases_Bool}
 use Rattle.own_slots.specs.Slots.{own_slots, Rises}

@@ -1,4 +1,4 @@
--- The room that a job takes for its units is enough: none is refused as Full except a stream's unit number 1,048,577.
+-- A job's room for its units is enough: no unit is refused as Full, except a stream's unit number 1,048,577.
 use Rattle.std.proofs.Common.{◌≡◌, ℕ, suc, ◌+◌, ◌<◌, ◌≤◌, Bool, true, false, cond, nat_lt, List, [], ◌∷◌, ◌++◌, length, Option, Some, None, refl, sym, ap, ◌∙◌}
 use Rattle.std.proofs.Common.{subst, arith, inl, inr, append_assoc}
 use Rattle.std.specs.Prelude.{slice_get}
@@ -19,7 +19,7 @@ use Rattle.mux_core.specs.WholeJobs.{max_stream_units, capacity_for, job_history
 use Rattle.mux_core.specs.declared.multiplexing.MuxError.{MuxError}
 use Rattle.mux_core.proofs.UnitCounts.{own_units, other_units, units_append}
 
--- no stream has more units than the most
+-- No stream has more units than the maximum.
 most_bounds : (k : ℕ) (units : List (ℕ × AccessUnit)) → length (units_of k units) ≤ max_stream_units units
 unfolding max_stream_units
 most_bounds k [] = omega arith
@@ -33,7 +33,7 @@ most_bounds k (entry ∷ rest) = elim (cases_eq entry.0 k) [
       omega (arith, here, most_bounds k rest)
 ]
 
--- what is left is no more than all
+-- The units that are left are at most as many as all units.
 left_in : (left : Left) (us : List AccessUnit) (first : Left) (b : Bool) → length first.units ≤ length us → length left.units ≤ length us →
     length (cond b first left).units ≤ length us
 left_in left us first true one two = one

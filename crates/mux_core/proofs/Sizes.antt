@@ -1,4 +1,4 @@
--- The packets of the finished bytes, and which PIDs are in them.
+-- The packets of the finished bytes, and their PIDs.
 use Rattle.std.proofs.Common.{◌≡◌, ◌⊎◌, ℕ, zero, suc, List, Some, All, ap, sym, subst, ◌∙◌, inl, inr}
 use Rattle.std.proofs.lemmas.List.Elements.{All-nil, All-cons}
 use Rattle.pes_packet.specs.AccessUnits.{AccessUnit}
@@ -14,7 +14,7 @@ use Rattle.mux_core.specs.Histories.{content_at}
 use Rattle.mux_core.specs.Headline.{IsTransportPacket, IsNamed}
 use Rattle.mux_core.proofs.ContentPids.{content_pid_view, content_unmarked, speaks}
 
--- ---- each 188 bytes are a packet
+-- Every 188 bytes are a packet
 
 packets_read : (content : ℕ → Content) (s n : ℕ) → Fits content → All IsTransportPacket (cut_packets (run_bytes content s n))
 unfolding run_bytes
@@ -28,7 +28,7 @@ packets_read content s (suc n) fits =
 pub all_read : (content : ℕ → Content) (n : ℕ) → Fits content → All IsTransportPacket (cut_packets (run_bytes content 0 n))
 all_read content n fits = packets_read content 0 n fits
 
--- ---- each is the null packet, or on the PID of something that a slot names
+-- Each packet is the null packet, or has a PID that a slot names
 
 abbrev IsKnown : Scheduled → Entry → Type 0
 IsKnown d e = (e.packet ≡ null_view) ⊎ IsNamed d.description e.packet

@@ -1,4 +1,4 @@
--- A stream has its PID for itself.
+-- A stream has its PID to itself.
 use Rattle.std.proofs.Common.{◌≡◌, ℕ, true, List, Some, slice_get, refl, ap, sym, ◌∙◌, eq-eqb}
 use Rattle.std.proofs.lemmas.Bool.{false≢true, eqb-true}
 use Rattle.pes_packet.specs.AccessUnits.{AccessUnit}
@@ -17,7 +17,7 @@ use Rattle.mux_core.specs.Scheduled.{Scheduled}
 use Rattle.mux_core.specs.Histories.{owned_stream, stream_in, content_in, content_at}
 use Rattle.mux_core.proofs.ContentPids.{silent, not_null}
 
--- a stream's own slot is a slot of the stream
+-- A stream's own slot is a slot of the stream.
 own_is : (k : ℕ) (slot : Slot) → is_own (StreamItem k) slot ≡ true → slot ≡ Stream k
 own_is k (Stream j) e = ap Stream (sym (eqb-true k j e))
 own_is k (Pcr i) e = absurd (false≢true e)

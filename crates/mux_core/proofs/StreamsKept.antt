@@ -1,4 +1,4 @@
--- What the finished bytes keep of a stream that has its PID for itself.
+-- The promises that the finished bytes keep for a stream that has its PID to itself.
 use Rattle.std.proofs.Common.{◌≡◌, ◌≤◌, ◌*◌, ℕ, Bool, List, Some, None, sym, subst}
 use Rattle.std.specs.Prelude.{slice_get}
 use Rattle.pes_packet.specs.AccessUnits.{AccessUnit}
@@ -31,7 +31,7 @@ use Rattle.mux_core.specs.Histories.{owned_stream}
 use Rattle.mux_core.specs.FramesKept.{FramesKept}
 use Rattle.mux_core.specs.Headline.{StreamKept}
 
--- its main buffer never holds more than its size, whenever bytes leave the transport buffer after their packet has begun
+-- The main buffer never overflows, whenever bytes leave the transport buffer after the start of their packet.
 pub main_kept : (d : Scheduled) (k : ℕ) (s : DescribedStream) (units : List AccessUnit) (content : ℕ → Content) (n : ℕ) →
     slice_get d.description.streams k ≡ Some s → StreamIsAlone (owned_stream d k s) units content → Kept (owned_stream d k s) units →
     Promised d.description d.schedule →
@@ -44,7 +44,7 @@ main_kept d k s units content n is alone kept promised x left late =
     (promised.streams k s pes is keeps).main n x left
     (subst (λ (ps : List Packet). NoneLeavesEarly s.rx ps left) (carried_law (owned_stream d k s) units content n alone).packets late)
 
--- nor where a unit is several access units that are removed one by one
+-- The main buffer does not overflow either if a unit has several frames that are removed one by one.
 frames_kept : (d : Scheduled) (k : ℕ) (s : DescribedStream) (units : List AccessUnit) (content : ℕ → Content) (n : ℕ) →
     slice_get d.description.streams k ≡ Some s → StreamIsAlone (owned_stream d k s) units content → Kept (owned_stream d k s) units →
     Promised d.description d.schedule →

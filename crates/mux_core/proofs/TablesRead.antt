@@ -23,7 +23,7 @@ use Rattle.mux_core.specs.Histories.{table_of, table_in, content_in, content_at}
 use Rattle.mux_core.specs.Headline.{TableKept}
 use Rattle.mux_core.proofs.ContentPids.{silent, not_null}
 
--- a table's own slot is a slot of the table
+-- A table's own slot is a slot of the table.
 own_is : (t : ℕ) (slot : Slot) → is_own (TableItem t) slot ≡ true → slot ≡ Table t
 own_is t (Stream k) e = absurd (false≢true e)
 own_is t (Pcr i) e = absurd (false≢true e)
@@ -54,7 +54,7 @@ table_alone d units t kind r fits is = record {
       (λ e. false≢true (sym n ∙ is_own_of t (slot_of d.schedule s) e));
 }
 
--- a table that there is has a kind
+-- A table with a valid index has a kind.
 pub there : (ks : List TableKind) (t : ℕ) → t < length ks → (kind : TableKind) × (slice_get ks t ≡ Some kind)
 there [] t lt = absurd (omega (arith, lt))
 there (k ∷ ks) zero lt = (k, refl)

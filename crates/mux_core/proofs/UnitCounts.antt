@@ -1,4 +1,4 @@
--- How many units each stream has, counted from the last to the first.
+-- How many units each stream has, counted from the last unit to the first.
 use Rattle.std.proofs.Common.{◌≡◌, ◌≢◌, ℕ, suc, ◌+◌, ◌<◌, ◌≤◌, max, ◌==◌, List, [], ◌∷◌, ◌++◌, length, map, drop, refl, sym, ap, ◌∙◌, arith, inl, inr}
 use Rattle.std.specs.Prelude.{slice_set, slice_index, slice_index_or, replicate}
 use Rattle.std.specs.List.{filter}
@@ -9,19 +9,19 @@ use Rattle.pes_packet.specs.AccessUnits.{AccessUnit}
 use Rattle.pes_packet.specs.Units.{units_of}
 use Rattle.mux_core.specs.WholeJobs.{max_stream_units}
 
--- a unit in front is its stream's, and no other's
+-- A unit at the front belongs to its own stream only.
 pub own_units : (j : ℕ) (entry : ℕ × AccessUnit) (rest : List (ℕ × AccessUnit)) → entry.0 ≡ j → units_of j (entry ∷ rest) ≡ entry.1 ∷ units_of j rest
 own_units j entry rest e = rw (eq-eqb entry.0 j e) refl
 
 pub other_units : (j : ℕ) (entry : ℕ × AccessUnit) (rest : List (ℕ × AccessUnit)) → entry.0 ≢ j → units_of j (entry ∷ rest) ≡ units_of j rest
 other_units j entry rest ne = rw (ne_eqb entry.0 j ne) refl
 
--- units after others
+-- The units of a stream in two joined lists.
 pub units_append : (j : ℕ) (xs ys : List (ℕ × AccessUnit)) → units_of j (xs ++ ys) ≡ units_of j xs ++ units_of j ys
 units_append j xs ys = ap (map (λ (u : ℕ × AccessUnit). u.1)) (filter-append (λ (u : ℕ × AccessUnit). u.0 == j) xs ys)
     ∙ map-append (λ (u : ℕ × AccessUnit). u.1) (filter (λ (u : ℕ × AccessUnit). u.0 == j) xs) (filter (λ (u : ℕ × AccessUnit). u.0 == j) ys)
 
--- the number of units of each stream, of those from index i on
+-- The number of units that each stream has from index i on.
 abbrev pub CountsFrom : List ℕ → ℕ → List (ℕ × AccessUnit) → Type 0
 CountsFrom counts i units = (k : ℕ) → k < 256 → (slice_index counts k ≡ length (units_of k (drop i units))) × (slice_index counts k + i ≤ length units)
 
@@ -31,7 +31,7 @@ counts_none i units e k below =
     let zero_there : slice_index (replicate 256 0) k ≡ 0 = get_or-replicate 256 k 0 0 below in
     (zero_there ∙ ap (λ (l : List (ℕ × AccessUnit)). length (units_of k l)) (sym none), omega (arith, zero_there, e))
 
--- one unit before
+-- Counting one more unit, towards the front.
 pub count_own : (counts : List ℕ) (i j : ℕ) (units : List (ℕ × AccessUnit)) (d : ℕ × AccessUnit) → length counts ≡ 256 → (slice_index_or units j d).0 < 256 →
     i ≡ j + 1 → j < length units → CountsFrom counts i units →
     CountsFrom (slice_set counts (slice_index_or units j d).0 (slice_index counts (slice_index_or units j d).0 + 1)) j units
@@ -81,7 +81,7 @@ most_more counts i j units d most size within next inside counted is =
     ∙ ap (λ (n : ℕ). max (max_stream_units (drop i units)) (n + 1)) known.0 ∙ most_cons (slice_index_or units j d) (drop i units)
     ∙ ap max_stream_units (sym parts)
 
--- before the first
+-- No unit is left to count.
 pub most_none : (i : ℕ) (units : List (ℕ × AccessUnit)) → i ≡ length units → 0 ≡ max_stream_units (drop i units)
 unfolding max_stream_units
 most_none i units e = ap max_stream_units (sym (drop_all i units (omega (arith, e))))

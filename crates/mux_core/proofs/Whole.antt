@@ -1,4 +1,4 @@
--- The finished bytes of a history keep all that they promise.
+-- The finished bytes of a history keep all promises.
 use Rattle.std.specs.Prelude.{ℕ, List}
 use Rattle.pes_packet.specs.AccessUnits.{AccessUnit}
 use Rattle.description_parts.specs.Ranges.{IsInRange}
@@ -9,6 +9,7 @@ use Rattle.mux_core.specs.Scheduled.{Scheduled}
 use Rattle.mux_core.specs.Histories.{owned_stream, content_at}
 use Rattle.mux_core.specs.Headline.{HeadlineLaw, UnitsKept}
 use Rattle.mux_core.proofs.ContentPids.{StreamsFit, content_fits}
+use Rattle.mux_core.proofs.ClearPackets.{all_clear}
 use Rattle.mux_core.proofs.TablesRead.{table_kept}
 use Rattle.mux_core.proofs.Programs.{program_kept}
 use Rattle.mux_core.proofs.Sizes.{all_read, pids_known}
@@ -16,7 +17,7 @@ use Rattle.mux_core.proofs.RandomAccess.{access_known}
 use Rattle.mux_core.proofs.StreamsAlone.{stream_alone}
 use Rattle.mux_core.proofs.StreamsKept.{stream_kept}
 
--- what each slot carries can be a packet
+-- The content of each slot fits into a packet.
 pub contents_fit : (d : Scheduled) (units : ℕ → List AccessUnit) → IsInRange d.description → UnitsKept d units → Fits (content_at d units)
 contents_fit d units r kept = content_fits d units r streams_fit
   where
@@ -30,6 +31,7 @@ headline d units slots r promised kept =
       size = run_length (content_at d units) 0 slots fits;
       packets = all_read (content_at d units) slots fits;
       pids = pids_known d units slots fits;
+      clear = all_clear d units slots fits;
       access = access_known (content_at d units) slots fits;
       streams = λ k s is. stream_kept d k s (units k) (content_at d units) slots is (stream_alone d units k s r fits is) (kept.kept k s is) promised;
       programs = λ i p is. program_kept d units slots i p r promised fits is;

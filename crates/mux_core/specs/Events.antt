@@ -4,7 +4,7 @@ use Rattle.pes_packet.specs.AccessUnits.{AccessUnit}
 use Rattle.unit_queue.specs.declared.refusal.FeedError.{FeedError}
 use Rattle.mux_core.specs.Scheduled.{Scheduled}
 use Rattle.mux_core.specs.Histories.{History, bytes_of, empty_history, next_slot, with_unit}
-use Rattle.mux_core.specs.MuxStates.{MuxState, Stands, feed_cause}
+use Rattle.mux_core.specs.MuxStates.{MuxState, Represents, feed_cause}
 use Rattle.mux_core.specs.declared.driving.Event.{Event}
 use Rattle.mux_core.specs.declared.driving.Event.TheVariants.{Feed, Slot}
 
@@ -39,8 +39,8 @@ pub record Adds (d : Scheduled) (h later : History) (old new : List ℕ) : Type 
   pub output : new ≡ old ++ added
 
 -- a multiplexer represents a history, with the same schedule and capacity as before
-pub record StandsOn (h : History) (old new : MuxState) : Type 0 where
-  pub stands : Stands h new
+pub record StillRepresents (h : History) (old new : MuxState) : Type 0 where
+  pub represents : Represents h new
   pub same_schedule : new.schedule ≡ old.schedule
   pub same_capacity : new.capacity ≡ old.capacity
 

@@ -2,17 +2,18 @@
 -- buffer of the decoder model (ISO/IEC 13818-1, 2.4.2) ever overflows.
 use Rattle.std.specs.Prelude.{◌≡◌, ◌⊎◌, ℕ, ◌+◌, ◌*◌, ◌%◌, ◌<◌, ◌≤◌, true, false, List, length, map, take, slice_get, Some, None, All}
 use Rattle.clock27.specs.Recurrence.{Recur}
-use Rattle.clock27.specs.Reference.{pcr_at}
+use Rattle.clock27.specs.Reference.{Reference, pcr_at}
 use Rattle.pes_packet.specs.AccessUnits.{AccessUnit}
 use Rattle.ts_packet.specs.Views.{PacketView}
 use Rattle.ts_packet.specs.Beginnings.{is_access, has_access, start_in}
 use Rattle.ts_packet.specs.Syntax.{IsPacket}
-use Rattle.ts_packet.specs.Packets.{pcr_view, null_view}
-use Rattle.ts_packet.specs.PidList.{Entry, cut_packets, entries_of, pid_list}
+use Rattle.ts_packet.specs.Packets.{payload_view, pcr_view, null_view}
+use Rattle.ts_packet.specs.PidList.{Entry, cut_packets, entries_of, pid_list, payload_of}
 use Rattle.slot_contents.specs.Contents.{run_bytes, payload_at}
 use Rattle.description_parts.specs.Described.{Described, DescribedProgram, DescribedStream}
 use Rattle.description_parts.specs.Tables.{table_count, table_limit, section_count}
 use Rattle.slot_plan.specs.declared.slot.Slot.{Slot}
+use Rattle.slot_plan.specs.declared.slot.Slot.TheVariants.{Pcr}
 use Rattle.slot_plan.specs.SlotPids.{slot_pid}
 use Rattle.slot_plan.specs.TableRounds.{section_starts}
 use Rattle.own_slots.specs.Slots.{own_slots}
@@ -32,7 +33,7 @@ use Rattle.tstd.specs.Measured.{late_of}
 use Rattle.mux_core.specs.Scheduled.{Scheduled}
 use Rattle.mux_core.specs.FramesKept.{FramesKept}
 use Rattle.mux_core.specs.Histories.{History, parameters_of, owned_stream, table_of, content_at}
-use Rattle.mux_core.specs.MuxStates.{MuxState, Stands}
+use Rattle.mux_core.specs.MuxStates.{MuxState, Represents}
 use Rattle.description_parts.specs.Ranges.{IsInRange}
 use Rattle.plan_timing.specs.Promised.{Promised}
 use Rattle.plan_timing.specs.Waits.{pes_entered, longest_wait}
@@ -119,6 +120,18 @@ IsNamed d packet = ((slot : Slot) × (slot_pid d slot ≡ Some packet.header.pid
 abbrev pub IsAccessAtStart : PacketView → Type 0
 IsAccessAtStart packet = has_access packet.adaptation ≡ is_access (start_in packet)
 
+-- a packet has a payload and nothing else (2.4.3.2 to 2.4.3.5): it is in the clear, without priority; it has an adaptation field only if its payload has
+-- less than 184 bytes or if a decoder may begin with it; the field has stuffing alone, and no flag except the random_access_indicator
+abbrev pub IsPayloadAlone : PacketView → Type 0
+IsPayloadAlone packet = packet ≡ payload_view packet.header.pid (start_in packet) packet.header.continuity_counter (payload_of packet)
+
+-- a packet on the PCR PID of a program has a clock reference and nothing else, and is in the clear, without priority
+pub record IsClockAlone (d : Described) (packet : PacketView) : Type 0 where
+  pub program : ℕ
+  pub named : slot_pid d (Pcr program) ≡ Some packet.header.pid
+  pub reference : Reference
+  pub alone : packet ≡ pcr_view packet.header.pid reference
+
 -- the promises for the whole output
 pub record Headline (d : Scheduled) (units : ℕ → List AccessUnit) (slots : ℕ) (bytes : List ℕ) : Type 0 where
   -- 188 bytes a slot
@@ -127,6 +140,8 @@ pub record Headline (d : Scheduled) (units : ℕ → List AccessUnit) (slots : �
   pub packets : All IsTransportPacket (cut_packets bytes)
   -- each packet is the null packet, or is on a PID of the description and not marked as wrong
   pub pids : All (λ e. (e.packet ≡ null_view) ⊎ IsNamed d.description e.packet) (entries_of bytes)
+  -- each packet is in the clear, and has a payload alone or a clock reference alone
+  pub clear : All (λ e. IsPayloadAlone e.packet ⊎ IsClockAlone d.description e.packet) (entries_of bytes)
   -- the random_access_indicator is set only in packets where something begins
   pub access : All (λ e. IsAccessAtStart e.packet) (entries_of bytes)
   pub streams : (k : ℕ) (s : DescribedStream) → slice_get d.description.streams k ≡ Some s → StreamKept d k s (units k) slots bytes
@@ -144,6 +159,6 @@ HeadlineLaw = (d : Scheduled) (units : ℕ → List AccessUnit) (slots : ℕ) �
     Headline d units slots (run_bytes (content_at d units) 0 slots)
 
 -- the same promises for the history that a multiplexer represents, as far as its bytes go
-abbrev pub StandingLaw : Type 0
-StandingLaw = (h : History) (m : MuxState) (n : ℕ) → IsInRange m.schedule.description → Promised m.schedule.description m.schedule.schedule → Stands h m →
+abbrev pub AnyStateLaw : Type 0
+AnyStateLaw = (h : History) (m : MuxState) (n : ℕ) → IsInRange m.schedule.description → Promised m.schedule.description m.schedule.schedule → Represents h m →
     Headline m.schedule h.units n (run_bytes (content_at m.schedule h.units) 0 n)

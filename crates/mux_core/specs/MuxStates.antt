@@ -24,29 +24,29 @@ pub record MuxState : Type 0 where
   pub slots : ℕ
 
 -- the queue of a stream represents the stream's units
-abbrev pub QueueStands : Scheduled → History → ℕ → ℕ → Option Queue → Option DescribedStream → Type 0
-QueueStands d h capacity k (Some q) (Some s) = QueueHolds (owned_stream d k s) h.slots capacity (h.units k) q
-QueueStands d h capacity k (Some q) None = ⊥
-QueueStands d h capacity k None (Some s) = ⊥
-QueueStands d h capacity k None None = ⊤
+abbrev pub QueueRepresents : Scheduled → History → ℕ → ℕ → Option Queue → Option DescribedStream → Type 0
+QueueRepresents d h capacity k (Some q) (Some s) = QueueHolds (owned_stream d k s) h.slots capacity (h.units k) q
+QueueRepresents d h capacity k (Some q) None = ⊥
+QueueRepresents d h capacity k None (Some s) = ⊥
+QueueRepresents d h capacity k None None = ⊤
 
 -- the carousel of a table represents the table's own slots so far
-abbrev pub CarouselStands : Scheduled → History → ℕ → Option Carousel → Option TableKind → Type 0
-CarouselStands d h t (Some carousel) (Some kind) = CarouselHolds (table_of d t) h.slots carousel
-CarouselStands d h t (Some carousel) None = ⊥
-CarouselStands d h t None (Some kind) = ⊥
-CarouselStands d h t None None = ⊤
+abbrev pub CarouselRepresents : Scheduled → History → ℕ → Option Carousel → Option TableKind → Type 0
+CarouselRepresents d h t (Some carousel) (Some kind) = CarouselHolds (table_of d t) h.slots carousel
+CarouselRepresents d h t (Some carousel) None = ⊥
+CarouselRepresents d h t None (Some kind) = ⊥
+CarouselRepresents d h t None None = ⊤
 
 -- a multiplexer represents a history
-pub record Stands (h : History) (m : MuxState) : Type 0 where
+pub record Represents (h : History) (m : MuxState) : Type 0 where
   pub written : m.slots ≡ h.slots
-  pub streams : (k : ℕ) → QueueStands m.schedule h m.capacity k (slice_get m.queues k) (slice_get m.schedule.description.streams k)
-  pub tables : (t : ℕ) → CarouselStands m.schedule h t (slice_get m.carousels t) (slice_get (table_kinds m.schedule.description) t)
+  pub streams : (k : ℕ) → QueueRepresents m.schedule h m.capacity k (slice_get m.queues k) (slice_get m.schedule.description.streams k)
+  pub tables : (t : ℕ) → CarouselRepresents m.schedule h t (slice_get m.carousels t) (slice_get (table_kinds m.schedule.description) t)
 
 -- the next 188 bytes of the history, and the history with one more slot; nothing after 2^40 slots
 abbrev pub Gives : History → MuxState → Result (List ℕ) Done → MuxState → Type 0
 Gives h old (Ok packet) new =
-    (h.slots < 2 ^ 40) × (packet ≡ packet_of (content_at old.schedule h.units h.slots)) × (new.schedule ≡ old.schedule) × Stands (next_slot h) new ×
+    (h.slots < 2 ^ 40) × (packet ≡ packet_of (content_at old.schedule h.units h.slots)) × (new.schedule ≡ old.schedule) × Represents (next_slot h) new ×
     (new.capacity ≡ old.capacity)
 Gives h old (Err e) new = (2 ^ 40 ≤ h.slots) × (new ≡ old)
 
@@ -63,7 +63,7 @@ pub record Takes (h : History) (old : MuxState) (k : ℕ) (u : AccessUnit) (refu
   -- the answer is the first cause that applies
   pub first : refused ≡ refusal_of old h k u
   -- an accepted unit is added to the units of its stream
-  pub stands : refused ≡ None → Stands (with_unit h k u) new
+  pub represents : refused ≡ None → Represents (with_unit h k u) new
   -- the bytes written before do not change
   pub before : refused ≡ None → bytes_of old.schedule (with_unit h k u) ≡ bytes_of old.schedule h
   pub same_schedule : new.schedule ≡ old.schedule

@@ -12,7 +12,7 @@ use Rattle.switch_checker.specs.Followed.{Followed}
 use Rattle.unit_queue.specs.declared.refusal.FeedError.{FeedError}
 use Rattle.mux_core.specs.Scheduled.{Scheduled}
 use Rattle.mux_core.specs.Histories.{History, content_at}
-use Rattle.mux_core.specs.MuxStates.{MuxState, Stands, feed_cause}
+use Rattle.mux_core.specs.MuxStates.{MuxState, Represents, feed_cause}
 use Rattle.mux_core.specs.NewMux.{is_periods}
 use Rattle.packet_output.specs.Buffer.{byte_count, Took}
 use Rattle.packet_output.specs.Formats.{formatted}
@@ -81,7 +81,7 @@ first_refused d capacity fed (entry ∷ rest) =
 -- all units were fed to a multiplexer with an empty history: it represents their history, or the answer names the first refused unit
 pub record AllFed (old : MuxState) (units : List (ℕ × AccessUnit)) (new : MuxState) : Type 0 where
   pub none_refused : first_refused old.schedule old.capacity [] units ≡ None
-  pub stands : Stands (job_history units 0) new
+  pub represents : Represents (job_history units 0) new
   pub same_schedule : new.schedule ≡ old.schedule
 
 abbrev pub FeedsAll : MuxState → List (ℕ × AccessUnit) → Result (Unit {0}) (ℕ × FeedError) → MuxState → Type 0

@@ -3,9 +3,9 @@
 ghost use Rattle.std.specs.Prelude.{◌≡◌, ◌≤◌, ◌+◌, IfErr, OnOk, map};
 ghost use Rattle.std.specs.Vec.{vec_len, vec_capacity};
 ghost use Rattle.mux_core.specs.Histories.{History, bytes_of};
-ghost use Rattle.mux_core.specs.MuxStates.{Stands};
+ghost use Rattle.mux_core.specs.MuxStates.{Represents};
 ghost use Rattle.mux_core.specs.Headline.{Headline};
-ghost use Rattle.mux_core.specs.Events.{shown, FeedStep, SlotStep, step_history, history_after, Adds, StandsOn};
+ghost use Rattle.mux_core.specs.Events.{shown, FeedStep, SlotStep, step_history, history_after, Adds, StillRepresents};
 
 use crate::multiplexer::Mux;
 use pes_packet::Unit;
@@ -26,14 +26,14 @@ pub fn drive<A: Allocator>(
     events: Vec<Event<A>, A>,
     out: &mut Vec<u8, A>,
 ) -> Result<(), Vec<Event<A>, A>>
-    ensures stands { (h : History) → Stands h mux.old →
+    ensures represents { (h : History) → Represents h mux.old →
         OnOk result
-        (StandsOn (history_after mux.old.schedule mux.old.capacity h (map shown events.items)) mux.old mux.new) }
-    ensures written { (h : History) → Stands h mux.old →
+        (StillRepresents (history_after mux.old.schedule mux.old.capacity h (map shown events.items)) mux.old mux.new) }
+    ensures written { (h : History) → Represents h mux.old →
         OnOk result
         (Adds mux.old.schedule h (history_after mux.old.schedule mux.old.capacity h (map shown events.items))
         out.old.items out.new.items) }
-    ensures headline { (h : History) → Stands h mux.old →
+    ensures headline { (h : History) → Represents h mux.old →
         OnOk result (Headline mux.old.schedule
         (history_after mux.old.schedule mux.old.capacity h (map shown events.items)).units
         (history_after mux.old.schedule mux.old.capacity h (map shown events.items)).slots
@@ -60,8 +60,8 @@ pub fn drive<A: Allocator>(
 
 // Feeds a unit; drops it if it is refused.
 fn take_unit<A: Allocator>(mux: &mut Mux<A>, stream: u8, unit: Unit<A>)
-    ensures { (h : History) → Stands h mux.old →
-        StandsOn (step_history mux.old.schedule mux.old.capacity h (FeedStep stream unit)) mux.old mux.new
+    ensures { (h : History) → Represents h mux.old →
+        StillRepresents (step_history mux.old.schedule mux.old.capacity h (FeedStep stream unit)) mux.old mux.new
         × (bytes_of mux.old.schedule (step_history mux.old.schedule mux.old.capacity h (FeedStep stream unit))
         ≡ bytes_of mux.old.schedule h) }
 {
@@ -71,9 +71,9 @@ fn take_unit<A: Allocator>(mux: &mut Mux<A>, stream: u8, unit: Unit<A>)
 // Appends the packet of the next slot; there has to be room for it.
 fn write_slot<A: Allocator>(mux: &mut Mux<A>, out: &mut Vec<u8, A>)
     requires room { vec_len out.old + 188 ≤ vec_capacity out.old }
-    ensures stands { (h : History) → Stands h mux.old →
-        StandsOn (step_history mux.old.schedule mux.old.capacity h SlotStep) mux.old mux.new }
-    ensures written { (h : History) → Stands h mux.old →
+    ensures represents { (h : History) → Represents h mux.old →
+        StillRepresents (step_history mux.old.schedule mux.old.capacity h SlotStep) mux.old mux.new }
+    ensures written { (h : History) → Represents h mux.old →
         Adds mux.old.schedule h (step_history mux.old.schedule mux.old.capacity h SlotStep)
         out.old.items out.new.items }
     ensures len { vec_len out.new ≤ vec_len out.old + 188 }

@@ -1,7 +1,7 @@
 //! Laws of the definitions. Each function does nothing: its contract is the law.
 
 ghost use Rattle.plan_timing.specs.Promised.{Promised};
-ghost use Rattle.mux_core.specs.Headline.{HeadlineLaw, StandingLaw};
+ghost use Rattle.mux_core.specs.Headline.{HeadlineLaw, AnyStateLaw};
 ghost use Rattle.mux_core.specs.MeasuredRuns.{MeasuredLaw, MeasurableLaw};
 ghost use Rattle.mux_core.specs.Decoder.{PutLaw};
 ghost use Rattle.mux_core.specs.DecodedRuns.{DecodedLaw};
@@ -95,7 +95,7 @@ pub fn switch_main()
 /// units are within its declaration; and that each history that a multiplexer represents does so.
 pub fn headline()
     ensures whole { HeadlineLaw }
-    ensures standing { StandingLaw }
+    ensures any_state { AnyStateLaw }
 {}
 
 /// States that `tstd::measure` finds, in bytes that keep every promise, no late unit and no buffer over its size.
@@ -109,8 +109,9 @@ pub fn measurable()
     ensures { MeasurableLaw }
 {}
 
-/// States that a decoder of such bytes, whoever wrote them, by ISO/IEC 13818-1 reads a packet in each slot, finds no
-/// counter that breaks, and puts together each unit that is due in the run, whole, and by its DTS.
+/// States that a decoder of such bytes, whoever wrote them, by ISO/IEC 13818-1 reads a packet in the clear in each slot,
+/// finds no counter that breaks, gets the clock of each program and each section of a table within their limits, and
+/// puts together each unit that is due in the run, whole, with its DTS, and by its DTS.
 pub fn decoded()
     ensures put { PutLaw }
     ensures decoded { DecodedLaw }

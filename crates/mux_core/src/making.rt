@@ -6,7 +6,7 @@ ghost use Rattle.description_parts.specs.Ranges.{IsInRange};
 ghost use Rattle.plan_timing.specs.Promised.{Promised};
 ghost use Rattle.slot_plan.specs.Schedule.{single, switched};
 ghost use Rattle.mux_core.specs.Histories.{parameters_of, empty_history};
-ghost use Rattle.mux_core.specs.MuxStates.{Stands};
+ghost use Rattle.mux_core.specs.MuxStates.{Represents};
 ghost use Rattle.mux_core.specs.NewMux.{is_capacity, is_periods, plan_cause, switch_cause, new_refusal, Judges};
 ghost use Rattle.mux_core.specs.NewMux.{first_queue, first_carousel, first_carousels};
 
@@ -32,7 +32,7 @@ impl<A: Allocator + Clone> Mux<A> {
         capacity: usize,
     ) -> Result<Mux<A>, (NewError, CheckedPlan<A>)>
         ensures refused { Judges (plan_cause capacity) (new_refusal result) }
-        ensures stands { IfOk result (Stands empty_history) }
+        ensures represents { IfOk result (Represents empty_history) }
         ensures schedule { IfOk result (λ m. m.schedule ≡ record {
           description = plan.description;
           schedule = single plan.plan.slots;
@@ -61,7 +61,7 @@ impl<A: Allocator + Clone> Mux<A> {
         capacity: usize,
     ) -> Result<Mux<A>, (NewError, CheckedSwitch<A>)>
         ensures refused { Judges (switch_cause (length switch.first.plan.slots) periods capacity) (new_refusal result) }
-        ensures stands { IfOk result (Stands empty_history) }
+        ensures represents { IfOk result (Represents empty_history) }
         ensures schedule { IfOk result (λ m. m.schedule
             ≡ record {
               description = switch.first.description;
@@ -98,7 +98,7 @@ fn begun<A: Allocator>(
     requires promised { Promised schedule.description schedule.schedule }
     requires queues { queues.items ≡ map (first_queue schedule.description capacity) schedule.description.streams }
     requires carousels { carousels.items ≡ first_carousels schedule.description 0 (table_count schedule.description) }
-    ensures stands { Stands empty_history result }
+    ensures represents { Represents empty_history result }
     ensures schedule { result.schedule ≡ schedule }
     ensures capacity { result.capacity ≡ capacity }
 {

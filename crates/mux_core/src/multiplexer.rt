@@ -5,7 +5,7 @@ ghost use Rattle.slot_contents.specs.Contents.{packet_of};
 ghost use Rattle.slot_plan.specs.Schedule.{slot_of};
 ghost use Rattle.unit_queue.specs.Causes.{refusal};
 ghost use Rattle.mux_core.specs.Histories.{History, bytes_of, next_slot};
-ghost use Rattle.mux_core.specs.MuxStates.{Stands, Gives, Takes, waiting_of};
+ghost use Rattle.mux_core.specs.MuxStates.{Represents, Gives, Takes, waiting_of};
 ghost use Rattle.mux_core.specs.Headline.{Headline};
 ghost use Rattle.mux_core.specs.SlotSteps.{sends, after, queue_cause, queues_with};
 ghost use Rattle.description_parts.specs.Ranges.{IsInRange};
@@ -75,8 +75,8 @@ fn feed_stream<A: Allocator>(
 impl<A: Allocator> Mux<A> {
     /// Returns the packet of the next slot.
     pub fn next_packet(&mut self) -> Result<[u8; 188], Done>
-        ensures next { (h : History) → Stands h self.old → Gives h self.old result self.new }
-        ensures headline { (h : History) → Stands h self.old →
+        ensures next { (h : History) → Represents h self.old → Gives h self.old result self.new }
+        ensures headline { (h : History) → Represents h self.old →
             OnOk result (Headline self.old.schedule h.units (suc h.slots) (bytes_of self.old.schedule (next_slot h))) }
     {
         let mut packet = [0; 188];
@@ -89,9 +89,9 @@ impl<A: Allocator> Mux<A> {
     /// Writes the packet of the next slot over the bytes of `packet`, as `next_packet` gives it. Where there is no next
     /// slot these stay as they are.
     pub fn write_next(&mut self, packet: &mut [u8; 188]) -> Result<(), Done>
-        ensures next { (h : History) → Stands h self.old → OnOk result (Gives h self.old (Ok packet.new) self.new) }
-        ensures done { (h : History) → Stands h self.old → IfErr result (λ done. Gives h self.old (Err done) self.new) }
-        ensures headline { (h : History) → Stands h self.old →
+        ensures next { (h : History) → Represents h self.old → OnOk result (Gives h self.old (Ok packet.new) self.new) }
+        ensures done { (h : History) → Represents h self.old → IfErr result (λ done. Gives h self.old (Err done) self.new) }
+        ensures headline { (h : History) → Represents h self.old →
             OnOk result (Headline self.old.schedule h.units (suc h.slots) (bytes_of self.old.schedule (next_slot h))) }
         ensures same { OnErr result (packet.new ≡ packet.old) }
     {
@@ -128,7 +128,7 @@ impl<A: Allocator> Mux<A> {
 
     /// Takes a unit of a stream. A refused unit is returned, and nothing changes.
     pub fn feed(&mut self, stream: u8, unit: Unit<A>) -> Result<(), (FeedError, Unit<A>)>
-        ensures takes { (h : History) → Stands h self.old → Takes h self.old stream unit (refusal result) self.new }
+        ensures takes { (h : History) → Represents h self.old → Takes h self.old stream unit (refusal result) self.new }
         ensures handed_back { IfErr result (λ e. (e.1 ≡ unit) × (self.new ≡ self.old)) }
     {
         feed_stream(&mut self.queues, stream, self.slots, unit)
@@ -136,14 +136,14 @@ impl<A: Allocator> Mux<A> {
 
     /// Returns the number of slots written.
     pub fn now(&self) -> u64
-        ensures { (h : History) → Stands h self.now → result ≡ h.slots }
+        ensures { (h : History) → Represents h self.now → result ≡ h.slots }
     {
         self.slots
     }
 
     /// Returns the number of units of a stream that are not sent whole; None if there is no such stream.
     pub fn waiting(&self, stream: u8) -> Option<usize>
-        ensures { (h : History) → Stands h self.now → result ≡ waiting_of self.now.schedule h stream }
+        ensures { (h : History) → Represents h self.now → result ≡ waiting_of self.now.schedule h stream }
     {
         self.units_waiting(stream)
     }

@@ -6,7 +6,7 @@ ghost use Rattle.pes_packet.specs.Units.{units_of};
 ghost use Rattle.mux_core.specs.Headline.{Headline};
 ghost use Rattle.mux_core.specs.MeasuredRuns.{MeasuresWell};
 ghost use Rattle.mux_core.specs.Histories.{History, content_at, bytes_of, empty_history};
-ghost use Rattle.mux_core.specs.MuxStates.{Stands};
+ghost use Rattle.mux_core.specs.MuxStates.{Represents};
 ghost use Rattle.packet_output.specs.Buffer.{waiting_of, IsOutput, Took};
 ghost use Rattle.mux_core.specs.WholeJobs.{plan_schedule, switch_schedule, job_history, slots_cause};
 ghost use Rattle.mux_core.specs.WholeJobs.{switch_slots_cause, job_cause, capacity_for, max_stream_units};
@@ -195,7 +195,7 @@ fn write_job<A: Allocator + Copy, W: Sink>(
     to: &mut W,
 ) -> Result<u64, MuxError>
     requires slots { slots ≤ 2 ^ 40 }
-    requires stands { Stands empty_history mux.old }
+    requires represents { Represents empty_history mux.old }
     requires capacity { mux.old.capacity ≡ capacity_for units.items }
     ensures refused { Refuses None (job_cause None mux.old.schedule units.items) result }
     ensures written { Writes (output_of hex mux.old.schedule (job_history units.items slots))
@@ -228,7 +228,7 @@ fn write_all<A: Allocator, B: Allocator, W: Sink>(
     requires slots { slots ≤ 2 ^ 40 }
     requires empty { waiting_of packets ≡ [] }
     requires none_sent { packets.sent ≡ 0 }
-    ensures answers { (h : History) → Stands h mux.old → h.slots ≡ 0 →
+    ensures answers { (h : History) → Represents h mux.old → h.slots ≡ 0 →
         WritesAll (run_output packets.hex (content_at mux.old.schedule h.units) 0 slots)
         (W.contents to.old) (W.contents to.new) result }
     ensures fault { NamesWriter result (W.fault_count to.old) (W.fault_count to.new) }
@@ -248,7 +248,7 @@ fn feed_all<A: Allocator>(
     mux: &mut Mux<A>,
     units: Vec<(u8, Unit<A>), A>,
 ) -> Result<(), (u64, FeedError)>
-    ensures fed { Stands empty_history mux.old → FeedsAll mux.old units.items result mux.new }
+    ensures fed { Represents empty_history mux.old → FeedsAll mux.old units.items result mux.new }
 {
     let mut left = VecDeque::from(units);
     let mut index: u64 = 0;
@@ -269,11 +269,11 @@ fn write_slots<A: Allocator, B: Allocator, W: Sink>(
     to: &mut W,
 ) -> Result<(), OutputFault>
     requires slots { slots ≤ 2 ^ 40 }
-    ensures ok { (h : History) (start : Option (List ℕ)) → Stands h mux.old → h.slots ≡ 0 →
+    ensures ok { (h : History) (start : Option (List ℕ)) → Represents h mux.old → h.slots ≡ 0 →
         IsOutput start (W.contents to.old) packets.old [] →
         OnOk result (IsOutput start (W.contents to.new) packets.new
         (run_output packets.old.hex (content_at mux.old.schedule h.units) 0 slots)) }
-    ensures err { (h : History) (start : Option (List ℕ)) → Stands h mux.old → h.slots ≡ 0 →
+    ensures err { (h : History) (start : Option (List ℕ)) → Represents h mux.old → h.slots ≡ 0 →
         IsOutput start (W.contents to.old) packets.old [] →
         IfErr result (λ fault. Took start (W.contents to.new) fault.sent
         (run_output packets.old.hex (content_at mux.old.schedule h.units) 0 slots)) }

@@ -1,4 +1,4 @@
--- Files that are named: their bytes one after another, and what is reported of them.
+-- Files that the caller names: their bytes in order, and the reports about them.
 use Rattle.std.proofs.Common.{◌≡◌, ◌∙◌, ◌<◌, ◌≤◌, ◌+◌, ℕ, Option, Some, true, false, Bool, Err, zero, suc, List, [], ◌∷◌, ◌++◌, length, map, take, drop, get_or}
 use Rattle.std.proofs.Common.{refl, sym, ap, subst, inl, inr, add-one, append_assoc, append-nil, arith}
 use Rattle.std.specs.Borrow.{Bor}
@@ -6,20 +6,20 @@ use Rattle.std.proofs.Math.Seq.{drop-cons}
 use Rattle.std.proofs.lemmas.List.{length-map, take-append-drop, take_all, take_more}
 use Rattle.devices.specs.Devices.{Device, HasFailed, IsClean, Port, Takes, between}
 use Rattle.devices.specs.Files.{Files, IsAsKnown, IsOpened, IsUnopened}
-use Rattle.devices.specs.Lines.{Reports, Stopped, Tells}
+use Rattle.devices.specs.Lines.{Reports, Stopped, ReportsAll}
 use Rattle.devices.specs.WholeInput.{IsWhole, ReadsInput}
 use Rattle.devices.specs.declared.halt.Halt.{Halt}
 use Rattle.devices.specs.declared.halt.Halt.TheVariants as halt
 use Rattle.devices.proofs.NamedReaders.{is_unread}
-use Rattle.named_files.specs.ReadFiles.{HasBytes, HaveBytes, StopsAt, StopsAtOne, TellsUnread}
-use Rattle.named_files.specs.Reports.{TellsOf, uncreated_text, unopened_text, unwritten_text}
+use Rattle.named_files.specs.ReadFiles.{HasBytes, HaveBytes, StopsAt, StopsAtOne, ReportsUnreadFile}
+use Rattle.named_files.specs.Reports.{ReportsText, uncreated_text, unopened_text, unwritten_text}
 use Rattle.named_files.specs.Saving.{Keeps, SavesFile}
 
--- two texts, one after the other
-pub told_both : (before mid after : Port) (first second : List ℕ) → Reports (between before mid) first → Reports (between mid after) second →
-    Tells before after (first ∷ second ∷ [])
-unfolding Tells
-told_both before mid after first second r s = (mid, r, (after, s, refl))
+-- Two reported texts in order
+pub reported_both : (before mid after : Port) (first second : List ℕ) → Reports (between before mid) first → Reports (between mid after) second →
+    ReportsAll before after (first ∷ second ∷ [])
+unfolding ReportsAll
+reported_both before mid after first second r s = (mid, r, (after, s, refl))
 
 abbrev pub port : Option (List ℕ) → ℕ → Port
 port bytes failed = record { bytes = bytes; failed = failed }
@@ -82,35 +82,37 @@ pub no_bytes : (files : Files) (bytes : List ℕ) → bytes ≡ [] → HaveBytes
 unfolding HaveBytes
 no_bytes files bytes is = is
 
--- the second writer was not used before
+-- The second writer was not used before
 
 pub stops_later : (files : Files) (name : List ℕ) (before later after : Port) → later ≡ before → StopsAt files name (between later after) →
     StopsAt files name (between before after)
 stops_later files name before later after same stops = subst (λ (p : Port). StopsAt files name (between p after)) same stops
 
--- a file that can't be read
+-- A file that cannot be read
 
-pub stops_unopened : (files : Files) (name : List ℕ) (faults : Device) → IsUnopened files name → TellsOf name unopened_text faults → StopsAt files name faults
-stops_unopened files name faults is tells = inl (is, tells)
+pub stops_unopened : (files : Files) (name : List ℕ) (faults : Device) → IsUnopened files name → ReportsText name unopened_text faults →
+    StopsAt files name faults
+stops_unopened files name faults is reports_text = inl (is, reports_text)
 
 pub stops_unread : (files : Files) (name : List ℕ) (input faults : Device) (why : Halt) → IsOpened files name → input.before.bytes ≡ files.contents name →
-    (files.never_fails ≡ true → HasFailed input → ⊥) → ReadsInput input (Err why) → TellsUnread name why faults → StopsAt files name faults
-stops_unread files name input faults halt.Read opened same never read tells = inr (inl (is_unread files name input opened same never read, tells))
-stops_unread files name input faults halt.Write opened same never read tells = absurd read
-stops_unread files name input faults halt.Memory opened same never read tells = inr (inr tells)
+    (files.never_fails ≡ true → HasFailed input → ⊥) → ReadsInput input (Err why) → ReportsUnreadFile name why faults → StopsAt files name faults
+stops_unread files name input faults halt.Read opened same never read reports_text = inr (inl (is_unread files name input opened same never read, reports_text))
+stops_unread files name input faults halt.Write opened same never read reports_text = absurd read
+stops_unread files name input faults halt.Memory opened same never read reports_text = inr (inr reports_text)
 
-pub tells_unread : (name : List ℕ) (why known : Halt) (faults : Device) → why ≡ known → TellsUnread name known faults → TellsUnread name why faults
-tells_unread name why known faults is tells = subst (λ (h : Halt). TellsUnread name h faults) (sym is) tells
+pub reports_unread : (name : List ℕ) (why known : Halt) (faults : Device) → why ≡ known → ReportsUnreadFile name known faults →
+    ReportsUnreadFile name why faults
+reports_unread name why known faults is reports_text = subst (λ (h : Halt). ReportsUnreadFile name h faults) (sym is) reports_text
 
--- a file that was read
+-- A file that was read
 
 pub has_bytes : (files : Files) (name bytes : List ℕ) (input : Device) → IsOpened files name → input.before.bytes ≡ files.contents name →
     IsWhole input.before.bytes bytes → HasBytes files name bytes
 has_bytes files name bytes input opened same whole = (opened, subst (λ (k : Option (List ℕ)). IsWhole k bytes) same whole)
 
--- what becomes of a new file
+-- The result of saving a new file
 
--- a known fact about a value is a fact about an equal value
+-- A known fact about a value is a fact about an equal value.
 pub known_as : (keeps : Option Bool) (b b' : Bool) → IsAsKnown keeps b → b ≡ b' → IsAsKnown keeps b'
 known_as keeps b b' known is = subst (λ (c : Bool). IsAsKnown keeps c) is known
 
@@ -122,11 +124,20 @@ saved creates keeps name bytes ended file faults status created empty written ke
 
 pub removed : (creates keeps : Option Bool) (name bytes : List ℕ) (ended : ℕ) (file faults : Device) (status : ℕ) → IsAsKnown creates true →
     ((xs : List ℕ) → file.before.bytes ≡ Some xs → xs ≡ []) →
-    Stopped bytes file → HasFailed file → TellsOf name unwritten_text faults → status ≡ 3 → SavesFile creates keeps name bytes ended faults status
-removed creates keeps name bytes ended file faults status created empty stopped failed tells is =
-    inr (inl (record { file = file; new = record { created = created; empty = empty }; stopped = stopped; failed = failed; tells = tells; status_is = is }))
+    Stopped bytes file → HasFailed file → ReportsText name unwritten_text faults → status ≡ 3 → SavesFile creates keeps name bytes ended faults status
+removed creates keeps name bytes ended file faults status created empty stopped failed reports_text is =
+    inr (inl (record {
+      file = file;
+      new = record { created = created; empty = empty };
+      stopped = stopped;
+      failed = failed;
+      reports_text =
+          reports_text;
+      status_is = is;
+    }))
 
 pub uncreated : (creates keeps : Option Bool) (name bytes : List ℕ) (ended : ℕ) (faults : Device) (status : ℕ) → IsAsKnown creates false →
-    TellsOf name uncreated_text faults → status ≡ 3 →
+    ReportsText name uncreated_text faults → status ≡ 3 →
     SavesFile creates keeps name bytes ended faults status
-uncreated creates keeps name bytes ended faults status none tells is = inr (inr (record { uncreated = none; tells = tells; status_is = is }))
+uncreated creates keeps name bytes ended faults status none reports_text is =
+    inr (inr (record { uncreated = none; reports_text = reports_text; status_is = is }))

@@ -7,7 +7,7 @@ use Rattle.devices.specs.Outcomes.{halt_line}
 use Rattle.devices.specs.WholeInput.{IsWhole}
 use Rattle.devices.specs.declared.halt.Halt.{Halt}
 use Rattle.devices.specs.declared.halt.Halt.TheVariants.{Read, Write, Memory}
-use Rattle.named_files.specs.Reports.{TellsOf, unopened_text, unread_text}
+use Rattle.named_files.specs.Reports.{ReportsText, unopened_text, unread_text}
 
 -- the file of a name was opened, and these are its bytes, if its bytes are known
 abbrev pub HasBytes : Files → List ℕ → List ℕ → Type 0
@@ -20,16 +20,16 @@ HaveBytes files (name ∷ names) bytes =
     (first : List ℕ) × ((rest : List ℕ) × (HasBytes files name first × (HaveBytes files names rest × (bytes ≡ first ++ rest))))
 
 -- why a file that was opened has no bytes
-abbrev pub TellsUnread : List ℕ → Halt → Device → Type 0
-TellsUnread name Read faults = TellsOf name unread_text faults
-TellsUnread name Write faults = TellsOf name unread_text faults
-TellsUnread name Memory faults = Reports faults (halt_line Memory)
+abbrev pub ReportsUnreadFile : List ℕ → Halt → Device → Type 0
+ReportsUnreadFile name Read faults = ReportsText name unread_text faults
+ReportsUnreadFile name Write faults = ReportsText name unread_text faults
+ReportsUnreadFile name Memory faults = Reports faults (halt_line Memory)
 
 -- it can't be opened or not be read to its end; or memory runs out
 abbrev pub StopsAt : Files → List ℕ → Device → Type 0
 StopsAt files name faults =
-    (IsUnopened files name × TellsOf name unopened_text faults)
-    ⊎ ((IsUnread files name × TellsOf name unread_text faults) ⊎ Reports faults (halt_line Memory))
+    (IsUnopened files name × ReportsText name unopened_text faults)
+    ⊎ ((IsUnread files name × ReportsText name unread_text faults) ⊎ Reports faults (halt_line Memory))
 
 abbrev pub ReadsFile : Files → List ℕ → Device → Result (List ℕ) ℕ → Type 0
 ReadsFile files name faults (Ok bytes) = HasBytes files name bytes × IsUntouched faults

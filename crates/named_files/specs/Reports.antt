@@ -1,11 +1,11 @@
 -- Reports, in words, of a fault of a named file.
 use Rattle.std.specs.Prelude.{ℕ, List, [], ◌∷◌, codes}
 use Rattle.devices.specs.Devices.{Device}
-use Rattle.devices.specs.Lines.{Tells}
+use Rattle.devices.specs.Lines.{ReportsAll}
 
 -- its name, then a text
-abbrev pub TellsOf : List ℕ → List ℕ → Device → Type 0
-TellsOf name text faults = Tells faults.before faults.after (name ∷ text ∷ [])
+abbrev pub ReportsText : List ℕ → List ℕ → Device → Type 0
+ReportsText name text faults = ReportsAll faults.before faults.after (name ∷ text ∷ [])
 
 abbrev pub unopened_text : List ℕ
 unopened_text = codes ": can't be opened\n"

@@ -12,7 +12,7 @@ use std::alloc::{AllocError, Global};
 
 // Reports why a file that was opened has no bytes, and returns the status.
 fn report_unread<E: Sink>(name: &str, halt: Halt, faults: &mut E) -> u8
-    ensures tells { spec.TellsUnread name.now halt (writes E.Sink faults.old faults.new) }
+    ensures reports_text { spec.ReportsUnreadFile name.now halt (writes E.Sink faults.old faults.new) }
     ensures status { result ≡ 3 }
 {
     match halt {

@@ -10,7 +10,7 @@ pub const TERMINAL: &str = "standard output is a terminal: name a file by -o FIL
 
 /// Reports the name of a file, and this text.
 pub fn report_of<E: Sink>(name: &str, text: &str, faults: &mut E)
-    ensures { spec.TellsOf name.now text.now (writes E.Sink faults.old faults.new) }
+    ensures { spec.ReportsText name.now text.now (writes E.Sink faults.old faults.new) }
 {
     report_text(faults, name);
     report_text(faults, text);

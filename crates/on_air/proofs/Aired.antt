@@ -1,4 +1,4 @@
--- What a record, and the end, leave of a run.
+-- The state of a run after a record, and after the end
 use Rattle.std.proofs.Common.{◌≡◌, ℕ, ◌+◌, max, Bool, true, false, List, [], Option, Some, None, Result, refl, sym, ap, ◌∙◌, subst}
 use Rattle.std.specs.Prelude.{IfErr, OnOk}
 use Rattle.packet_output.specs.declared.output.OutputFault.{OutputFault}
@@ -15,7 +15,7 @@ use Rattle.mux_core.specs.Headline.{Headline}
 use Rattle.mux_core.specs.Histories.{bytes_of, content_at, empty_history}
 use Rattle.mux_core.specs.MuxStates.{MuxState}
 use Rattle.mux_core.specs.WholeJobs.{job_history, run_output, output_of}
-use Rattle.mux_core.proofs.Accepted.{standing}
+use Rattle.mux_core.proofs.Accepted.{any_state}
 use Rattle.on_air.specs.declared.leap.Leap.{Leap}
 use Rattle.on_air.specs.declared.options.Terms.{Terms}
 use Rattle.on_air.specs.declared.refusals.AirRefusal.{AirRefusal}
@@ -26,21 +26,21 @@ use Rattle.on_air.specs.Leaps.{is_far, is_followed, leap_with, no_leap}
 use Rattle.on_air.specs.AirStates.{AirState, Carries, with_slots, WroteOn, Promises, Admits, IsOnAir, run_with}
 use Rattle.on_air.specs.Hearing.{Fails}
 
--- of units that a multiplexer stands for, the bytes of any number of slots keep every promise
+-- If a multiplexer carries these units, the bytes of any number of slots keep every promise.
 keeps : (run : Run) (units : List (ℕ × AccessUnit)) (n slots : ℕ) (m : MuxState) → Promises run.scheduled → Carries run (job_history units n) m →
     Headline run.scheduled (λ k. units_of k units) slots (bytes_of run.scheduled (job_history units slots))
 keeps run units n slots m promises c =
     subst (λ (d : Scheduled). Headline d (λ k. units_of k units) slots (run_bytes (content_at d (λ k. units_of k units)) 0 slots)) c.scheduled
-    (standing (job_history units n) m slots (subst (λ (d : Scheduled). IsInRange d.description) (sym c.scheduled) promises.ranges)
-    (subst (λ (d : Scheduled). Promised d.description d.schedule) (sym c.scheduled) promises.promised) c.stands)
+    (any_state (job_history units n) m slots (subst (λ (d : Scheduled). IsInRange d.description) (sym c.scheduled) promises.ranges)
+    (subst (λ (d : Scheduled). Promised d.description d.schedule) (sym c.scheduled) promises.promised) c.represents)
 
--- two states that differ in what a record moves alone
+-- Two states that differ only in the fields that a record may change
 pub record Moves (old new : AirState) : Type 0 where
   pub terms : new.terms ≡ old.terms
   pub rate : new.rate ≡ old.rate
   pub lead : new.lead ≡ old.lead
 
--- a record was refused
+-- The state after a record is refused
 refused_by : (run : Run) (a : Air) (entry : ℕ × AccessUnit) (cause : AirRefusal) (start now : Option (List ℕ)) (old new : AirState) →
     IsOnAir run a start now old → Moves old new →
     new.packets ≡ old.packets → new.greatest ≡ greatest_by a cause → new.leap ≡ leap_left run a entry cause → new.records ≡ old.records + 1 →
@@ -61,7 +61,7 @@ refused_by run a entry cause start now old new h moves packets greatest leap rec
   headline = h.headline;
 }
 
--- by the multiplexer
+-- The state after the multiplexer refuses a record
 pub refused_on : (run : Run) (a : Air) (entry : ℕ × AccessUnit) (cause : FeedError) (start now : Option (List ℕ)) (old new : AirState) →
     IsOnAir run a start now old → Moves old new →
     new.packets ≡ old.packets → new.greatest ≡ old.greatest → new.leap ≡ old.leap → new.records ≡ old.records + 1 →
@@ -74,7 +74,7 @@ refused_on run a entry cause start now old new h moves packets greatest leap rec
       (refused_by run a entry (Feed cause) start now old new h moves packets (greatest ∙ h.greatest) (leap ∙ h.leap) records admits.mux),
 )
 
--- for being ahead; the multiplexer is as it was
+-- A record that is too far ahead is refused as `Ahead`; the multiplexer does not change.
 not_followed : (run : Run) (a : Air) (entry : ℕ × AccessUnit) → is_far_from run a entry ≡ true → is_followed (leap_by run a entry) ≡ false →
     air_cause run a entry ≡ Some Ahead
 not_followed run a entry far few = rw (far, few) refl
@@ -93,7 +93,7 @@ passed_over run a entry start now old new h moves far few mux packets greatest l
           (subst (λ (m : MuxState). Carries run (job_of a) m) (sym mux) h.mux)),
     )
 
--- or as the last of a leap
+-- If the run follows a leap, its last record is refused as `Followed`.
 followed_cause : (run : Run) (a : Air) (entry : ℕ × AccessUnit) → is_far_from run a entry ≡ true → is_followed (leap_by run a entry) ≡ true →
     air_cause run a entry ≡ Some (Followed a.slots a.greatest entry.1.dts)
 followed_cause run a entry far many = rw (far, many) refl
@@ -108,16 +108,16 @@ pub passed_last : (run : Run) (a : Air) (entry : ℕ × AccessUnit) (packet from
     (air_cause run a entry ≡ Some (Followed packet from to)) × IsOnAir run (judged run a entry) start now new
 unfolding greatest_by leap_left
 passed_last run a entry packet from to start now old new h moves far many p f t mux packets greatest leap records =
-    let told : Followed packet from to ≡ Followed a.slots a.greatest entry.1.dts =
+    let reported : Followed packet from to ≡ Followed a.slots a.greatest entry.1.dts =
     followed_same packet a.slots from a.greatest to entry.1.dts p (f ∙ h.greatest) t in
-    let cause : air_cause run a entry ≡ Some (Followed packet from to) = followed_cause run a entry far many ∙ ap Some (sym told) in (
+    let cause : air_cause run a entry ≡ Some (Followed packet from to) = followed_cause run a entry far many ∙ ap Some (sym reported) in (
       cause,
       subst (λ (o : Option AirRefusal). IsOnAir run (judged_by run a entry o) start now new) (sym cause)
           (refused_by run a entry (Followed packet from to) start now old new h moves packets greatest leap records
           (subst (λ (m : MuxState). Carries run (job_of a) m) (sym mux) h.mux)),
     )
 
--- a record was taken, and no slot that it settles is written yet
+-- The run after a record is accepted, before the slots that the record settles are written
 pub admitted : Air → ℕ × AccessUnit → Air
 admitted a entry = record {
   accepted = accepted_by a entry None;
@@ -149,7 +149,7 @@ admitted_on run a entry start now old new h moves packets greatest leap records 
   headline = keeps run (accepted_by a entry None) a.slots a.slots new.mux h.promises admits.mux;
 }
 
--- then these slots were written
+-- The state after the settled slots are written
 pub taken_on : (run : Run) (a : Air) (entry : ℕ × AccessUnit) (due : ℕ) (start later : Option (List ℕ)) (m : MuxState) (new : AirState) →
     Admits run a entry None m → due ≡ entry.1.dts →
     IsOnAir run (with_count (admitted a entry) (on_to (admitted a entry).slots (settled_at run due))) start later new →
@@ -161,7 +161,7 @@ taken_on run a entry due start later m new admits is on = (
       (subst (λ (n : ℕ). IsOnAir run (with_count (admitted a entry) (on_to (admitted a entry).slots (settled_at run n))) start later new) is on),
 )
 
--- or the writer failed
+-- The writer fails while the settled slots are written.
 pub fails_on : (run : Run) (a : Air) (entry : ℕ × AccessUnit) (due sent : ℕ) (start later : Option (List ℕ)) (m : MuxState) → Admits run a entry None m →
     due ≡ entry.1.dts →
     Fails run (with_count (admitted a entry) (on_to (admitted a entry).slots (settled_at run due))) start later sent →
@@ -173,7 +173,7 @@ fails_on run a entry due sent start later m admits is fails = (
       (subst (λ (n : ℕ). Fails run (with_count (admitted a entry) (on_to (admitted a entry).slots (settled_at run n))) start later sent) is fails),
 )
 
--- what waited was written
+-- The state after buffered packets are written
 pub flushed : (run : Run) (a : Air) (start now later : Option (List ℕ)) (old new : AirState) → IsOnAir run a start now old → Moves old new → new.mux ≡ old.mux →
     new.packets.hex ≡ old.packets.hex → new.greatest ≡ old.greatest → new.leap ≡ old.leap → new.records ≡ old.records →
     IsOutput start later new.packets (air_output run a) → IsOnAir run a start later new
@@ -195,7 +195,7 @@ pub not_flushed : (run : Run) (a : Air) (start now later : Option (List ℕ)) (s
     Took start later sent (air_output run a) → Fails run a start later sent
 not_flushed run a start now later sent old h took = record { took = took; headline = h.headline }
 
--- ---- the end
+-- ---- The end
 
 pub end_output : (run : Run) (a : Air) (start now : Option (List ℕ)) (old : AirState) (packets : Buffered) → IsOnAir run a start now old →
     packets ≡ old.packets →
@@ -204,7 +204,7 @@ end_output run a start now old packets h same =
     subst (λ (p : Buffered). IsOutput start now p (output_of p.hex run.scheduled (job_of a))) (sym same)
     (subst (λ (b : Bool). IsOutput start now old.packets (output_of b run.scheduled (job_of a))) (sym h.hex) h.output)
 
--- slots were written until `target` are
+-- The state after all slots before `target` are written
 pub counted_on : (run : Run) (a : Air) (target : ℕ) (hex : Bool) (start now later : Option (List ℕ)) (old new : AirState) → IsOnAir run a start now old →
     Moves old new →
     hex ≡ old.packets.hex → new.greatest ≡ old.greatest → new.leap ≡ old.leap → new.records ≡ old.records →
@@ -233,7 +233,7 @@ count_fails run a target sent hex start now later old h like took = record {
   headline = keeps run a.accepted a.slots (on_to a.slots target) old.mux h.promises h.mux;
 }
 
--- the same by the number of slots that was asked for
+-- The same by the number of slots that the caller asked for
 pub counted_same : (run : Run) (a : Air) (target wanted : ℕ) (start later : Option (List ℕ)) (new : AirState) → target ≡ wanted →
     IsOnAir run (with_count a (on_to a.slots target)) start later new →
     IsOnAir run (with_count a (on_to a.slots wanted)) start later new
@@ -244,7 +244,7 @@ pub fails_same : (run : Run) (a : Air) (target wanted sent : ℕ) (start later :
     Fails run (with_count a (on_to a.slots wanted)) start later sent
 fails_same run a target wanted sent start later is fails = subst (λ (n : ℕ). Fails run (with_count a (on_to a.slots n)) start later sent) is fails
 
--- the slots up to a record were written, if the run follows it
+-- If the run follows a record, the slots up to it are written.
 pub followed_on : {V : Type 0} (run : Run) (a : Air) (refusal : AirRefusal) (packet from to : ℕ) (start later : Option (List ℕ)) (new : AirState)
     (result : Result V OutputFault) →
     refusal ≡ Followed packet from to → OnOk result (IsOnAir run (with_count a (on_to a.slots (settled_at run to))) start later new) →
@@ -272,7 +272,7 @@ pub stays_fed : (run : Run) (a : Air) (refusal : AirRefusal) (cause : FeedError)
 unfolding slots_followed
 stays_fed run a refusal cause start now s is on = subst (λ (r : AirRefusal). IsOnAir run (caught_up run a (Some r)) start now s) (sym is) on
 
--- ---- what the calls count by
+-- ---- The numbers that the calls count with
 
 pub last_same : (run : Run) (a : Air) (start now : Option (List ℕ)) (old : AirState) (rate greatest : ℕ) (terms : Terms) → IsOnAir run a start now old →
     rate ≡ old.rate → terms ≡ old.terms → greatest ≡ old.greatest → last_of rate terms greatest ≡ last_at run a.greatest
@@ -288,7 +288,7 @@ settled_same run a start now old rate lead limit due dts terms h r l t m e =
     ∙ ap (λ (n : ℕ). settled run.scheduled.description.rate (lead_of run) n due) (m ∙ ap (λ (x : Terms). limit_of x) (t ∙ h.terms))
     ∙ ap (λ (n : ℕ). settled run.scheduled.description.rate (lead_of run) (limit_of run.terms) n) e
 
--- whether a record is too far ahead, and the records that leap with it
+-- Whether a record is too far ahead, and the records that leap with it
 pub far_same : (run : Run) (a : Air) (entry : ℕ × AccessUnit) (start now : Option (List ℕ)) (old : AirState) (ahead greatest due : ℕ) →
     IsOnAir run a start now old → ahead ≡ old.terms.ahead → greatest ≡ old.greatest → due ≡ entry.1.dts → is_far ahead greatest due ≡ is_far_from run a entry
 far_same run a entry start now old ahead greatest due h s g d =
@@ -303,7 +303,7 @@ leap_same run a entry start now old before ahead due h s b d =
     ap (λ (n : ℕ). leap_with n before due) terms ∙ ap (λ (l : Leap). leap_with run.terms.ahead l due) (b ∙ h.leap)
     ∙ ap (λ (n : ℕ). leap_with run.terms.ahead a.leap n) d
 
--- before the first record
+-- The state before the first record
 pub begins : (d : Scheduled) (terms : Terms) (hex : Bool) (start : Option (List ℕ)) (s : AirState) → Carries (run_with d terms hex) empty_history s.mux →
     Promises d →
     waiting_of s.packets ≡ [] → s.packets.sent ≡ 0 → s.packets.hex ≡ hex → s.terms ≡ terms → s.rate ≡ d.description.rate →

@@ -1,4 +1,4 @@
--- Units none of which is refused are aired as a whole job of them is multiplexed.
+-- Units without any refusal are aired exactly as a whole job of them is multiplexed.
 use Rattle.std.proofs.Common.{◌≡◌, ℕ, zero, suc, ◌-◌, ◌*◌, ◌≤◌, ◌==◌, ◌&&◌, min, max, Bool, true, false, List, [], ◌∷◌, ◌++◌, length, Option, Some, None}
 use Rattle.std.proofs.Common.{Result, Ok, Err, refl, sym, ap, ◌∙◌, arith, inl, inr, append_assoc, append-nil}
 use Rattle.std.specs.Prelude.{slice_get}
@@ -25,9 +25,9 @@ use Rattle.on_air.specs.Airing.{Run, Air, silence, lead_of, settled_at, limit_of
 use Rattle.on_air.specs.Airing.{judged_by, slots_followed, with_record, heard, ended}
 use Rattle.on_air.specs.Laws.{with_entry, records_of, greatest_of, AiredAsMultiplexed}
 
--- ---- slots of releases
+-- ---- Slots of releases
 
--- a slot before the next one begins later
+-- A release slot begins no earlier than the release time.
 pub release_begins : (rate lead due : ℕ) → (due - lead) * rate ≤ release rate lead due * 135360000
 release_begins rate lead due = omega arith
 
@@ -42,7 +42,7 @@ release_zero rate lead =
     let none : release rate 0 0 ≡ 0 = omega arith in
     omega (arith, rises, none)
 
--- ---- the job, unit by unit
+-- ---- The job, unit by unit
 
 pub no_cause : (cause : Option FeedError) (index : ℕ) (next : Option MuxError) → or_cause (unit_refused index cause) next ≡ None →
     (cause ≡ None) × (next ≡ None)
@@ -77,7 +77,7 @@ first_taken d other fed (entry ∷ units) more none =
     both_none (cause_after d other fed entry) (length fed) (first_refused d other (fed ++ (entry ∷ [])) units) one.0
     (first_taken d other (fed ++ (entry ∷ [])) units more one.1)
 
--- the stream of a unit that is accepted
+-- The stream of an accepted unit
 pub record StreamOf (d : Scheduled) (other : ℕ) (units : List (ℕ × AccessUnit)) (entry : ℕ × AccessUnit) (o : Option DescribedStream) : Type 0 where
   pub stream : DescribedStream
   pub is : o ≡ Some stream
@@ -89,7 +89,7 @@ unfolding feed_cause
 stream_of d other units entry None none = absurd (let no : ⊥ = cc in no)
 stream_of d other units entry (Some s) none = record { stream = s; is = refl; cause = none }
 
--- ---- ticks
+-- ---- Ticks
 
 and_false : (b : Bool) → (b && false) ≡ false
 and_false true = refl
@@ -99,7 +99,7 @@ pub no_tick : (entry : ℕ × AccessUnit) → 1 ≤ length entry.1.bytes → is_
 no_tick entry some = ap (λ (b : Bool). (entry.0 == 255) && b) (ne_eqb (length entry.1.bytes) 0 (λ e. absurd (omega (arith, e, some))))
     ∙ and_false (entry.0 == 255)
 
--- ---- the greatest DTS so far
+-- ---- The greatest DTS so far
 
 pub more_settled : (run : Run) (g due : ℕ) → on_to (settled_at run g) (settled_at run due) ≡ settled_at run (max g due)
 more_settled run g due = elim (cases_lt g due) [
@@ -116,9 +116,9 @@ more_settled run g due = elim (cases_lt g due) [
 pub greatest_more : (units : List (ℕ × AccessUnit)) (entry : ℕ × AccessUnit) → greatest_of (units ++ (entry ∷ [])) ≡ max (greatest_of units) entry.1.dts
 greatest_more units entry = fold-append (λ greatest e. max greatest e.1.dts) 0 units (entry ∷ [])
 
--- ---- units of which none was refused
+-- ---- Units without any refusal
 
--- these units were taken, and the slots that they settle written
+-- All these units were accepted, and the slots that they settle are written.
 pub record Taken (run : Run) (a : Air) (units : List (ℕ × AccessUnit)) : Type 0 where
   pub accepted : a.accepted ≡ units
   pub greatest : a.greatest ≡ greatest_of units
@@ -143,7 +143,7 @@ taken_more run a units entry so tick = record {
       ∙ ap (λ (g : ℕ). settled_at run g) (sym (greatest_more units entry));
 }
 
--- a unit that is multiplexed has bytes, and so it is no tick
+-- A unit that is multiplexed has bytes, so it is no tick.
 pub some_bytes : (d : Scheduled) (other : ℕ) (units : List (ℕ × AccessUnit)) (entry : ℕ × AccessUnit) → cause_after d other units entry ≡ None →
     is_tick entry ≡ false
 some_bytes d other units entry none =
@@ -155,7 +155,7 @@ not_empty : {V : Type 0} (xs : List V) (x : V) → xs ++ (x ∷ []) ≡ [] → �
 not_empty [] x e = cc
 not_empty (y ∷ xs) x e = cc
 
--- a refusal stays
+-- A refusal remains in the list of refusals.
 taken_by : (run : Run) (a : Air) (units : List (ℕ × AccessUnit)) (entry : ℕ × AccessUnit) (cause : Option AirRefusal) → (a.refused ≡ [] → Taken run a units) →
     is_tick entry ≡ false → (judged_by run a entry cause).refused ≡ [] → Taken run (caught_up run (judged_by run a entry cause) cause) (units ++ (entry ∷ []))
 unfolding judged_by
@@ -180,7 +180,7 @@ all_taken run other zero xs job none = none_taken run
 all_taken run other (suc n) xs job none =
     taken_with run (heard run n xs) other (records_of n xs) (record_at (after_records n xs)) (all_taken run other n xs) job none
 
--- ---- the output
+-- ---- The output
 
 no_later : (run : Run) (g limit : ℕ) (slots : Option ℕ) →
     min (release run.scheduled.description.rate (lead_of run) g) limit ≤ last_by run.scheduled.description.rate limit g slots

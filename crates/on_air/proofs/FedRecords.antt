@@ -1,4 +1,4 @@
--- A record judged, and its unit fed.
+-- A record is judged, and its unit is fed.
 use Rattle.std.proofs.Common.{◌≡◌, ℕ, zero, suc, Bool, true, false, List, [], ◌∷◌, ◌++◌, length, take, drop, Option, Some, None, refl, sym, ap, ◌∙◌, subst}
 use Rattle.std.specs.Prelude.{slice_get, option_map}
 use Rattle.std.proofs.lemmas.List.{take_at, drop_at}
@@ -11,7 +11,7 @@ use Rattle.unit_queue.specs.declared.refusal.FeedError.{FeedError}
 use Rattle.packet_output.specs.Formats.{formatted}
 use Rattle.mux_core.specs.Scheduled.{Scheduled}
 use Rattle.mux_core.specs.Histories.{History, content_at, with_unit}
-use Rattle.mux_core.specs.MuxStates.{MuxState, Stands, Takes, feed_cause, refusal_of}
+use Rattle.mux_core.specs.MuxStates.{MuxState, Represents, Takes, feed_cause, refusal_of}
 use Rattle.mux_core.specs.WholeJobs.{job_history, run_output, output_of}
 use Rattle.mux_core.proofs.Accepted.{units_kept}
 use Rattle.mux_core.proofs.JobFeeding.{history_more}
@@ -20,8 +20,8 @@ use Rattle.on_air.specs.declared.refusals.AirRefusal.TheVariants.{Feed}
 use Rattle.on_air.specs.Airing.{Run, Air, job_of, is_tick, is_far_from, unit_refusal, air_cause, accepted_by}
 use Rattle.on_air.specs.AirStates.{Carries, Promises, Admits}
 
--- the same bytes are the same output
-same_output : (hex : Bool) (f g : ℕ → Content) (s n : ℕ) → Fits f → Fits g → run_bytes f s n ≡ run_bytes g s n → run_output hex f s n ≡ run_output hex g s n
+-- Contents with the same bytes have the same output.
+pub same_output : (hex : Bool) (f g : ℕ → Content) (s n : ℕ) → Fits f → Fits g → run_bytes f s n ≡ run_bytes g s n → run_output hex f s n ≡ run_output hex g s n
 unfolding run_output run_bytes
 same_output hex f g s zero ff gg e = refl
 same_output hex f g s (suc n) ff gg e =
@@ -34,27 +34,27 @@ same_output hex f g s (suc n) ff gg e =
     ap (λ (l : List ℕ). formatted hex l ++ run_output hex f (suc s) n) heads
     ∙ ap (λ (l : List ℕ). formatted hex (packet_of (g s)) ++ l) (same_output hex f g (suc s) n ff gg tails)
 
-fits_of : (h : History) (m : MuxState) (d : Scheduled) → m.schedule ≡ d → IsInRange d.description → Stands h m → Fits (content_at d h.units)
+fits_of : (h : History) (m : MuxState) (d : Scheduled) → m.schedule ≡ d → IsInRange d.description → Represents h m → Fits (content_at d h.units)
 fits_of h m d same ranges st =
     let there = subst (λ (x : Scheduled). IsInRange x.description) (sym same) ranges in
     subst (λ (x : Scheduled). Fits (content_at x h.units)) same (contents_fit m.schedule h.units there (units_kept h m there st))
 
--- what was written stays
+-- A further unit does not change the output that is already written.
 written_stays : (run : Run) (h : History) (old new : MuxState) (k : ℕ) (u : AccessUnit) → Carries run h old → Promises run.scheduled →
     Takes h old k u None new →
     output_of run.hex run.scheduled (with_unit h k u) ≡ output_of run.hex run.scheduled h
 written_stays run h old new k u c promises takes =
     same_output run.hex _ _ 0 h.slots
-    (fits_of (with_unit h k u) new run.scheduled (takes.same_schedule ∙ c.scheduled) promises.ranges (takes.stands refl))
-    (fits_of h old run.scheduled c.scheduled promises.ranges c.stands)
+    (fits_of (with_unit h k u) new run.scheduled (takes.same_schedule ∙ c.scheduled) promises.ranges (takes.represents refl))
+    (fits_of h old run.scheduled c.scheduled promises.ranges c.represents)
     (subst (λ (d : Scheduled). run_bytes (content_at d (with_unit h k u).units) 0 h.slots ≡ run_bytes (content_at d h.units) 0 h.slots) c.scheduled
     (takes.before refl))
 
--- a unit more of its stream
-joined : (a : Air) (entry : ℕ × AccessUnit) → with_unit (job_of a) entry.0 entry.1 ≡ job_history (a.accepted ++ (entry ∷ [])) a.slots
+-- The job with one more unit of a stream
+pub joined : (a : Air) (entry : ℕ × AccessUnit) → with_unit (job_of a) entry.0 entry.1 ≡ job_history (a.accepted ++ (entry ∷ [])) a.slots
 joined a entry = ap (λ (h : History). record { units = h.units; slots = a.slots }) (history_more a.accepted entry)
 
--- ---- the causes
+-- ---- The causes of refusal
 
 cause_is : (run : Run) (a : Air) (old : MuxState) (entry : ℕ × AccessUnit) → Carries run (job_of a) old →
     refusal_of old (job_of a) entry.0 entry.1 ≡ unit_refusal run a entry
@@ -66,7 +66,7 @@ fed_cause : (run : Run) (a : Air) (entry : ℕ × AccessUnit) (refused : Option 
     refused ≡ unit_refusal run a entry → option_map Feed refused ≡ air_cause run a entry
 fed_cause run a entry refused near unit is = rw (near, unit) (ap (option_map Feed) is)
 
--- ---- what a call leaves
+-- ---- The state after a call
 
 pub ticked : (run : Run) (a : Air) (m : MuxState) (entry : ℕ × AccessUnit) → Carries run (job_of a) m → is_far_from run a entry ≡ false → is_tick entry ≡ true →
     Admits run a entry None m
@@ -90,7 +90,7 @@ unfolding accepted_by
 fed run a old new entry c promises near unit takes = record {
   cause = fed_cause run a entry None near unit (takes.first ∙ cause_is run a old entry c);
   mux = rw unit (record {
-    stands = subst (λ (h : History). Stands h new) (joined a entry) (takes.stands refl);
+    represents = subst (λ (h : History). Represents h new) (joined a entry) (takes.represents refl);
     scheduled = takes.same_schedule ∙ c.scheduled;
     capacity = takes.same_capacity ∙ c.capacity;
   });

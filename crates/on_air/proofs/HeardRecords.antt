@@ -1,7 +1,7 @@
--- What one record after another leaves of a run and of its input.
+-- The state of a run and of its input after several records
 use Rattle.std.proofs.Common.{◌≡◌, ◌<◌, ℕ, suc, List, [], ◌∷◌, ◌++◌, Option, Some, None, Result, Ok, Err, refl, sym, ap, ◌∙◌, subst, below_more, arith}
 use Rattle.pes_packet.specs.AccessUnits.{AccessUnit}
-use Rattle.unit_records.specs.Records.{record_at}
+use Rattle.unit_records.specs.Records.{after_record, record_at}
 use Rattle.unit_records.specs.declared.reading.UnitFileError.{UnitFileError}
 use Rattle.carry.specs.RecordRuns.{after_records}
 use Rattle.on_air.specs.declared.refusals.AirRefusal.{AirRefusal}
@@ -11,33 +11,51 @@ use Rattle.on_air.specs.declared.answers.Heard.TheVariants.{Taken, Refused, Ende
 use Rattle.on_air.specs.declared.answers.Ending.{Ending}
 use Rattle.on_air.specs.Airing.{Run, Air, air_cause, aired, caught_up, judged, judged_by, slots_followed, with_record, heard, limit_of}
 use Rattle.on_air.specs.AirStates.{AirState, IsOnAir}
-use Rattle.on_air.specs.Hearing.{HearsRecord, Hears, HasHeard, HasSlotsLeft, HearsOn, NamesDevice}
+use Rattle.on_air.specs.Hearing.{HearsRecord, Hears, HasHeard, HasSlotsLeft, HeardFrom, HearsOn, NamesDevice}
 
 with_one : (run : Run) (a : Air) (found : Result (Option (ℕ × AccessUnit)) UnitFileError) (entry : ℕ × AccessUnit) → found ≡ Ok (Some entry) →
     aired run a entry ≡ with_record run found a
 unfolding with_record
 with_one run a found entry is = rw is refl
 
--- slots were left before each of n records, and before the next
+-- If slots were left before each of n records and before the next record, slots were left before each of n + 1 records.
 slots_more : (run : Run) (n : ℕ) (a : Air) (xs : List ℕ) → a ≡ heard run n xs → a.slots < limit_of run.terms → HasSlotsLeft run n xs →
     HasSlotsLeft run (suc n) xs
 slots_more run n a xs is left before m less =
     below_more (λ i. (heard run i xs).slots < limit_of run.terms) n before (subst (λ (b : Air). b.slots < limit_of run.terms) is left) m (omega (arith, less))
 
--- one record more
+-- One more record of some bytes is read.
+one_from : (run : Run) (n : ℕ) (a : Air) (old rest : List ℕ) (entry : ℕ × AccessUnit) → HeardFrom run n a old → record_at old ≡ Ok (Some entry) →
+    after_record old ≡ rest → a.slots < limit_of run.terms →
+    HeardFrom run (suc n) (aired run a entry) rest
+unfolding heard after_records
+one_from run n a old rest entry h read left slots =
+    let here : record_at (after_records n h.bytes) ≡ Ok (Some entry) = ap record_at (sym h.rest_is) ∙ read in
+    record {
+      bytes = h.bytes;
+      led = with_one run a (record_at (after_records n h.bytes)) entry here ∙ ap (with_record run (record_at (after_records n h.bytes))) h.led;
+      rest_is = sym left ∙ ap (λ (xs : List ℕ). after_record xs) h.rest_is;
+      slots_left = slots_more run n a h.bytes h.led slots h.slots_left;
+    }
+
+-- One more record is read.
 pub one_more : (run : Run) (n : ℕ) (a : Air) (origin old left : Option (List ℕ)) (refused : Option AirRefusal) (h : HearsRecord run a old left refused) →
     HasHeard run n a origin old →
     HasHeard run (suc n) (aired run a h.entry) origin left
 unfolding heard after_records
-one_more run n a origin old left refused h has xs is =
-    let before = has xs is in
-    let read = h.known (after_records n xs) before.1 in (
-      with_one run a (record_at (after_records n xs)) h.entry read.0 ∙ ap (with_record run (record_at (after_records n xs))) before.0,
-      read.1,
-      slots_more run n a xs before.0 h.slots_left before.2,
-    )
+one_more run n a origin old left refused h has = record {
+  known = λ xs is.
+      let before = has.known xs is in
+      let read = h.known (after_records n xs) before.1 in (
+        with_one run a (record_at (after_records n xs)) h.entry read.0 ∙ ap (with_record run (record_at (after_records n xs))) before.0,
+        read.1,
+        slots_more run n a xs before.0 h.slots_left before.2,
+      );
+  some = λ rest. one_from run n a (h.bytes ++ rest) rest h.entry (has.some (h.bytes ++ rest)) (h.is_record.record_is rest) (h.is_record.rest_is rest)
+      h.slots_left;
+}
 
--- what is left once the slots up to a record that the run follows are written; a record that is taken is not followed
+-- The run after a record is the judged run, with the slots written up to the record if the run follows it. The run follows no accepted record.
 pub aired_as : (run : Run) (a : Air) (entry : ℕ × AccessUnit) (refused : Option AirRefusal) → air_cause run a entry ≡ refused →
     aired run a entry ≡ caught_up run (judged run a entry) refused
 aired_as run a entry refused is = ap (λ (o : Option AirRefusal). caught_up run (judged run a entry) o) is
@@ -46,7 +64,7 @@ pub aired_taken : (run : Run) (a : Air) (entry : ℕ × AccessUnit) → air_caus
 unfolding slots_followed
 aired_taken run a entry none = aired_as run a entry None none
 
--- a record that is taken adds no refusal, and one that is refused its own
+-- An accepted record adds no refusal; a refused record adds its own.
 pub taken_adds : (run : Run) (a : Air) (entry : ℕ × AccessUnit) (refused : Option AirRefusal) → refused ≡ None →
     (judged_by run a entry refused).refused ≡ a.refused
 unfolding judged_by
@@ -57,7 +75,7 @@ pub refused_adds : (run : Run) (a : Air) (entry : ℕ × AccessUnit) (refused : 
 unfolding judged_by
 refused_adds run a entry refused cause some = rw some refl
 
--- further records were taken
+-- The state after further records are accepted
 pub record Midway (run : Run) (a : Air) (origin start left now : Option (List ℕ)) (s : AirState) : Type 0 where
   pub so_far : Air
   pub count : ℕ
@@ -117,7 +135,7 @@ next_failed run a origin start mid left now later s new fault w (h, fails) = (
   fails,
 )
 
--- no device failed before the last record
+-- No device failed before the last record.
 pub names_same : (result : Result Heard OutputFault) (r0 rm r1 w0 wm w1 : ℕ) → rm ≡ r0 → wm ≡ w0 → NamesDevice result rm r1 wm w1 →
     NamesDevice result r0 r1 w0 w1
 names_same result r0 rm r1 w0 wm w1 r w n = subst (λ (x : ℕ). NamesDevice result x r1 w0 w1) r (subst (λ (x : ℕ). NamesDevice result rm r1 x w1) w n)

@@ -1,4 +1,4 @@
--- Units in order are all accepted, with ticks among them.
+-- Units in order, with ticks among them, are all accepted.
 use Rattle.std.proofs.Common.{◌≡◌, ℕ, zero, suc, ◌+◌, ◌-◌, ◌*◌, ◌<◌, ◌≤◌, ◌==◌, min, max, Bool, true, false, List, [], ◌∷◌, ◌++◌, length, map, Option, Some}
 use Rattle.std.proofs.Common.{None, Result, Ok, Err, refl, sym, ap, ◌∙◌, subst, arith, All, inl, inr, append_assoc, append-nil}
 use Rattle.std.specs.Prelude.{slice_get, fold, not}
@@ -39,9 +39,9 @@ use Rattle.on_air.proofs.InTime.{taken_in_time}
 use Rattle.on_air.proofs.Room.{waiting_few}
 use Rattle.on_air.proofs.AsMultiplexed.{first_taken, greatest_more, last_taken, more_settled, none_taken, release_begins, release_rises, stream_of}
 
--- ---- each stream's units
+-- ---- The units of each stream
 
--- each stream's units are within its declaration
+-- The units of each stream are within its declaration.
 abbrev pub AllKept : Scheduled → List (ℕ × AccessUnit) → Type 0
 AllKept d units = (k : ℕ) (s : DescribedStream) → slice_get d.description.streams k ≡ Some s → Kept (owned_stream d k s) (units_of k units)
 
@@ -72,7 +72,7 @@ kept_more d slots other units entry ranges none kept k s is = elim (cases_eq ent
       subst (λ (l : List AccessUnit). Kept (owned_stream d k s) l) (sym same) (kept k s is)
 ]
 
--- ---- greatest and least
+-- ---- Greatest and least DTS
 
 none_after : (g : ℕ) (units : List (ℕ × AccessUnit)) →
     (g ≤ fold (λ greatest entry. max greatest entry.1.dts) g units) × All (λ e. e.1.dts ≤ fold (λ greatest entry. max greatest entry.1.dts) g units) units
@@ -115,7 +115,7 @@ units_within : (k x : ℕ) (units : List (ℕ × AccessUnit)) → All (λ e. e.1
 units_within k x units all =
     All-map (λ u. u.dts ≤ x) (λ (e : ℕ × AccessUnit). e.1) (filter (λ e. e.0 == k) units) (All-filter (λ e. e.0 == k) (λ e. e.1.dts ≤ x) units all)
 
--- ---- the room
+-- ---- Room
 
 few_enough : (n interval least lead capacity : ℕ) → 1 ≤ least → least ≤ interval → n * interval < lead + interval → div_ceil lead least + 1 ≤ capacity →
     n < capacity
@@ -128,7 +128,7 @@ few_enough (suc n) interval least lead capacity some le below room =
       | inr over ↦ absurd (omega (arith, wide, below, bounds.0, mul-le-mul_right least over))
     ]
 
--- the slots that the greatest DTS settles are written
+-- If the slots settled by the greatest DTS are written, the stream has room for a unit.
 pub has_room : (run : Run) (k slots last : ℕ) (units : List (ℕ × AccessUnit)) (s : DescribedStream) → Promises run.scheduled →
     needed_room (lead_of run) run.scheduled.description.streams ≤ run.capacity → slice_get run.scheduled.description.streams k ≡ Some s →
     AllKept run.scheduled units →
@@ -152,7 +152,7 @@ has_room run k slots last units s promises room is kept written within =
     (few_enough (length (left_before l slots us).units) s.interval (max (least_interval d.description.streams) 1) (lead_of run) run.capacity
     (omega arith) (omega (arith, least, range.some_interval)) few room)
 
--- ---- one record
+-- ---- One record
 
 with_tick : (records : List (ℕ × AccessUnit)) (entry : ℕ × AccessUnit) → is_tick entry ≡ true → without_ticks (records ++ (entry ∷ [])) ≡ without_ticks records
 with_tick records entry tick =
@@ -166,7 +166,7 @@ with_unit records entry tick =
     let one : without_ticks (entry ∷ []) ≡ entry ∷ [] = rw tick refl in
     filter-append (λ e. not (is_tick e)) records (entry ∷ []) ∙ ap (λ (l : List (ℕ × AccessUnit)). without_ticks records ++ l) one
 
--- these records were heard, none was refused, and the slots that they settle are written
+-- These records were read without a refusal, and the slots that they settle are written.
 record SoFar (run : Run) (a : Air) (records : List (ℕ × AccessUnit)) : Type 0 where
   accepted : a.accepted ≡ without_ticks records
   greatest : a.greatest ≡ greatest_of records
@@ -187,7 +187,7 @@ taken_stream : (d : Scheduled) (capacity slots : ℕ) (units : List (ℕ × Acce
 unfolding feed_cause
 taken_stream d capacity slots units entry s none = none
 
--- a unit is not refused
+-- The next unit in order is not refused.
 none_refused : (run : Run) (a : Air) (other : ℕ) (records : List (ℕ × AccessUnit)) (entry : ℕ × AccessUnit) → SoFar run a records →
     IsJobInOrder run other (records ++ (entry ∷ [])) →
     is_tick entry ≡ false →
@@ -214,7 +214,7 @@ none_refused run a other records entry so job tick last =
     ∙ ap (λ (o : Option DescribedStream). feed_cause run.scheduled run.capacity (job_history units a.slots) entry.0 entry.1 o) found.is ∙ none in
     rw (near, tick, unit) refl
 
--- the slots that a record settles beside those before it
+-- The slots that a record settles, added to the slots of earlier records
 more_slots : (run : Run) (a : Air) (records : List (ℕ × AccessUnit)) (entry : ℕ × AccessUnit) → SoFar run a records →
     on_to a.slots (settled_at run entry.1.dts) ≡ settled_at run (greatest_of (records ++ (entry ∷ [])))
 more_slots run a records entry so =
@@ -259,7 +259,7 @@ so_far_more : (run : Run) (a : Air) (other : ℕ) (records : List (ℕ × Access
 so_far_more run a other records entry true so job is = so_far_tick run a other records entry so job is
 so_far_more run a other records entry false so job is = so_far_unit run a other records entry so job is
 
--- ---- all records
+-- ---- All records
 
 shorter : (run : Run) (other : ℕ) (records : List (ℕ × AccessUnit)) (entry : ℕ × AccessUnit) → IsJobInOrder run other (records ++ (entry ∷ [])) →
     IsJobInOrder run other records

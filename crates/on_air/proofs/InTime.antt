@@ -1,4 +1,4 @@
--- A unit that comes in time.
+-- A unit that arrives in time
 use Rattle.std.proofs.Common.{◌≡◌, nat_lt, false, Bool, map, Option, None, refl, sym, ap, ◌∙◌}
 use Rattle.std.proofs.lemmas.Bool.{le-ltb}
 use Rattle.clock27.specs.Release.{release}

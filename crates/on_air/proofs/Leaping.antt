@@ -1,4 +1,4 @@
--- Records that leap are followed by the eighth at the latest.
+-- The run follows records that leap, by the eighth record at the latest.
 use Rattle.std.proofs.Common.{◌≡◌, ℕ, ◌+◌, ◌-◌, ◌<◌, ◌≤◌, Bool, true, false, List, [], ◌∷◌, length, Option, Some, None, refl, ap, ◌∙◌, cond, arith, inl, inr}
 use Rattle.std.specs.Prelude.{nat_le, nat_lt, option_map}
 use Rattle.std.proofs.lemmas.Bool.{and_parts, cases_Bool, leb-false, leb-true, ltb-true, lt-ltb}
@@ -12,9 +12,9 @@ use Rattle.on_air.specs.Airing.{Run, Air, is_tick, is_far_from, leap_by, leap_le
 use Rattle.on_air.specs.Airing.{settled_at, slots_followed}
 use Rattle.on_air.specs.Laws.{NearEach, AllFar, LeapFollowed, LeapMovesOn}
 
--- ---- one record that lies too far ahead
+-- ---- One record that is too far ahead
 
--- too few records leap with it: they are counted
+-- If too few records leap with the record, the run counts it.
 counted : (run : Run) (a : Air) (entry : ℕ × AccessUnit) → is_far_from run a entry ≡ true → is_followed (leap_by run a entry) ≡ false →
     (aired run a entry).leap ≡ leap_by run a entry
 unfolding judged_by leap_left
@@ -22,7 +22,7 @@ counted run a entry far few =
     let cause : air_cause run a entry ≡ Some Ahead = rw (far, few) refl in
     ap (λ (o : Option AirRefusal). (caught_up run (judged_by run a entry o) o).leap) cause
 
--- enough records leap with it: the run follows them
+-- If enough records leap with the record, the run follows them.
 followed : (run : Run) (a : Air) (entry : ℕ × AccessUnit) → is_far_from run a entry ≡ true → is_followed (leap_by run a entry) ≡ true →
     (aired run a entry).greatest ≡ entry.1.dts
 unfolding judged_by greatest_by
@@ -30,12 +30,12 @@ followed run a entry far many =
     let cause : air_cause run a entry ≡ Some (Followed a.slots a.greatest entry.1.dts) = rw (far, many) refl in
     ap (λ (o : Option AirRefusal). (caught_up run (judged_by run a entry o) o).greatest) cause
 
--- the records of a leap that goes on with one that is near
+-- A near record adds 1 to the records of a leap.
 one_more : (ahead due : ℕ) (leap : Leap) → leap.records < leap_records → is_near ahead leap.due due ≡ true → (leap_with ahead leap due).records ≡ leap.records
     + 1
 one_more ahead due leap few near = rw (near, lt-ltb leap.records leap_records few) refl
 
--- a leap that began has a record
+-- A leap has at least one record.
 some_records : (ahead due : ℕ) (leap : Leap) (near more : Bool) → is_near ahead leap.due due ≡ near → nat_lt leap.records leap_records ≡ more →
     1 ≤ (leap_with ahead leap due).records
 some_records ahead due leap false more near is = rw near (omega arith)
@@ -45,9 +45,9 @@ some_records ahead due leap true false near is = rw (near, is) (omega arith)
 not_many : (leap : Leap) → is_followed leap ≡ false → leap.records < leap_records
 not_many leap less = leb-false leap_records leap.records less
 
--- ---- records one after another
+-- ---- Several records in a row
 
--- after the one that the run follows, one that is near it is not too far ahead
+-- After the record that the run follows, a record near it is not too far ahead.
 none_after : (run : Run) (b : Air) (due : ℕ) (rest : List (ℕ × AccessUnit)) → b.greatest ≡ due → NearEach run.terms.ahead due rest → AllFar run b rest →
     length rest ≡ 0
 unfolding NearEach AllFar
@@ -58,7 +58,7 @@ none_after run b due (entry ∷ rest) at near all =
     let far = ltb-true run.terms.ahead (entry.1.dts - b.greatest) all.0 in
     absurd (omega (arith, at, close, far))
 
--- the records of a leap, and those after it
+-- A leap and the records after it that are too far ahead are together at most `leap_records`.
 more_records : (run : Run) (a : Air) (rest : List (ℕ × AccessUnit)) → a.leap.records < leap_records → NearEach run.terms.ahead a.leap.due rest →
     AllFar run a rest →
     a.leap.records + length rest ≤ leap_records
@@ -98,41 +98,42 @@ leap_followed run a first rest near all = elim (cases_Bool (is_followed (leap_by
       omega (arith, others, count, some)
 ]
 
--- ---- what is told of one that the run follows
+-- ---- The report on a record that the run follows
 
-pub record Told (far many : Bool) (slots greatest due packet from to : ℕ) : Type 0 where
+pub record ReportsLeap (far many : Bool) (slots greatest due packet from to : ℕ) : Type 0 where
   pub is_far : far ≡ true
   pub is_many : many ≡ true
   pub packet_is : packet ≡ slots
   pub from_is : from ≡ greatest
   pub to_is : to ≡ due
 
-told_by : (far many tick : Bool) (refused : Option FeedError) (slots greatest due packet from to : ℕ) →
+reported_by : (far many tick : Bool) (refused : Option FeedError) (slots greatest due packet from to : ℕ) →
     cond far (Some (cond many (Followed slots greatest due) Ahead)) (cond tick None (option_map Feed refused)) ≡ Some (Followed packet from to) →
-    Told far many slots greatest due packet from to
-told_by true true tick refused slots greatest due packet from to e = record { is_far = refl; is_many = refl; packet_is = cc; from_is = cc; to_is = cc }
-told_by true false tick refused slots greatest due packet from to e = absurd cc
-told_by false many true refused slots greatest due packet from to e = absurd cc
-told_by false many false None slots greatest due packet from to e = absurd cc
-told_by false many false (Some cause) slots greatest due packet from to e = absurd cc
+    ReportsLeap far many slots greatest due packet from to
+reported_by true true tick refused slots greatest due packet from to e = record { is_far = refl; is_many = refl; packet_is = cc; from_is = cc; to_is = cc }
+reported_by true false tick refused slots greatest due packet from to e = absurd cc
+reported_by false many true refused slots greatest due packet from to e = absurd cc
+reported_by false many false None slots greatest due packet from to e = absurd cc
+reported_by false many false (Some cause) slots greatest due packet from to e = absurd cc
 
-pub told_of : (run : Run) (a : Air) (entry : ℕ × AccessUnit) (packet from to : ℕ) → air_cause run a entry ≡ Some (Followed packet from to) →
-    Told (is_far_from run a entry) (is_followed (leap_by run a entry)) a.slots a.greatest entry.1.dts packet from to
-told_of run a entry packet from to e =
-    told_by (is_far_from run a entry) (is_followed (leap_by run a entry)) (is_tick entry) (unit_refusal run a entry) a.slots a.greatest entry.1.dts packet from
+pub leap_reported : (run : Run) (a : Air) (entry : ℕ × AccessUnit) (packet from to : ℕ) → air_cause run a entry ≡ Some (Followed packet from to) →
+    ReportsLeap (is_far_from run a entry) (is_followed (leap_by run a entry)) a.slots a.greatest entry.1.dts packet from to
+leap_reported run a entry packet from to e =
+    reported_by (is_far_from run a entry) (is_followed (leap_by run a entry)) (is_tick entry) (unit_refusal run a entry) a.slots a.greatest entry.1.dts packet
+    from
     to e
 
 pub leap_moves_on : LeapMovesOn
 unfolding judged_by greatest_by slots_followed
 leap_moves_on run a entry packet from to e =
-    let told = told_of run a entry packet from to e in
+    let reported = leap_reported run a entry packet from to e in
     let greatest : (aired run a entry).greatest ≡ to = ap (λ (o : Option AirRefusal). (caught_up run (judged_by run a entry o) o).greatest) e in
     let slots : (aired run a entry).slots ≡ on_to a.slots (settled_at run to) =
     ap (λ (o : Option AirRefusal). (caught_up run (judged_by run a entry o) o).slots) e in
     record {
-      packet_is = told.packet_is;
-      from_is = told.from_is;
-      to_is = told.to_is;
-      greatest = greatest ∙ told.to_is;
-      slots = slots ∙ ap (λ (n : ℕ). on_to a.slots (settled_at run n)) told.to_is;
+      packet_is = reported.packet_is;
+      from_is = reported.from_is;
+      to_is = reported.to_is;
+      greatest = greatest ∙ reported.to_is;
+      slots = slots ∙ ap (λ (n : ℕ). on_to a.slots (settled_at run n)) reported.to_is;
     }

@@ -9,3 +9,4 @@ pub mod HeardRecords
 pub mod FirstStates
 pub mod Leaping
 pub mod Near
+pub mod EndlessRuns

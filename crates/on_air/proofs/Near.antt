@@ -1,4 +1,4 @@
--- After any input, a record that is near is refused for nothing but itself and the units of its stream.
+-- After any input, a record that is near is refused only because of itself or of the units of its stream.
 use Rattle.std.proofs.Common.{◌≡◌, ℕ, zero, suc, ◌+◌, ◌-◌, ◌≤◌, max, Bool, true, false, List, [], ◌∷◌, length, Option, Some, None, Result, Ok, Err, refl, ap}
 use Rattle.std.proofs.Common.{sym, ◌∙◌, subst, cond, arith, All}
 use Rattle.std.specs.Prelude.{⊤, ◌==◌, ◌^◌, map, nat_lt, option_map, slice_get, if◌then◌else◌}
@@ -32,23 +32,23 @@ use Rattle.on_air.specs.AirStates.{Promises}
 use Rattle.on_air.specs.Laws.{ComesNear, IsJudgedAlone, IsOwnCause, NearIsJudgedAlone}
 use Rattle.on_air.proofs.AsMultiplexed.{more_settled, none_taken, release_rises}
 use Rattle.on_air.proofs.InOrder.{AllKept, has_room, kept_more, kept_none, lead_within}
-use Rattle.on_air.proofs.Leaping.{told_of}
+use Rattle.on_air.proofs.Leaping.{leap_reported}
 
--- ---- what holds of a run after any input
+-- ---- Facts about a run after any input
 
-record Steady (run : Run) (a : Air) : Type 0 where
-  slots : a.slots ≡ settled_at run a.greatest
-  within : All (λ e. e.1.dts ≤ a.greatest) a.accepted
-  kept : AllKept run.scheduled a.accepted
+pub record Steady (run : Run) (a : Air) : Type 0 where
+  pub slots : a.slots ≡ settled_at run a.greatest
+  pub within : All (λ e. e.1.dts ≤ a.greatest) a.accepted
+  pub kept : AllKept run.scheduled a.accepted
 
-steady_first : (run : Run) → Steady run silence
+pub steady_first : (run : Run) → Steady run silence
 steady_first run = record { slots = (none_taken run).slots; within = All-nil (λ e. e.1.dts ≤ 0); kept = kept_none run.scheduled }
 
 later : (g h : ℕ) (units : List (ℕ × AccessUnit)) → g ≤ h → All (λ e. e.1.dts ≤ g) units → All (λ e. e.1.dts ≤ h) units
 later g h units le all = All-weaker (λ e. e.1.dts ≤ g) (λ e. e.1.dts ≤ h) (λ e few. omega (arith, le, few)) units all
 
--- a unit that is accepted
-fed_none : (far tick : Bool) (cause : AirRefusal) (refused : Option FeedError) → cond far (Some cause) (cond tick None (option_map Feed refused)) ≡ None →
+-- An accepted unit has no cause of refusal.
+pub fed_none : (far tick : Bool) (cause : AirRefusal) (refused : Option FeedError) → cond far (Some cause) (cond tick None (option_map Feed refused)) ≡ None →
     tick ≡ false → refused ≡ None
 fed_none true tick cause refused e unit = absurd cc
 fed_none false true cause refused e unit = absurd cc
@@ -69,7 +69,7 @@ taken_units run a entry false is ranges none so =
       kept_more run.scheduled a.slots run.capacity a.accepted entry ranges fed so.kept,
     )
 
-steady_by : (run : Run) (a : Air) (entry : ℕ × AccessUnit) (cause : Option AirRefusal) → IsInRange run.scheduled.description → air_cause run a entry ≡ cause →
+pub steady_by : (run : Run) (a : Air) (entry : ℕ × AccessUnit) (cause : Option AirRefusal) → IsInRange run.scheduled.description → air_cause run a entry ≡ cause →
     Steady run a →
     Steady run (caught_up run (judged_by run a entry cause) cause)
 unfolding judged_by slots_followed greatest_by
@@ -83,9 +83,9 @@ steady_by run a entry None ranges is so =
 steady_by run a entry (Some (Feed cause)) ranges is so = record { slots = so.slots; within = so.within; kept = so.kept }
 steady_by run a entry (Some Ahead) ranges is so = record { slots = so.slots; within = so.within; kept = so.kept }
 steady_by run a entry (Some (Followed packet from to)) ranges is so =
-    let told = told_of run a entry packet from to is in
-    let far = ltb-true run.terms.ahead (entry.1.dts - a.greatest) told.is_far in
-    let after : a.greatest ≤ to = omega (arith, far, told.to_is) in
+    let reported = leap_reported run a entry packet from to is in
+    let far = ltb-true run.terms.ahead (entry.1.dts - a.greatest) reported.is_far in
+    let after : a.greatest ≤ to = omega (arith, far, reported.to_is) in
     let last : max a.greatest to ≡ to = omega (arith, after) in
     record {
       slots = ap (λ (n : ℕ). n + (settled_at run to - n)) so.slots ∙ more_settled run a.greatest to ∙ ap (λ (g : ℕ). settled_at run g) last;
@@ -105,7 +105,7 @@ unfolding heard
 steady run zero xs ranges = steady_first run
 steady run (suc n) xs ranges = steady_with run (heard run n xs) (record_at (after_records n xs)) ranges (steady run n xs ranges)
 
--- ---- causes
+-- ---- Causes of refusal
 
 abbrev IsOwn : Option FeedError → Type 0
 IsOwn None = ⊤
@@ -160,7 +160,7 @@ own_unit l slots capacity us u late full =
     (own_itself l.parameters.size l.parameters.pts_limit (min_next_dts_of l us) u)
     (own_or (time_cause (is_late l slots u) u.dts) (room_cause (is_full l slots capacity us) over) time room)
 
--- ---- a record that is near
+-- ---- A record that is near
 
 own_stream : (run : Run) (a : Air) (entry : ℕ × AccessUnit) (o : Option DescribedStream) → slice_get run.scheduled.description.streams entry.0 ≡ o →
     Promises run.scheduled →

@@ -1,4 +1,4 @@
--- How many units wait: those that are due after the next slot begins.
+-- The number of waiting units: the units that are due after the next slot begins
 use Rattle.std.proofs.Common.{◌≡◌, ℕ, ◌+◌, ◌-◌, ◌*◌, ◌<◌, ◌≤◌, min, Bool, List, [], ◌∷◌, ◌++◌, length, map, take, drop, refl, ◌∙◌, inl, inr, arith, All}
 use Rattle.std.proofs.Math.Nat.{mul-le-mul_right}
 use Rattle.std.proofs.lemmas.Bool.{cases_lt}
@@ -18,7 +18,7 @@ use Rattle.unit_queue.specs.OwnedStreams.{OwnedStream, timed, packet_count, firs
 use Rattle.unit_queue.specs.Places.{left_at}
 use Rattle.unit_queue.proofs.Leftover.{text_some, left_stop, left_on}
 
--- of units at least `interval` apart, the first due at `from` or later and none after `last`
+-- Bounds the number of units that are at least `interval` apart and due from `from` to `last`
 few : (l : OwnedStream) (interval from last : ℕ) (us : List AccessUnit) → Spaced interval from (map (timed l) us) → All (λ u. u.dts ≤ last) us →
     from ≤ last + interval → from + length us * interval ≤ last + interval
 unfolding Spaced
@@ -28,7 +28,7 @@ few l interval from last (u ∷ us) spaced all le =
     let rest = few l interval (u.dts + interval) last us spaced.1 (All-tail (λ x. x.dts ≤ last) u us all) (omega (arith, first)) in
     omega (arith, spaced.0, rest)
 
--- the departures of what is sent of a unit and of those after it
+-- The departures of a unit's packets, followed by the departures of later units
 joined : (own : ℕ → Bool) (rate lead r n free prev : ℕ) (unit : PesPacket) (units : List PesPacket) →
     pes_left rate r prev (packets_in_slots own rate lead free (unit ∷ units) (own_slots own 0 n))
     ≡ pes_left rate r prev (cut unit.front unit.size (take (packets_of_unit unit) (drop (first_own_slot own rate lead free unit) (own_slots own 0 n))))
@@ -43,7 +43,7 @@ joined own rate lead r n free prev unit units =
     pes_left-append rate r prev (cut unit.front unit.size xs) (packets_in_slots own rate lead (b + p) units slots)
     ∙ rw (slots_of-cut unit.front unit.size xs) refl
 
--- a unit that is not sent whole is not due
+-- A unit that is not sent whole is not due.
 unfinished : (own : ℕ → Bool) (rate lead r n free prev : ℕ) (unit : PesPacket) (units : List PesPacket) → 1 ≤ unit.size →
     own_before own n < first_own_slot own rate lead free unit + packets_of_unit unit →
     unit.size ≤ length (pes_left rate r prev (packets_in_slots own rate lead free (unit ∷ units) (own_slots own 0 n))) → ⊥
@@ -61,7 +61,7 @@ unfinished own rate lead r n free prev unit units some below there =
     let whole = rw (joined own rate lead r n free prev unit units, nothing, length-append (pes_left rate r prev (cut unit.front unit.size xs)) []) at there in
     omega (arith, whole, many, run, below, some)
 
--- the units left before the next slot, where the slots before it begin no earlier than `lead` before the last due unit
+-- Bounds the units left before the next slot, if the slots before it begin no earlier than `lead` before the last due unit.
 pub waiting_few : (l : OwnedStream) (r n lead last interval : ℕ) → 1 ≤ interval → (last - lead) * l.parameters.rate ≤ n * 135360000 →
     (us : List AccessUnit) (free number prev from : ℕ) → Spaced interval from (map (timed l) us) → All (λ u. u.dts ≤ last) us →
     AllLeft l.parameters.rate r n (map (timed l) us)

@@ -1,25 +1,25 @@
--- Slots written until one that is settled.
+-- Slots are written up to a settled slot.
 use Rattle.std.proofs.Common.{◌≡◌, ℕ, ◌+◌, ◌<◌, Bool, List, ◌++◌, Option, Some, None, Ok, refl, sym, ap, ◌∙◌, subst}
 use Rattle.packet_output.specs.Buffer.{Buffered, IsOutput, Took}
 use Rattle.packet_output.specs.Formats.{formatted}
 use Rattle.mux_core.specs.Scheduled.{Scheduled}
 use Rattle.mux_core.specs.Histories.{History, content_at}
-use Rattle.mux_core.specs.MuxStates.{MuxState, Stands, Gives}
+use Rattle.mux_core.specs.MuxStates.{MuxState, Represents, Gives}
 use Rattle.mux_core.specs.WholeJobs.{run_output, output_of}
 use Rattle.mux_core.proofs.JobWriting.{SlotsWritten, at_slot, written_more, written_failed}
 use Rattle.on_air.specs.Airing.{Run, settled, last_by, on_to}
 use Rattle.on_air.specs.AirStates.{Carries, with_slots, WroteOn}
 
--- n slots are written, by the same multiplexer
+-- n slots are written by the same multiplexer.
 pub record OnWay (h : History) (old new : MuxState) (hex : Bool) (n : ℕ) (start now : Option (List ℕ)) (packets : Buffered) : Type 0 where
   pub written : SlotsWritten h old new hex n start now packets
   pub capacity : new.capacity ≡ old.capacity
 
-pub way_begins : (h : History) (old : MuxState) (hex : Bool) (start now : Option (List ℕ)) (packets : Buffered) (n : ℕ) → n ≡ h.slots → Stands h old →
+pub way_begins : (h : History) (old : MuxState) (hex : Bool) (start now : Option (List ℕ)) (packets : Buffered) (n : ℕ) → n ≡ h.slots → Represents h old →
     IsOutput start now packets (output_of hex old.schedule h) → OnWay h old old hex n start now packets
-way_begins h old hex start now packets n same stands holds =
+way_begins h old hex start now packets n same represents holds =
     subst (λ (k : ℕ). OnWay h old old hex k start now packets) (sym same)
-    (record { written = record { stands = stands; same_schedule = refl; holds = holds }; capacity = refl })
+    (record { written = record { represents = represents; same_schedule = refl; holds = holds }; capacity = refl })
 
 pub way_goes_on : (h : History) (old mid new : MuxState) (hex phex : Bool) (n : ℕ) (start now later : Option (List ℕ)) (packets after : Buffered)
     (packet : List ℕ) →
@@ -30,7 +30,7 @@ way_goes_on h old mid new hex phex n start now later packets after packet w same
   capacity = gives.4 ∙ w.capacity;
 }
 
--- the output of the multiplexer that was fed is that of the run
+-- The output of the multiplexer that was fed is the output of the run.
 of_run : (run : Run) (h : History) (old : MuxState) (hex : Bool) → Carries run h old → output_of hex run.scheduled h ≡ output_of hex old.schedule h
 of_run run h old hex c = ap (λ (d : Scheduled). output_of hex d h) (sym c.scheduled)
 
@@ -47,7 +47,7 @@ way_ends run h old mid hex n target start now packets c w is same =
     c.scheduled in
     record {
       mux = record {
-        stands = subst (λ (k : ℕ). Stands (at_slot h k) mid) is w.written.stands;
+        represents = subst (λ (k : ℕ). Represents (at_slot h k) mid) is w.written.represents;
         scheduled = w.written.same_schedule ∙ c.scheduled;
         capacity = w.capacity ∙ c.capacity;
       };
@@ -55,7 +55,7 @@ way_ends run h old mid hex n target start now packets c w is same =
       output = subst (λ (l : List ℕ). IsOutput start now packets l) whole w.written.holds;
     }
 
--- the writer failed
+-- The writer fails.
 pub way_failed : (run : Run) (h : History) (old mid new : MuxState) (hex phex : Bool) (n target sent : ℕ) (start now later : Option (List ℕ))
     (packets : Buffered) (packet : List ℕ) →
     Carries run h old → OnWay h old mid hex n start now packets → n < on_to h.slots target → phex ≡ hex → Gives (at_slot h n) mid (Ok packet) new →
@@ -65,7 +65,7 @@ way_failed run h old mid new hex phex n target sent start now later packets pack
     subst (λ (d : Scheduled). Took start later sent (output_of hex d (with_slots h (on_to h.slots target)))) c.scheduled
     (written_failed h old mid new hex phex n (on_to h.slots target) sent start now later packets packet w.written below same gives took)
 
--- the slots of a whole run
+-- The number of slots of a whole run
 pub last_some : (rate limit greatest slots : ℕ) (o : Option ℕ) → o ≡ Some slots → last_by rate limit greatest o ≡ limit
 unfolding last_by
 last_some rate limit greatest slots o is = rw is refl

@@ -10,7 +10,7 @@ use Rattle.switch_checker.specs.Followed.{Followed}
 use Rattle.plan_timing.specs.Promised.{Promised}
 use Rattle.mux_core.specs.Headline.{Headline}
 use Rattle.mux_core.specs.Histories.{History, bytes_of}
-use Rattle.mux_core.specs.MuxStates.{MuxState, Stands}
+use Rattle.mux_core.specs.MuxStates.{MuxState, Represents}
 use Rattle.mux_core.specs.NewMux.{is_periods}
 use Rattle.mux_core.specs.declared.done.NewError.{NewError}
 use Rattle.mux_core.specs.declared.done.NewError.TheVariants.{Periods}
@@ -35,7 +35,7 @@ pub record AirState : Type 0 where
 
 -- the multiplexer of this run represents a history
 pub record Carries (run : Run) (h : History) (m : MuxState) : Type 0 where
-  pub stands : Stands h m
+  pub represents : Represents h m
   pub scheduled : m.schedule ≡ run.scheduled
   pub capacity : m.capacity ≡ run.capacity
 

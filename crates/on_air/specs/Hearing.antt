@@ -4,7 +4,7 @@ use Rattle.counted_io.specs.Device.{Failed}
 use Rattle.pes_packet.specs.AccessUnits.{AccessUnit}
 use Rattle.packet_output.specs.Buffer.{Took}
 use Rattle.packet_output.specs.declared.output.OutputFault.{OutputFault}
-use Rattle.unit_records.specs.Records.{ReadsRecord}
+use Rattle.unit_records.specs.Records.{IsRecord, ReadsRecord}
 use Rattle.unit_records.specs.declared.reading.UnitFileError.TheVariants.{Cut, Size, Device, Memory}
 use Rattle.carry.specs.RecordRuns.{after_records}
 use Rattle.on_air.specs.declared.refusals.AirRefusal.{AirRefusal}
@@ -20,11 +20,14 @@ pub record Fails (run : Run) (a : Air) (start now : Option (List ℕ)) (sent : �
   pub took : Took start now sent (air_output run a)
   pub headline : KeepsHeadline run a
 
--- a record was read and judged, when the run still had slots to write; if the bytes of the input are known, the record is at their front
+-- a record was read, which has some bytes, and judged, when the run still had slots to write; if the bytes of the input are known, the record is at their
+-- front
 pub record HearsRecord (run : Run) (a : Air) (old left : Option (List ℕ)) (refused : Option AirRefusal) : Type 0 where
   pub slots_left : a.slots < limit_of run.terms
   pub entry : ℕ × AccessUnit
   pub cause : air_cause run a entry ≡ refused
+  pub bytes : List ℕ
+  pub is_record : IsRecord bytes entry
   pub known : (xs : List ℕ) → old ≡ Some xs → ReadsRecord xs left (Ok (Some entry))
 
 -- why no record was read, and the input that remains then
@@ -84,9 +87,18 @@ NamesDevice (Err fault) read0 read1 written0 written1 = (read1 ≡ read0) × Fai
 abbrev pub HasSlotsLeft : Run → ℕ → List ℕ → Type 0
 HasSlotsLeft run n xs = (m : ℕ) → m < n → (heard run m xs).slots < limit_of run.terms
 
--- the run has read n records of an input that had the bytes `origin` at the beginning of the run, and no record after its last slot
-abbrev pub HasHeard : Run → ℕ → Air → Option (List ℕ) → Option (List ℕ) → Type 0
-HasHeard run n a origin left = (xs : List ℕ) → origin ≡ Some xs → (a ≡ heard run n xs) × (left ≡ Some (after_records n xs)) × HasSlotsLeft run n xs
+-- the run is where n records of these bytes lead it, and the rest of the bytes is left
+pub record HeardFrom (run : Run) (n : ℕ) (a : Air) (rest : List ℕ) : Type 0 where
+  pub bytes : List ℕ
+  pub led : a ≡ heard run n bytes
+  pub rest_is : rest ≡ after_records n bytes
+  pub slots_left : HasSlotsLeft run n bytes
+
+-- the run has read n records, and no record after its last slot: of an input that had the bytes `origin` at the beginning of the run, if these are known; in
+-- any case, as at a standard input, of some bytes, whatever bytes are left
+pub record HasHeard (run : Run) (n : ℕ) (a : Air) (origin left : Option (List ℕ)) : Type 0 where
+  pub known : (xs : List ℕ) → origin ≡ Some xs → (a ≡ heard run n xs) × (left ≡ Some (after_records n xs)) × HasSlotsLeft run n xs
+  pub some : (rest : List ℕ) → HeardFrom run n a rest
 
 -- a number of records was read, and the run is at `b`
 pub record HeardOn (run : Run) (origin left : Option (List ℕ)) (b : Air) : Type 0 where

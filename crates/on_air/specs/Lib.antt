@@ -3,3 +3,4 @@ pub mod Airing
 pub mod AirStates
 pub mod Hearing
 pub mod Laws
+pub mod EndlessRuns

@@ -64,9 +64,11 @@ impl<A: Allocator + Copy> OnAir<A> {
         input: &R,
         to: &mut W,
     ) -> Result<(), OutputFault>
-        ensures ok { (run : Run) (a : Air) (start : Option (List ℕ)) → IsOnAir run a start (W.contents to.old) self.old →
+        ensures ok { (run : Run) (a : Air) (start : Option (List ℕ)) →
+            IsOnAir run a start (W.contents to.old) self.old →
             OnOk result (IsOnAir run a start (W.contents to.new) self.new) }
-        ensures err { (run : Run) (a : Air) (start : Option (List ℕ)) → IsOnAir run a start (W.contents to.old) self.old →
+        ensures err { (run : Run) (a : Air) (start : Option (List ℕ)) →
+            IsOnAir run a start (W.contents to.old) self.old →
             IfErr result (λ fault. Fails run a start (W.contents to.new) fault.sent) }
         ensures out { OnOk result (IsOut (R.held input.now) self.new) }
         ensures records { self.new.records ≡ self.old.records }
@@ -91,7 +93,8 @@ impl<A: Allocator + Copy> OnAir<A> {
         // Where a read may wait, nothing waits to be written.
         requires out { IsOut (R.held input.old) self.old }
         ensures out { IfOk result (LetsOut (R.held input.new) self.new) }
-        ensures heard { (run : Run) (a : Air) (start : Option (List ℕ)) → IsOnAir run a start (W.contents to.old) self.old →
+        ensures heard { (run : Run) (a : Air) (start : Option (List ℕ)) →
+            IsOnAir run a start (W.contents to.old) self.old →
             Hears run a (R.remaining input.old) (R.remaining input.new) start (W.contents to.new) result self.new }
         ensures counts { IfOk result (CountsRecord self.old.records self.new.records) }
         ensures fault { NamesDevice result (R.fault_count input.old) (R.fault_count input.new)
@@ -150,10 +153,14 @@ impl<A: Allocator + Copy> OnAir<A> {
 
     /// Follows a refused record, if the refusal says so: writes the slots up to its time. Without units they are null
     /// packets, tables and clock references.
+    ///
+    /// After an `OutputFault` drop the run: nothing is promised of its contents.
     pub fn follow<W: Sink>(&mut self, refusal: AirRefusal, to: &mut W) -> Result<(), OutputFault>
-        ensures ok { (run : Run) (a : Air) (start : Option (List ℕ)) → IsOnAir run a start (W.contents to.old) self.old →
+        ensures ok { (run : Run) (a : Air) (start : Option (List ℕ)) →
+            IsOnAir run a start (W.contents to.old) self.old →
             OnOk result (IsOnAir run (caught_up run a (Some refusal)) start (W.contents to.new) self.new) }
-        ensures err { (run : Run) (a : Air) (start : Option (List ℕ)) → IsOnAir run a start (W.contents to.old) self.old →
+        ensures err { (run : Run) (a : Air) (start : Option (List ℕ)) →
+            IsOnAir run a start (W.contents to.old) self.old →
             IfErr result (λ fault. Fails run (caught_up run a (Some refusal)) start (W.contents to.new) fault.sent) }
         ensures records { OnOk result (self.new.records ≡ self.old.records) }
         ensures clean { OnOk result (W.fault_count to.new ≡ W.fault_count to.old) }
@@ -167,10 +174,14 @@ impl<A: Allocator + Copy> OnAir<A> {
     }
 
     /// Ends the run: writes on to its last slot, to the last byte.
+    ///
+    /// After an `OutputFault` drop the run: nothing is promised of its contents.
     pub fn end<W: Sink>(&mut self, to: &mut W) -> Result<(), OutputFault>
-        ensures ok { (run : Run) (a : Air) (start : Option (List ℕ)) → IsOnAir run a start (W.contents to.old) self.old →
+        ensures ok { (run : Run) (a : Air) (start : Option (List ℕ)) →
+            IsOnAir run a start (W.contents to.old) self.old →
             OnOk result (IsOnAir run (ended run a) start (W.contents to.new) self.new) }
-        ensures err { (run : Run) (a : Air) (start : Option (List ℕ)) → IsOnAir run a start (W.contents to.old) self.old →
+        ensures err { (run : Run) (a : Air) (start : Option (List ℕ)) →
+            IsOnAir run a start (W.contents to.old) self.old →
             IfErr result (λ fault. Fails run (ended run a) start (W.contents to.new) fault.sent) }
         ensures out { OnOk result (waiting_of self.new.packets ≡ []) }
         ensures clean { OnOk result (W.fault_count to.new ≡ W.fault_count to.old) }
@@ -192,9 +203,11 @@ impl<A: Allocator + Copy> OnAir<A> {
 
     // Writes what waits. Nothing waits then.
     fn flush<W: Sink>(&mut self, to: &mut W) -> Result<(), OutputFault>
-        ensures ok { (run : Run) (a : Air) (start : Option (List ℕ)) → IsOnAir run a start (W.contents to.old) self.old →
+        ensures ok { (run : Run) (a : Air) (start : Option (List ℕ)) →
+            IsOnAir run a start (W.contents to.old) self.old →
             OnOk result (IsOnAir run a start (W.contents to.new) self.new) }
-        ensures err { (run : Run) (a : Air) (start : Option (List ℕ)) → IsOnAir run a start (W.contents to.old) self.old →
+        ensures err { (run : Run) (a : Air) (start : Option (List ℕ)) →
+            IsOnAir run a start (W.contents to.old) self.old →
             IfErr result (λ fault. Fails run a start (W.contents to.new) fault.sent) }
         ensures empty { waiting_of self.new.packets ≡ [] }
         ensures records { self.new.records ≡ self.old.records }
@@ -206,10 +219,14 @@ impl<A: Allocator + Copy> OnAir<A> {
 
     // Writes the slots that a DTS settles; an incomplete last part waits.
     fn write_until<W: Sink>(&mut self, due: u64, to: &mut W) -> Result<(), OutputFault>
-        ensures ok { (run : Run) (a : Air) (start : Option (List ℕ)) → IsOnAir run a start (W.contents to.old) self.old →
-            OnOk result (IsOnAir run (with_count a (on_to a.slots (settled_at run due))) start (W.contents to.new) self.new) }
-        ensures err { (run : Run) (a : Air) (start : Option (List ℕ)) → IsOnAir run a start (W.contents to.old) self.old →
-            IfErr result (λ fault. Fails run (with_count a (on_to a.slots (settled_at run due))) start (W.contents to.new) fault.sent) }
+        ensures ok { (run : Run) (a : Air) (start : Option (List ℕ)) →
+            IsOnAir run a start (W.contents to.old) self.old →
+            OnOk result (IsOnAir run (with_count a (on_to a.slots (settled_at run due))) start
+            (W.contents to.new) self.new) }
+        ensures err { (run : Run) (a : Air) (start : Option (List ℕ)) →
+            IsOnAir run a start (W.contents to.old) self.old →
+            IfErr result (λ fault. Fails run (with_count a (on_to a.slots (settled_at run due))) start
+            (W.contents to.new) fault.sent) }
         ensures records { self.new.records ≡ self.old.records }
         ensures clean { OnOk result (W.fault_count to.new ≡ W.fault_count to.old) }
         ensures fault { OnErr result (Failed (W.fault_count to.old) (W.fault_count to.new)) }
@@ -222,7 +239,8 @@ impl<A: Allocator + Copy> OnAir<A> {
     // Refuses a record that is too far ahead, and counts it among the records that leap.
     fn pass_over(&mut self, due: u64) -> AirRefusal
         requires { self.old.records < 2 ^ 64 - 1 }
-        ensures passes { (run : Run) (a : Air) (entry : ℕ × AccessUnit) (start now : Option (List ℕ)) → IsOnAir run a start now self.old →
+        ensures passes { (run : Run) (a : Air) (entry : ℕ × AccessUnit) (start now : Option (List ℕ)) →
+            IsOnAir run a start now self.old →
             due ≡ entry.1.dts → is_far_from run a entry ≡ true →
             (air_cause run a entry ≡ Some result) × IsOnAir run (judged run a entry) start now self.new }
         ensures records { self.new.records ≡ self.old.records + 1 }
@@ -252,7 +270,8 @@ impl<A: Allocator + Copy> OnAir<A> {
         to: &mut W,
     ) -> Result<Option<AirRefusal>, OutputFault>
         requires { self.old.records < 2 ^ 64 - 1 }
-        ensures takes { (run : Run) (a : Air) (start : Option (List ℕ)) → IsOnAir run a start (W.contents to.old) self.old →
+        ensures takes { (run : Run) (a : Air) (start : Option (List ℕ)) →
+            IsOnAir run a start (W.contents to.old) self.old →
             TakesUnit run a (stream, unit) start (W.contents to.new) result self.new }
         ensures records { OnOk result (self.new.records ≡ self.old.records + 1) }
         ensures clean { OnOk result (W.fault_count to.new ≡ W.fault_count to.old) }

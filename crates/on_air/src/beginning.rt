@@ -109,7 +109,8 @@ fn begun<A: Allocator + Copy>(
     hex: bool,
 ) -> Result<OnAir<A>, NewError>
     ensures memory { Judges None (begin_refusal result) }
-    ensures begun { (d : Scheduled) (start : Option (List ℕ)) → Carries (run_with d terms hex) empty_history mux → Promises d →
+    ensures begun { (d : Scheduled) (start : Option (List ℕ)) →
+        Carries (run_with d terms hex) empty_history mux → Promises d →
         of.rate ≡ d.description.rate → of.lead ≡ greatest_lead d.description.streams + terms.wait →
         IfOk result (IsOnAir (run_with d terms hex) silence start start) }
     ensures out { IfOk result (λ run. waiting_of run.packets ≡ []) }

@@ -1,5 +1,6 @@
 //! Laws of the definitions. Each function does nothing: its contract is the law.
 
+ghost use Rattle.on_air.specs.EndlessRuns.{EndlessInput, EndlessRecords};
 ghost use Rattle.on_air.specs.Laws.{TakenInTime, AiredInOrder, AiredAsMultiplexed, LeapFollowed, LeapMovesOn, NearIsJudgedAlone};
 
 /// States that a unit that a stream accepts before the first slot is also accepted later, if no slot from its release
@@ -34,4 +35,11 @@ pub fn leap_moves_on()
 /// the units of its stream: neither for its time nor for the room.
 pub fn near_is_judged_alone()
     ensures { NearIsJudgedAlone }
+{}
+
+/// States that in a run without end, after any records, exactly the slots that the greatest DTS settles are written,
+/// and their bytes keep every promise; what was written, accepted and refused stays, whatever records come later.
+pub fn endless()
+    ensures records { EndlessRecords }
+    ensures input { EndlessInput }
 {}

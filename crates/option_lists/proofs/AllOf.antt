@@ -6,7 +6,7 @@ use Rattle.std.proofs.lemmas.List.{drop_all}
 use Rattle.std.specs.Prelude.{option_map}
 use Rattle.option_lists.specs.Lists.{all_of}
 
--- those from a place on, after those before it
+-- The values that are taken, then the values from a place on.
 abbrev pub with_rest : {A B T : Type 0} → (A → Option T) → (B → A) → List T → List B → ℕ → Option (List T)
 with_rest f v taken ts i = option_map (λ rest. taken ++ rest) (all_of (map f (map v (drop i ts))))
 

@@ -1,4 +1,4 @@
--- Counts of sections by PID, from the last finding to the first, and the PIDs on which a table is found.
+-- Counts of sections by PID, from the last finding to the first, and the PIDs with a table
 use Rattle.std.proofs.Common.{◌≡◌, ◌≢◌, ℕ, ◌+◌, ◌<◌, ◌≤◌, ◌==◌, ◌&&◌, ◌||◌, zero, suc, cond, append-nil, true, false, Bool, is_some, List, [], ◌∷◌, ◌++◌}
 use Rattle.std.proofs.Common.{length, map, drop, get_or, Option, None, Some, refl, sym, ap, ◌∙◌, arith, inl, inr}
 use Rattle.std.specs.Prelude.{slice_set, slice_index, slice_index_or, replicate}
@@ -35,7 +35,7 @@ pub room_left : {X : Type 0} (view : X → FindingView) (counts : List ℕ) (i n
     (pid : ℕ) → pid < 65_536 → slice_index counts pid < n
 room_left view counts i n fs c some long pid below = omega (arith, (c.each pid below).1, some, long)
 
--- a section of a PID, and of no other
+-- A finding adds a section to its own PID only.
 own : (pid : ℕ) (p : Option ℕ) (b : Bool) (other : ℕ) → Some other ≡ cond b p None → pid ≡ other → ◌≡◌ {A = ℕ} (cond (has_pid pid p && b) 1 0) 1
 own pid None true other is e = absurd cc
 own pid None false other is e = absurd cc
@@ -70,7 +70,7 @@ of_none : (pid : ℕ) (f : FindingView) → None ≡ table_pid f → section_num
 unfolding section_number table_pid
 of_none pid f is = nothing pid f.pid (is_some (kind_at f.what)) is
 
--- one finding before
+-- From one finding earlier, the list of findings begins with that finding.
 before : {X : Type 0} (view : X → FindingView) (i j : ℕ) (fs : List X) (f : X) → i ≡ j + 1 → j < length fs → f ≡ get_or fs j f →
     map view (drop j fs) ≡ view f ∷ map view (drop i fs)
 before view i j fs f next inside at =
@@ -135,7 +135,7 @@ pub all_counted : {X : Type 0} (view : X → FindingView) (counts : List ℕ) (i
 all_counted view counts zero fs e c = record { size = c.size; each = λ pid below. (c.each pid below).0 }
 all_counted view counts (suc i) fs e c = absurd cc
 
--- 2. The PIDs on which a table is found
+-- 2. The PIDs with a table
 
 pub none_seen : AreSeen (replicate 65_536 false) []
 none_seen = record { size = length-replicate {A = Bool} 65_536 false; each = λ pid below. get_or-replicate 65_536 pid false false below }
@@ -152,7 +152,7 @@ seen_more seen found more p fits s here there = record {
   ];
 }
 
--- with one more table
+-- A PID has a table after one more table if it had one before or if it is the PID of this table.
 one_more : (found : List OtherTable) (t : OtherTable) (pid : ℕ) → is_found (found ++ t ∷ []) pid ≡ (is_found found pid || (t.pid == pid || false))
 one_more found t pid = list_any-append (λ (x : OtherTable). x.pid == pid) found (t ∷ [])
 
@@ -187,7 +187,7 @@ on_pid counts seen all found kind p false e below c s =
     let t : OtherTable = record { pid = p; kind = kind; count = section_count p all } in
     rw (s.each p below, e, c.each p below) (refl, seen_more seen found (t ∷ []) p below s (one_here found t) (λ pid ne. one_there found t pid ne))
 
--- with a finding of a PID
+-- One more finding updates the counts and the PIDs with a table.
 with_table : (counts : List ℕ) (seen : List Bool) (all : List FindingView) (found : List OtherTable) (kind : Option TableKind) (p : Option ℕ) →
     ((pid : ℕ) → cond (is_some kind) p None ≡ Some pid → pid < 65_536) → AreCounts counts all → AreSeen seen found →
     (table_of counts seen kind p ≡ table_on all found kind p) × AreSeen (seen_on seen (cond (is_some kind) p None)) (found ++ table_on all found kind p)

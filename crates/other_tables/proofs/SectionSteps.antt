@@ -1,4 +1,4 @@
--- Sections of a PID, finding by finding.
+-- Sections of a PID, finding by finding
 use Rattle.std.proofs.Common.{◌≡◌, ◌≤◌, ◌<◌, ℕ, ◌+◌, ◌-◌, ◌&&◌, ◌||◌, max, Bool, true, false, List, [], ◌∷◌, ◌++◌, length, map, take, drop, get_or, Option}
 use Rattle.std.proofs.Common.{Some, None, refl, sym, ap, add-one, arith}
 use Rattle.std.specs.Prelude.{not}
@@ -43,7 +43,7 @@ pub all_view : {X Y : Type 0} (view : X → Y) (test : Y → Bool) (xs : List X)
 all_view view test [] = refl
 all_view view test (x ∷ xs) = ap (λ (b : Bool). test (view x) && b) (all_view view test xs)
 
--- each once
+-- Each distinct section is added once.
 pub new_more : (i : ℕ) (ss : List FoundSection) (s : FoundSection) (known after : List PidSection) → i < length ss → s ≡ get_or ss i s →
     after ≡ with_new known (section_view s) →
     distinct_sections known (map section_view (drop i ss)) ≡ distinct_sections after (map section_view (drop (i + 1) ss))
@@ -54,7 +54,7 @@ pub new_end : (i : ℕ) (ss : List FoundSection) (known : List PidSection) → l
 unfolding distinct_sections
 new_end i ss known over = rw (drop_all i ss over) refl
 
--- gaps
+-- The greatest gap between repetitions of a section is found section by section.
 max_moved : (gap d rest : ℕ) → max gap (max d rest) ≡ max (max d gap) rest
 max_moved gap d rest = grind (arith, nat_tests)
 
@@ -78,7 +78,7 @@ pub gap_end : (bytes : List ℕ) (i : ℕ) (ss : List FoundSection) (gap : ℕ) 
 unfolding greatest_gap
 gap_end bytes i ss gap last over = rw (drop_all i ss over) (grind (arith, nat_tests))
 
--- the widest of all
+-- The widest gap of all sections is found section by section.
 pub widest_more : (all : List PidSection) (i : ℕ) (ks : List FoundSection) (k : FoundSection) (widest widest_then : ℕ) → i < length ks → k ≡ get_or ks i k →
     widest_then ≡ max (greatest_gap k.bytes.now None all) widest →
     max widest (widest_gap all (map section_view (drop i ks))) ≡ max widest_then (widest_gap all (map section_view (drop (i + 1) ks)))
@@ -91,21 +91,21 @@ pub widest_end : (all : List PidSection) (i : ℕ) (ks : List FoundSection) (wid
 unfolding widest_gap
 widest_end all i ks widest over = rw (drop_all i ks over) (grind (arith, nat_tests))
 
--- an element, whatever stands past the end
+-- An arbitrary section, as the value after the end of a list
 abbrev pub no_section : FoundSection
 no_section = record { begun = 0; bytes = record { ref_ptr = (0, 0); now = [] } }
 
 pub same_default : {X : Type 0} (i : ℕ) (xs : List X) (d : X) → i < length xs → get_or xs i d ≡ get_or xs i (get_or xs i d)
 same_default i xs d below = grind (arith, common_steps)
 
--- none that changes
+-- Whether a section changes
 pub all_after : {X : Type 0} (i : ℕ) (xs : List X) → take (length xs - (i + 1)) (drop (i + 1) xs) ≡ drop (i + 1) xs
 all_after i xs = grind (arith, common_steps)
 
 abbrev pub same_after : ℕ → List FoundSection → FoundSection → Bool
 same_after i ks k = list_any (is_same_section (section_view k)) (map section_view (drop (i + 1) ks))
 
--- one of these is followed by sections, among which is the same one or not
+-- No section changes if the first has no later version and no later section changes.
 pub none_from : (i : ℕ) (ks : List FoundSection) (k : FoundSection) → i < length ks → k ≡ get_or ks i k →
     none_changes (map section_view (drop i ks)) ≡ (not (same_after i ks k) && none_changes (map section_view (drop (i + 1) ks)))
 unfolding none_changes

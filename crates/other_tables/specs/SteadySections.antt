@@ -26,10 +26,25 @@ begun_by packet (Some b) = b.0
 abbrev pub begun_at : FindingView → ℕ
 begun_at f = begun_by f.packet f.begun
 
--- what a finding adds to the sections of its PID: a section; nothing where a packet comes twice or its payload is stray, or where the end of a
--- stream of `count` whole packets cuts a section short; anything else is not of a PID of whole sections alone
+-- a splice command (ANSI/SCTE 35, splice_info_section: table_id 0xFC, splice_command_type in byte 13), which has its own time; not a splice_null
+-- (type 0, no bytes, so the next two are descriptor_loop_length) without descriptors, which says the same at any time
+unfoldable pub is_splice_command : List ℕ → Bool
+is_splice_command bytes =
+    slice_index bytes 0 == 0xFC && not (slice_index bytes 13 == 0 && (slice_index bytes 14 == 0 && slice_index bytes 15 == 0))
+
+-- a section at a time: of DSM-CC stream descriptors (ISO/IEC 13818-6, DSMCC_section with table_id 0x3D: events, references of normal play time), or
+-- a splice command
+unfoldable pub is_timed : List ℕ → Bool
+is_timed bytes = slice_index bytes 0 == 0x3D || is_splice_command bytes
+
+-- a section that may be repeated
+unfoldable pub section_of : ℕ → List ℕ → Option (List PidSection)
+section_of begun bytes = if is_timed bytes then None else Some (record { begun = begun; bytes = bytes } ∷ [])
+
+-- what a finding adds to the sections of its PID: a section that may be repeated; nothing where a packet comes twice or its payload is stray, or
+-- where the end of a stream of `count` whole packets cuts a section short; anything else is not of a PID of such whole sections alone
 unfoldable pub section_by : ℕ → ℕ → ℕ → WhatView → Option (List PidSection)
-section_by count packet begun (IsSection bytes) = Some (record { begun = begun; bytes = bytes } ∷ [])
+section_by count packet begun (IsSection bytes) = section_of begun bytes
 section_by count packet begun IsDuplicate = Some []
 section_by count packet begun (IsTruncated bytes) = if nat_le count packet then Some [] else None
 section_by count packet begun (IsStray size) = Some []

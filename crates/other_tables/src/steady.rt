@@ -47,18 +47,44 @@ fn begun_at(finding: &Finding<'_>) -> u64
     }
 }
 
+// Returns whether a section is a splice command (ANSI/SCTE 35), but not a splice_null without descriptors.
+#[tactic(auto, unfolding(crate::specs::SteadySections::is_splice_command))]
+fn is_splice_command(bytes: &[u8]) -> bool
+    ensures { result ≡ spec.is_splice_command bytes.now }
+{
+    byte_at(bytes, 0) == 0xFC
+        && !(byte_at(bytes, 13) == 0 && byte_at(bytes, 14) == 0 && byte_at(bytes, 15) == 0)
+}
+
+// Returns whether a section has its own time: stream descriptors of DSM-CC (ISO/IEC 13818-6), or a splice command.
+#[tactic(auto, unfolding(crate::specs::SteadySections::is_timed))]
+fn is_timed(bytes: &[u8]) -> bool
+    ensures { result ≡ spec.is_timed bytes.now }
+{
+    byte_at(bytes, 0) == 0x3D || is_splice_command(bytes)
+}
+
+// Returns a section, unless it has its own time.
+#[tactic(auto, unfolding(crate::specs::SteadySections::section_of))]
+fn section_of<'f>(begun: u64, bytes: &'f [u8]) -> Option<Option<FoundSection<'f>>>
+    ensures { option_map (λ one. map spec.section_view (option_to_list one)) result
+        ≡ spec.section_of begun bytes.now }
+{
+    if is_timed(bytes) {
+        return None;
+    }
+    Some(Some(FoundSection { begun, bytes }))
+}
+
 // Returns the section that a finding adds to its PID in a stream of `count` whole packets, or no section; `None` if the
-// PID does not carry whole sections alone.
+// PID carries anything but whole sections that may be repeated.
 #[tactic(auto, unfolding(crate::specs::SteadySections::section_by))]
 fn section_at<'f>(count: u64, finding: &'f Finding<'_>) -> Option<Option<FoundSection<'f>>>
     ensures { option_map (λ one. map spec.section_view (option_to_list one)) result
         ≡ spec.section_at count (finding_view finding.now) }
 {
     match &finding.what {
-        What::Section(part) => Some(Some(FoundSection {
-            begun: begun_at(finding),
-            bytes: part.bytes(),
-        })),
+        What::Section(part) => section_of(begun_at(finding), part.bytes()),
         What::Duplicate => Some(None),
         What::Stray(_) => Some(None),
         What::Truncated(_) => {
@@ -252,7 +278,8 @@ fn none_changes(known: &[FoundSection<'_>]) -> bool
 
 #[tactic(auto)]
 fn has_same(others: &[FoundSection<'_>], section: &FoundSection<'_>) -> bool
-    ensures { result ≡ list_any (spec.is_same_section (spec.section_view section.now)) (map spec.section_view others.now) }
+    ensures { result ≡ list_any (spec.is_same_section (spec.section_view section.now))
+        (map spec.section_view others.now) }
 {
     others.iter().any(|other| is_same_section(section, other))
 }

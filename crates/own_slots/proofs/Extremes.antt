@@ -1,4 +1,4 @@
--- The greatest and the least of finitely many numbers.
+-- The greatest and the least of finitely many numbers
 use Rattle.std.proofs.Common.{◌+◌, max, ◌≡◌, ℕ, zero, suc, ◌<◌, ◌≤◌, ◌⊎◌, min, refl, ◌∙◌, inl, inr, arith, add-one}
 use Rattle.std.proofs.lemmas.Bool.{cases_lt, cases_eq}
 use Rattle.own_slots.specs.Extremes.{greatest, least}
@@ -21,7 +21,7 @@ pub record Reached (n : ℕ) (f : ℕ → ℕ) (m : ℕ) : Type 0 where
   pub below : at < n
   pub same : m ≡ f at
 
--- the greatest is one of them
+-- The greatest number is among the numbers.
 pub greatest_reached : (n : ℕ) (f : ℕ → ℕ) → 0 < n → Reached n f (greatest n f)
 unfolding greatest
 greatest_reached zero f pos = absurd (omega arith)
@@ -43,7 +43,7 @@ least_at_most top (suc n) f i lt = elim (cases_eq i n) [
   | inr d ↦ omega (arith, least_at_most top n f i (omega arith))
 ]
 
--- the least is the top or one of them
+-- The least number is the top or among the numbers.
 pub least_reached : (top n : ℕ) (f : ℕ → ℕ) → (least top n f ≡ top) ⊎ Reached n f (least top n f)
 unfolding least
 least_reached top zero f = inl refl
@@ -55,7 +55,7 @@ least_reached top (suc n) f = elim (cases_lt (least top n f) (f n)) [
   | inr le ↦ inr (record { at = n; below = omega arith; same = omega arith })
 ]
 
--- ---- one number more
+-- ---- One more number
 
 pub greatest_none : (f : ℕ → ℕ) → greatest 0 f ≡ 0
 unfolding greatest
@@ -73,7 +73,7 @@ pub least_more : (top n : ℕ) (f : ℕ → ℕ) → least top (n + 1) f ≡ min
 unfolding least
 least_more top n f = rw (add-one n) refl
 
--- the least is never above the top
+-- The least number is never greater than the top.
 pub least_below : (top n : ℕ) (f : ℕ → ℕ) → least top n f ≤ top
 unfolding least
 least_below top zero f = omega arith

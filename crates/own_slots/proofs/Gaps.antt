@@ -1,4 +1,4 @@
--- Gaps of own slots, from one period to all time.
+-- Gaps of own slots, from one period to all time
 use Rattle.std.proofs.Common.{false, max, ◌≡◌, ℕ, ◌+◌, ◌-◌, ◌*◌, ◌/◌, ◌%◌, ◌<◌, ◌≤◌, Bool, true, List, length, ap, sym, ◌∙◌, inl, inr, arith, le_antisymm}
 use Rattle.std.proofs.Math.Nat.{mod-add-div'}
 use Rattle.std.proofs.lemmas.Nat.{mod_below}
@@ -11,7 +11,7 @@ use Rattle.own_slots.proofs.Extremes.{at_most_greatest, greatest_at_most, greate
 use Rattle.own_slots.proofs.Counts.{own_before_lt, windows_serve}
 use Rattle.own_slots.proofs.PositionLemmas.{own_before_period, positions_law, position_below, position_turns}
 
--- what the gap says of one period holds of all own slots
+-- A bound on the gaps of one period bounds the gaps of all own slots.
 pub gaps_all : (marks : List Bool) (k g : ℕ) → 0 < per_period marks → gap marks k ≤ g → (i : ℕ) → position marks (i + k) ≤ position marks i + g
 gaps_all marks k g pos le i =
     let r : ℕ = i % per_period marks in
@@ -27,7 +27,7 @@ gaps_all marks k g pos le i =
     far : (r y c i k : ℕ) → r + y * c ≡ i → i + k ≡ (r + k) + y * c
     far r y c i k e = omega arith
 
--- the first k own slots stand within g slots of the run's begin
+-- The first k own slots lie within g slots of the run's beginning.
 pub gap_first : (marks : List Bool) (k g : ℕ) → 0 < per_period marks → gap marks k ≤ g → 0 < k → position marks (k - 1) < g
 gap_first marks k g pos le some =
     let c : ℕ = per_period marks in
@@ -39,7 +39,7 @@ gap_first marks k g pos le some =
 pub gap_law : GapLaw
 gap_law marks k g pos le = windows_serve (own marks) (position marks) k g (positions_law marks pos) (gaps_all marks k g pos le) (gap_first marks k g pos le)
 
--- ---- one walk over the slots
+-- ---- One walk over the slots
 
 ahead_own : (marks : List Bool) (k s : ℕ) → own marks s ≡ true → ahead marks k s ≡ position marks (own_before (own marks) s + k) - s
 ahead_own marks k s y = cond-true (own marks s) (position marks (own_before (own marks) s + k) - s) 0 y
@@ -65,7 +65,7 @@ gap_walk_law marks k pos = le_antisymm
         at_most_greatest (per_period marks) (λ j. position marks (j + k) - position marks j) i few in
         omega (arith, ahead_own marks k s y, near, (positions_law marks pos).found s y)
 
--- one slot more of the walk
+-- One more slot of the walk
 
 pub gap_more : (marks : List Bool) (k s : ℕ) → own marks s ≡ true →
     greatest (s + 1) (ahead marks k) ≡ max (greatest s (ahead marks k)) (position marks (own_before (own marks) s + k) - s)

@@ -1,4 +1,4 @@
--- A part of an item's own slots.
+-- A part of an item's own slots
 use Rattle.std.proofs.Common.{ℕ, zero, suc, Bool, List, [], ◌∷◌, inl, inr, arith}
 use Rattle.std.proofs.lemmas.Bool.{cases_Bool}
 use Rattle.own_slots.specs.Slots.{own_slots, Rises}

@@ -1,4 +1,4 @@
--- The positions of the own slots of a repeated period.
+-- The positions of the own slots of a repeated period
 use Rattle.std.proofs.Common.{◌≡◌, ℕ, zero, suc, ◌+◌, ◌*◌, ◌/◌, ◌%◌, ◌<◌, ◌≤◌, Bool, true, false, List, [], ◌∷◌, length, get_or, refl, ap, sym, ◌∙◌, arith}
 use Rattle.std.proofs.Math.Nat.{add-zero, zero-mul, mod-eq_of_lt, add-mod_right, add-mul-mod_self_right, div-add-mod', div-eq_of_lt}
 use Rattle.std.proofs.lemmas.Nat.{mod_below}
@@ -8,13 +8,13 @@ use Rattle.own_slots.specs.Slots.{own_before}
 use Rattle.own_slots.specs.Period.{own, places, per_period, position, PositionsLaw}
 use Rattle.own_slots.proofs.Counts.{own_before_front, own_before_same, same_number, own_before_lt, before_from}
 
--- ---- one period
+-- ---- One period
 
--- a list's marks, none past its end
+-- The marks of a list; no slot past its end is marked
 abbrev marked : List Bool → ℕ → Bool
 marked marks s = get_or marks s false
 
--- place number i, counted from b: q slots on, a marked slot, with i marked slots before it
+-- Place number i, counted from b, lies q slots later; it is marked, and i marked slots lie before it.
 record Placed (marks : List Bool) (b i : ℕ) : Type 0 where
   q : ℕ
   within : q < length marks
@@ -56,7 +56,7 @@ places_le [] b = omega arith
 places_le (true ∷ marks) b = omega (arith, places_le marks (suc b))
 places_le (false ∷ marks) b = omega (arith, places_le marks (suc b))
 
--- ---- the period repeated
+-- ---- The period repeated
 
 pub per_period_le : (marks : List Bool) → per_period marks ≤ length marks
 per_period_le marks = places_le marks 0
@@ -121,9 +121,9 @@ positions_law marks pos = record {
       ((position_at marks (own_before (own marks) s) pos).1);
 }
 
--- ---- positions, one by one
+-- ---- Positions, one by one
 
--- a position lies before the period's end exactly where its number is of the first period
+-- A position lies before the period's end exactly if its number belongs to the first period.
 pub position_below : (marks : List Bool) (i : ℕ) → 0 < per_period marks → i < per_period marks → position marks i < length marks
 position_below marks i pos lt = before_from (own marks) (position marks i) (length marks) (omega (arith, (position_at marks i pos).1, own_before_period marks))
 

@@ -1,4 +1,4 @@
--- Rounds of a table, and recurrence of the own slots' bytes.
+-- Rounds of a table, and recurrence of the own slots' bytes
 use Rattle.std.proofs.Common.{◌≡◌, ℕ, zero, suc, ◌+◌, ◌-◌, ◌*◌, ◌/◌, ◌%◌, ◌<◌, ◌≤◌, Bool, true, false, eqb, map, refl, ap, ◌∙◌, inl, inr, arith}
 use Rattle.std.proofs.Math.Nat.{div-add-mod', add-zero}
 use Rattle.std.proofs.lemmas.Nat.{mod_below, mod-mul-add}
@@ -8,7 +8,7 @@ use Rattle.own_slots.specs.Slots.{own_before, AtLeastPerWindow, own_slots}
 use Rattle.own_slots.specs.Rounds.{starts, RoundLaw, RecurrenceLaw, PcrLaw, TableLaw}
 use Rattle.own_slots.proofs.Counts.{own_before_other, own_before_lt, own_before_le, before_from, number_of, Numbered}
 
--- ---- rounds
+-- ---- Rounds
 
 record Next (k place a : ℕ) : Type 0 where
   number : ℕ
@@ -16,7 +16,7 @@ record Next (k place a : ℕ) : Type 0 where
   near : number < a + k
   is_place : number % k ≡ place
 
--- among k numbers in a row one is the place
+-- Among k numbers in a row, one number is at the place.
 next_place : (k place a : ℕ) → place < k → Next k place a
 next_place k place a lt = elim (cases_lt place (a % k)) [
   | inl past ↦ record {
@@ -59,9 +59,9 @@ round_law own k place g lt serves s =
     from : (s t : ℕ) → own t ≡ true → own_before own s ≤ own_before own t → s ≤ t
     from s t y le = elim (cases_lt t s) [ inl k ↦ absurd (omega (arith, own_before_lt own t s y k)) | inr k ↦ k ]
 
--- ---- recurrence
+-- ---- Recurrence
 
--- from slot s on: the last byte before is `before`, and no own slot stands from slot b to s
+-- The bytes recur from slot s on, if the last byte before s is at `before` and no own slot lies from slot b to s.
 recur_from : (own : ℕ → Bool) (g offset rate limit : ℕ) → AtLeastPerWindow own g 1 → g * 1504000 ≤ limit * rate → (n s b before : ℕ) →
     b ≤ s → own_before own s ≡ own_before own b → 188 * b + offset ≤ before + 188 →
     Recur rate limit before (map (λ t. 188 * t + offset) (own_slots own s n)) (188 * (s + n))

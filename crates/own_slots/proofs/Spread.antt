@@ -1,4 +1,4 @@
--- Spread of own slots: from one period to a pace over all time, and to the two extremes of one walk.
+-- Spread of own slots: from one period to a pace over all time, and to the two extremes of one walk
 use Rattle.std.proofs.Common.{false, max, min, ◌≡◌, ℕ, ◌+◌, ◌-◌, ◌*◌, ◌/◌, ◌%◌, ◌<◌, ◌≤◌, ◌⊎◌, Bool, true, cond, List, length, ap, sym, ◌∙◌, inl, inr, arith}
 use Rattle.std.proofs.Common.{le_antisymm}
 use Rattle.std.proofs.Math.Nat.{mod-add-div', mul-le-mul_left, mul-le-mul_right}
@@ -13,13 +13,13 @@ use Rattle.own_slots.proofs.Extremes.{least_more, least_none, least_below, Reach
 use Rattle.own_slots.proofs.Counts.{own_before_lt, before_from, windows_serve}
 use Rattle.own_slots.proofs.PositionLemmas.{per_period_le, own_before_period, positions_law, position_below, position_turns}
 
--- ---- all own slots
+-- ---- All own slots
 
 spread_step : (c n a p q i j y z : ℕ) → (c * p + j * n) - (c * q + i * n) ≤ a →
     c * (p + y * n) + (j + z * c) * n ≤ c * (q + z * n) + (i + y * c) * n + a
 spread_step c n a p q i j y z h = omega (arith, h)
 
--- what the spread says of one period holds of all own slots
+-- A bound on the spread of one period bounds all own slots.
 pub spreads_all : (marks : List Bool) (a : ℕ) → 0 < per_period marks → spread marks ≤ a → (i j : ℕ) →
     per_period marks * position marks i + j * length marks ≤ per_period marks * position marks j + i * length marks + a
 spreads_all marks a pos le i j =
@@ -41,13 +41,13 @@ spreads_all marks a pos le i j =
         (c * p + t * n) - (c * q + r * n) ≤ a → c * pi + j * n ≤ c * pj + i * n + a
     joined c n a p q r t y z pi pj i j ei ej si sj h = rw (ei, ej, ← si, ← sj) (spread_step c n a p q r t y z h)
 
--- ---- pace
+-- ---- Pace
 
--- own slot number i + m comes within w slots of own slot number i
+-- Own slot number i + m lies within w slots of own slot number i.
 pub rate_step : (c n a m w p q i : ℕ) → c * q + i * n ≤ c * p + (i + m) * n + a → a + m * n < c * (w + 1) → q ≤ p + w
 rate_step c n a m w p q i h k = elim (cases_lt (p + w) q) [ inl far ↦ absurd (omega (arith, mul-le-mul_left c far, h, k)) | inr near ↦ near ]
 
--- and the first m within w slots of the run's begin, counted from the last own slot of the period before it
+-- The first m own slots lie within w slots of the run's beginning, counted from the last own slot of the previous period.
 first_arith : (c d n a m e w p q : ℕ) → d + 1 ≡ c → e + 1 ≡ m → c * q + d * n ≤ c * p + e * n + a → p < n → a + m * n < c * (w + 1) → w ≤ q → ⊥
 first_arith c d n a m e w p q ed em h last k far =
     omega (arith, h, k, mul-le-mul_left c last, mul-le-mul_left c far, ap (λ (v : ℕ). v * n) ed, ap (λ (v : ℕ). v * n) em)
@@ -67,7 +67,7 @@ rate_law marks a pos le m w k = windows_serve (own marks) (position marks) m w (
     (λ i. rate_step (per_period marks) (length marks) a m w (position marks i) (position marks (i + m)) i (spreads_all marks a pos le (i + m) i) k)
     (rate_first marks a pos le m w k)
 
--- ---- share
+-- ---- Share
 
 share_arith : (c n a w m p q s i : ℕ) → 0 < n → 0 < w → c * p + (i + m) * n ≤ c * q + i * n + a → s ≤ p → q < s + w → m ≤ ((w - 1) * c + a) / n
 share_arith c n a w m p q s i pos some h near far = le-div m ((w - 1) * c + a) n pos (bound c n a (w - 1) m p q i h (omega arith))
@@ -96,13 +96,13 @@ share_law marks a w pos le some s = elim (cases_lt (own_before (own marks) s + m
         share_arith (per_period marks) (length marks) a w most (position marks i) (position marks (i + most)) s i (omega (arith, per_period_le marks)) some
         (spreads_all marks a pos le i (i + most)) here there
 
--- ---- one walk over the slots
+-- ---- One walk over the slots
 
--- the raised place of own slot number i
+-- The raised place of own slot number i
 abbrev level : List Bool → ℕ → ℕ
 level marks i = raised (per_period marks) (length marks) (position marks i) i
 
--- what the walk keeps at slot t
+-- The value that the walk keeps at slot t
 abbrev high_at : List Bool → ℕ → ℕ
 high_at marks t = cond (own marks t) (raised (per_period marks) (length marks) t (own_before (own marks) t)) 0
 
@@ -128,7 +128,7 @@ low_position marks i pos =
     (top marks) ((positions_law marks pos).is_own i)
     ∙ ap (raised (per_period marks) (length marks) (position marks i)) ((positions_law marks pos).counted i)
 
--- the difference of a pair is the difference of its raised places
+-- The difference of a pair is the difference of its raised places.
 pair_arith : (c n p q i j : ℕ) → i ≤ c → j ≤ c → (c * p + j * n) - (c * q + i * n) ≡ (c * p + (c - i) * n) - (c * q + (c - j) * n)
 pair_arith c n p q i j hi hj = raise c n p q i j (c - i) (c - j) (omega arith) (omega arith)
   where
@@ -221,7 +221,7 @@ spread_walk_law marks pos = le_antisymm
     walked h (inl e) = omega (arith, e, h.same, high_below h.at h.below)
     walked h (inr l) = omega (arith, h.same, l.same, ends h.at l.at h.below l.below)
 
--- one slot more of the walk
+-- One more slot of the walk
 
 pub highest_more : (marks : List Bool) (s : ℕ) → own marks s ≡ true →
     highest marks (s + 1) ≡ max (highest marks s) (raised (per_period marks) (length marks) s (own_before (own marks) s))

@@ -1,4 +1,4 @@
--- Two plans: own slots, gaps, pace, share and work across the switch.
+-- Two plans: own slots, gaps, pace, share and work across the switch
 use Rattle.std.proofs.Common.{◌≡◌, ℕ, zero, suc, ◌+◌, ◌-◌, ◌*◌, ◌<◌, ◌≤◌, max, Bool, true, cond, ltb, List, length, refl, ap, sym, ◌∙◌, inl, inr, arith}
 use Rattle.std.proofs.Math.Nat.{add-suc, add-zero, mul-le-mul_left}
 use Rattle.std.proofs.lemmas.Bool.{cases_Bool, cases_lt, cond-true, cond-false, lt-ltb, le-ltb}
@@ -11,7 +11,7 @@ use Rattle.own_slots.proofs.PositionLemmas.{own_before_turns, positions_law, pos
 use Rattle.own_slots.proofs.Gaps.{gaps_all, gap_first}
 use Rattle.own_slots.proofs.Spread.{spreads_all, rate_step, rate_first}
 
--- ---- own slots counted over the switch
+-- ---- Own slots, counted across the switch
 
 pub joined_first : (first second : ℕ → Bool) (at s : ℕ) → s < at → joined first second at s ≡ first s
 joined_first first second at s lt = cond-true (ltb s at) (first s) (second (s - at)) (lt-ltb s at lt)
@@ -43,7 +43,7 @@ own_before_second first second at (suc d) = rw add-suc (elim (cases_Bool (second
   )
 ])
 
--- ---- share
+-- ---- Share
 
 pub switch_spare_law : SwitchShareLaw
 switch_spare_law first second at w m n few some s = elim (cases_lt at (s + w)) [
@@ -73,9 +73,9 @@ switch_spare_law first second at w m n few some s = elim (cases_lt at (s + w)) [
         let there : J (s + w) ≡ own_before first at + own_before second ((s - at) + w) = ap J f ∙ own_before_second first second at ((s - at) + w) in
         omega (arith, here, there, some (s - at))
 
--- ---- positions before a period's end
+-- ---- Positions before a period's end
 
--- two numbers that are whole periods apart stand whole periods apart
+-- Own slots whose numbers are whole periods apart lie whole periods apart.
 turned : (marks : List Bool) (i j u v : ℕ) → 0 < per_period marks → i + u * per_period marks ≡ j + v * per_period marks →
     position marks i + u * length marks ≡ position marks j + v * length marks
 turned marks i j u v pos e = sym (position_turns marks i u pos) ∙ ap (position marks) e ∙ position_turns marks j v pos
@@ -84,12 +84,12 @@ own_before_end : (marks : List Bool) (y : ℕ) → own_before (own marks) (y * l
 own_before_end marks y = let z : own_before (own marks) 0 ≡ 0 = unfold own_before in refl in
     let e : y * length marks ≡ 0 + y * length marks = omega arith in ap (own_before (own marks)) e ∙ omega (arith, own_before_turns marks 0 y, z)
 
--- the own slots numbered below y periods' stand before the end of y periods
+-- The own slots with numbers below the count of y periods lie before the end of y periods.
 before_end : (marks : List Bool) (i y : ℕ) → 0 < per_period marks → i < y * per_period marks → position marks i < y * length marks
 before_end marks i y pos lt =
     before_from (own marks) (position marks i) (y * length marks) (omega (arith, (positions_law marks pos).counted i, own_before_end marks y))
 
--- `back` is not cut off at 0
+-- The subtraction in `back` is exact.
 back_whole : (marks : List Bool) (x : ℕ) → 0 < per_period marks → 0 < x → back marks x + position marks (x * per_period marks - x) ≡ x * length marks
 back_whole marks x pos some = omega (arith, before_end marks (x * per_period marks - x) x pos (less (per_period marks) (mul-le-mul_left x pos)))
   where
@@ -103,7 +103,7 @@ back_spec marks x y pos some le =
     let e : (y * per_period marks - x) + x * per_period marks ≡ (x * per_period marks - x) + y * per_period marks = omega (arith, long) in
     omega (arith, turned marks (y * per_period marks - x) (x * per_period marks - x) x y pos e, back_whole marks x pos some)
 
--- further back than y periods have own slots it stands before them
+-- If y periods have fewer than x own slots, the own slot x places back lies before these periods.
 back_far : (marks : List Bool) (x y : ℕ) → 0 < per_period marks → y * per_period marks < x → y * length marks + 1 ≤ back marks x
 back_far marks x y pos lt =
     let long : x * 1 ≤ x * per_period marks = mul-le-mul_left x pos in
@@ -117,9 +117,9 @@ back_law marks x y s pos some is_own e =
     let at : position marks (y * per_period marks - x) ≡ s = ap (position marks) (sym n) ∙ (positions_law marks pos).found s is_own in
     omega (arith, at, back_spec marks x y pos some (omega (arith, e)))
 
--- ---- positions over the switch
+-- ---- Positions across the switch
 
--- own slot number i over the switch, the first plan kept for `periods` periods
+-- The position of own slot number i across the switch, if the first plan runs for `periods` periods
 abbrev over : List Bool → List Bool → ℕ → ℕ → ℕ
 over first second periods i =
     cond (ltb i (periods * per_period first)) (position first i) (periods * length first + position second (i - periods * per_period first))
@@ -169,7 +169,7 @@ over_enumerates first second periods p1 p2 = record {
     at_number : (i : ℕ) → (J (over first second periods i) ≡ true) × (own_before J (over first second periods i) ≡ i)
     at_number i = elim (cases_lt i (periods * per_period first)) [ inl lt ↦ early i lt | inr le ↦ late i le ]
 
--- windows over the switch: within each plan, and across it
+-- Windows within each plan, and across the switch
 windows_over : (first second : List Bool) (periods m g : ℕ) → 0 < per_period first → 0 < per_period second →
     ((i : ℕ) → position first (i + m) ≤ position first i + g) → ((i : ℕ) → position second (i + m) ≤ position second i + g) →
     (0 < m → position first (m - 1) < g) → ((x z : ℕ) → 0 < x → x + z ≡ m → back first x + position second z ≤ g) →
@@ -223,9 +223,9 @@ switch_gap_law first second periods k g p1 p2 one two across =
     joint : (x z : ℕ) → 0 < x → x + z ≡ k → back first x + position second z ≤ g
     joint x z some e = let f : k - x ≡ z = omega arith in omega (arith, across x (omega arith) (omega arith), ap (position second) f)
 
--- ---- pace over the switch
+-- ---- Pace across the switch
 
--- the first plan's own slots before the switch: x back against 1 back
+-- The first plan's own slots before the switch: x slots back compared with 1 slot back
 back_spread : (marks : List Bool) (a x : ℕ) → 0 < per_period marks → 0 < x → spread marks ≤ a →
     per_period marks * back marks x + length marks ≤ per_period marks * back marks 1 + x * length marks + a
 back_spread marks a x pos some le =
@@ -243,7 +243,7 @@ back_spread marks a x pos some le =
     back_arith c n a p q i j x t b d far near e h =
         omega (arith, h, ap (λ (v : ℕ). c * v) far, ap (λ (v : ℕ). c * v) near, ap (λ (v : ℕ). v * n) e)
 
--- the second plan's own slots after it, counted from its last of the period before
+-- The second plan's own slots after the switch, counted from the last own slot of the period before
 ahead_spread : (marks : List Bool) (b z : ℕ) → 0 < per_period marks → spread marks ≤ b →
     per_period marks * (position marks z + back marks 1) ≤ (z + 1) * length marks + b
 ahead_spread marks b z pos le =
@@ -278,7 +278,7 @@ across_arith c d n k a b e mu x z w p q far near h1 h2 h3 h4 h5 some h6 = elim (
       ap (λ (v : ℕ). v * mu) e',
     )
 
--- a pace of both plans is a pace of each
+-- A pace of both plans together is a pace of each plan.
 first_pace : (c d n k a b e m w : ℕ) → (a * d + b * c + c * d * e) + m * max (n * d) (k * c) < c * d * (w + 1) → a + m * n < c * (w + 1)
 first_pace c d n k a b e m w h = elim (cases_lt (a + m * n) (c * (w + 1))) [
   | inl lt ↦ lt

@@ -1,4 +1,4 @@
--- Work of a buffer, from one period to all time.
+-- Work of a buffer, from one period to all time
 use Rattle.std.proofs.Common.{◌≡◌, ℕ, ◌+◌, ◌-◌, ◌*◌, ◌%◌, ◌<◌, ◌≤◌, max, ltb, Bool, true, false, cond, List, length, get_or, refl, ap, sym, ◌∙◌, inl, inr}
 use Rattle.std.proofs.Common.{arith}
 use Rattle.std.proofs.Math.Nat.{mod-eq_of_lt, mod_self, mod-add-mod, mul-mod_left, mul-le-mul_left}
@@ -13,7 +13,7 @@ use Rattle.own_slots.specs.Switch.{joined, joined_work, SwitchWorkLaw}
 use Rattle.own_slots.proofs.Extremes.{at_most_greatest, greatest_more}
 use Rattle.own_slots.proofs.SwitchLemmas.{joined_first, joined_second}
 
--- ---- one walk over the slots
+-- ---- One walk over the slots
 
 pub work_begin : (rate drain start : ℕ) (marks : List Bool) → work_at rate drain start marks 0 ≡ start
 unfolding work_at
@@ -27,9 +27,9 @@ work_more rate drain start marks s lt = fold_more (work_step rate drain) start m
 pub work_walk_law : WorkWalkLaw
 work_walk_law rate drain start marks = (work_begin rate drain start marks, work_more rate drain start marks)
 
--- ---- the repeated period
+-- ---- The repeated period
 
--- at slot p of a period, before the next one: what follows is at least the rule's work
+-- At slot p of a period, the work at the next slot is at least the work by the rule.
 next_work : (rate drain room start peak : ℕ) (marks : List Bool) → HoldsWork rate drain room start peak marks → (s : ℕ) → 0 < length marks →
     work_step rate drain (periodic_work rate drain start marks s) (own marks s) ≤ periodic_work rate drain start marks (s + 1)
 next_work rate drain room start peak marks holds s pos = elim (cases_lt (s % length marks + 1) (length marks)) [
@@ -87,7 +87,7 @@ work_law rate drain room start peak marks pos holds s = record {
     after : cond (own marks s) (work_at rate drain start marks (s % length marks + 1)) 0 ≤ most_after rate drain start marks
     after = at_most_greatest (length marks) (λ t. cond (get_or marks t false) (work_at rate drain start marks (t + 1)) 0) (s % length marks) within
 
--- ---- scale
+-- ---- Scale
 
 scaled : (q v d : ℕ) → q * v - 188 * (q * d) ≡ q * (v - 188 * d)
 scaled q v d = elim (cases_lt v (188 * d)) [
@@ -109,7 +109,7 @@ work_scale_law own rate drain room peak q W bounds s = record {
   peaks = λ y. rw (scaled q (W s) drain) (omega (arith, mul-le-mul_left q ((bounds s).peaks y)));
 }
 
--- ---- the extremes, one slot more of the walk
+-- ---- The extremes, with one more slot of the walk
 
 pub before_more : (rate drain start : ℕ) (marks : List Bool) (s : ℕ) → get_or marks s false ≡ true →
     greatest (s + 1) (before_at rate drain start marks) ≡ max (greatest s (before_at rate drain start marks)) (work_at rate drain start marks s + 188 * rate)
@@ -132,9 +132,9 @@ pub after_same : (rate drain start : ℕ) (marks : List Bool) (s : ℕ) → get_
 after_same rate drain start marks s n = greatest_more s (after_at rate drain start marks)
     ∙ ap (max (greatest s (after_at rate drain start marks))) (cond-false (get_or marks s false) (work_at rate drain start marks (s + 1)) 0 n) ∙ omega arith
 
--- ---- the switch
+-- ---- The switch
 
--- at the last slot of a period, what follows is at least what the period leaves
+-- At the last slot of a period, the rule gives the work that the period leaves.
 last_work : (rate drain room start peak : ℕ) (marks : List Bool) → (s y : ℕ) → 0 < length marks → s + 1 ≡ y * length marks →
     work_step rate drain (periodic_work rate drain start marks s) (own marks s) ≡ work_left rate drain start marks
 last_work rate drain room start peak marks s y pos e = sym (work_more rate drain start marks (s % length marks) within)

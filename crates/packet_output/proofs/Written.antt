@@ -1,4 +1,4 @@
--- What is written and what waits, after one more packet, a part written, or a part that failed.
+-- The written bytes and the waiting bytes, after one more packet, after a written part, and after a part that failed.
 use Rattle.std.proofs.Common.{◌≡◌, ℕ, ◌+◌, ◌<◌, ◌≤◌, Bool, true, false, List, [], ◌∷◌, ◌++◌, length, take, Option, Some, Result, Ok, Err, refl, sym, ap, ◌∙◌}
 use Rattle.std.proofs.Common.{subst, arith, append_assoc, append-nil}
 use Rattle.std.proofs.lemmas.List.{length-append, length-set, take-append-le, take_all, take_more, take-set, get_or-set_same}
@@ -13,13 +13,13 @@ use Rattle.packet_output.specs.Buffer.{byte_count, waiting_of, with_next, Buffer
 use Rattle.packet_output.specs.Formats.{formatted}
 use Rattle.packet_output.specs.declared.output.OutputFault.{OutputFault}
 
--- 1. What waits
+-- 1. The waiting bytes
 
--- the bytes of packets
+-- The bytes of packets, joined.
 abbrev pub joined : List (List ℕ) → List ℕ
 joined packets = flat_map (λ packet. packet) packets
 
--- a packet more waits
+-- One more packet waits.
 joined_more : (rooms : List (List ℕ)) (n : ℕ) (packet : List ℕ) → slice_get rooms n ≡ Some packet → joined (take (n + 1) rooms) ≡ joined (take n rooms)
     ++ packet
 joined_more rooms n packet at =
@@ -27,19 +27,19 @@ joined_more rooms n packet at =
     ap joined (take_more rooms n [] inside ∙ ap (λ (x : List ℕ). take n rooms ++ x ∷ []) (get_or_from_slice_get rooms n packet [] at))
     ∙ flat_map-append (λ packet. packet) (take n rooms) (packet ∷ []) ∙ ap (λ (x : List ℕ). joined (take n rooms) ++ x) (append-nil packet)
 
--- lines alone wait
+-- Only lines wait.
 pub lines_alone : (lines : List ℕ) (rooms : List (List ℕ)) (n : ℕ) → n ≡ 0 → lines ≡ lines ++ joined (take n rooms)
 lines_alone lines rooms n none = sym (ap (λ (k : ℕ). lines ++ joined (take k rooms)) none ∙ append-nil lines)
 
--- all rooms wait, and no lines
+-- Packets wait in all rooms, and no lines wait.
 pub rooms_alone : (lines : List ℕ) (rooms : List (List ℕ)) (n : ℕ) → lines ≡ [] → length rooms ≤ n → joined rooms ≡ lines ++ joined (take n rooms)
 rooms_alone lines rooms n none all = ap joined (sym (take_all n rooms all)) ∙ ap (λ (x : List ℕ). x ++ joined (take n rooms)) (sym none)
 
--- nothing is collected yet
+-- Nothing is collected yet.
 pub holds_none : (start : Option (List ℕ)) (buffer : Buffered) → waiting_of buffer ≡ [] → buffer.sent ≡ 0 → IsOutput start start buffer []
 holds_none start buffer none unsent = record { written = []; taken = Appends-nil start; is = sym none; sent = unsent }
 
--- the packet in the room of the next one does not wait yet
+-- A packet in the next free room does not wait yet.
 pub next_put : (start now : Option (List ℕ)) (old : Buffered) (all packet : List ℕ) → IsOutput start now old all → IsOutput start now (with_next old packet) all
 next_put start now old all packet h = record {
   written = h.written;
@@ -54,9 +54,9 @@ next_is old packet room =
     let size : length rooms ≡ length old.rooms = length-set old.rooms old.count packet in
     slice_get-get_or rooms old.count packet (omega (arith, size, room)) ∙ ap Some (get_or-set_same old.rooms old.count packet packet room)
 
--- 2. A packet more
+-- 2. One more packet
 
--- more waits
+-- More bytes wait.
 holds_more : (start now : Option (List ℕ)) (old new : Buffered) (all part : List ℕ) → IsOutput start now old all →
     waiting_of new ≡ waiting_of old ++ part → new.sent ≡ old.sent → IsOutput start now new (all ++ part)
 holds_more start now old new all part h more same = record {
@@ -66,7 +66,7 @@ holds_more start now old new all part h more same = record {
   sent = same ∙ h.sent;
 }
 
--- as its bytes: the room of the next packet is the one after it
+-- The packet waits as its bytes, and the next room is the room after it.
 packet_waits : (start now : Option (List ℕ)) (old : Buffered) (all packet : List ℕ) → old.hex ≡ false → HasNext old packet → IsOutput start now old all →
     IsOutput start now (record old { count = old.count + 1 }) (all ++ formatted old.hex packet)
 unfolding formatted
@@ -76,7 +76,7 @@ packet_waits start now old all packet bytes next h =
     (ap (λ (x : List ℕ). old.lines ++ x) (joined_more old.rooms old.count packet next)
     ∙ sym (append_assoc old.lines (joined (take old.count old.rooms)) packet)) refl)
 
--- as a line
+-- The packet waits as a line.
 line_waits : (start now : Option (List ℕ)) (old : Buffered) (all packet lines first : List ℕ) → old.hex ≡ true → old.count ≡ 0 → HasNext old packet →
     slice_get old.rooms 0 ≡ Some first → lines ≡ old.lines ++ formatted true first → IsOutput start now old all →
     IsOutput start now (record old { lines = lines }) (all ++ formatted old.hex packet)
@@ -88,7 +88,7 @@ line_waits start now old all packet lines first hex none next there line h =
     (sym (lines_alone lines old.rooms old.count none) ∙ line ∙ ap (λ (x : List ℕ). old.lines ++ formatted true x) same
     ∙ ap (λ (x : List ℕ). x ++ formatted true packet) (lines_alone old.lines old.rooms old.count none)) refl)
 
--- the same of what a struct has inside
+-- The packet waits, with the fields inside a struct.
 pub packet_waits_inside : (start now : Option (List ℕ)) (inside old : Buffered) (all packet : List ℕ) → inside ≡ old → inside.hex ≡ false → HasNext old packet →
     IsOutput start now old all → IsOutput start now (record inside { count = inside.count + 1 }) (all ++ formatted old.hex packet)
 packet_waits_inside start now inside old all packet same bytes =
@@ -105,21 +105,21 @@ line_waits_inside start now inside old all packet lines first same hex none next
     same
     (λ there h. line_waits start now inside all packet lines first hex none there at line h) next
 
--- 3. What waits is written
+-- 3. The waiting bytes are written
 
--- what was answered of a part that was written after `before` bytes
+-- The result of writing a part after `before` bytes.
 pub record Wrote (now later : Option (List ℕ)) (part : List ℕ) (before : ℕ) (result : Result ℕ OutputFault) : Type 0 where
   pub ok : IfOk result (λ n. n ≡ byte_count (before + length part))
   pub bytes : OnOk result (Appends now later part)
   pub err : IfErr result (λ fault. TookPart now later part before fault.sent)
 
--- all that waited was written, or not
+-- The waiting bytes are written, or writing them failed.
 pub record PartOut (start now later : Option (List ℕ)) (all : List ℕ) (result : Result ℕ OutputFault) : Type 0 where
   pub buffer : Buffered
   pub holds : IsOutput start now buffer all
   pub wrote : Wrote now later (waiting_of buffer) buffer.sent result
 
--- of a part that is what waited
+-- Writing a part that is all waiting bytes.
 pub part_out : (start now later : Option (List ℕ)) (buffer : Buffered) (all part : List ℕ) (before : ℕ) (result : Result ℕ OutputFault) →
     IsOutput start now buffer all →
     part ≡ waiting_of buffer → before ≡ buffer.sent → IfOk result (λ n. n ≡ byte_count (before + length part)) → OnOk result (Appends now later part) →
@@ -168,7 +168,7 @@ out_in_part start now later all result fault out err =
       sent_is = t.sent_is ∙ ap (λ (n : ℕ). byte_count (n + t.count)) h.sent ∙ counts_on (length h.written) t.count;
     }
 
--- the writer took the first bytes of what goes on
+-- If the writer took the first bytes of an output, they are the first bytes of any longer output.
 pub took_longer : (start now : Option (List ℕ)) (sent : ℕ) (all more : List ℕ) → Took start now sent all → Took start now sent (all ++ more)
 took_longer start now sent all more t = record {
   count = t.count;
@@ -177,7 +177,7 @@ took_longer start now sent all more t = record {
   sent_is = t.sent_is;
 }
 
--- where the output ends with a part, what the writer took of it if it failed
+-- If writing the last part fails, the writer took the first bytes of the output.
 pub out_ends : (start now later : Option (List ℕ)) (all : List ℕ) (result : Result ℕ OutputFault) → PartOut start now later all result →
     IfErr result (λ fault. Took start later fault.sent all)
 out_ends start now later all (Ok n) out = tt

@@ -86,7 +86,8 @@ impl<A: Allocator> PacketOutput<A> {
 
     /// Returns the room of the next packet.
     pub fn room(&mut self) -> &mut [u8; 188]
-        ensures* next { sem 𝓛 (Lends (the_row A.row A.Allocator) (Array byte 0) self.entry result (with_next self.old)) }
+        ensures* next { sem 𝓛 (Lends (the_row A.row A.Allocator)
+            (Array byte 0) self.entry result (with_next self.old)) }
         ensures there { self.old.count < length self.old.rooms }
     {
         &mut self.rooms[self.count]

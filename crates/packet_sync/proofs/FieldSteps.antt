@@ -1,4 +1,4 @@
--- Fields that are not written again, step by step.
+-- The fields that are left out, step by step.
 use Rattle.std.proofs.Common.{◌≡◌, ◌≤◌, ◌<◌, ℕ, zero, suc, ◌+◌, ◌-◌, nat_lt, true, false, refl, sym, arith, ◌∙◌, List, length, None, Some}
 use Rattle.packet_sync.specs.FieldsLeftOut.{fields_from, packet_at, with_next, with_packet}
 use Rattle.packet_sync.specs.Slips.{slip_size}

@@ -1,4 +1,4 @@
--- The first 409 bytes of a stream tell what packets it has.
+-- The first 409 bytes of a stream determine which packets it has.
 use Rattle.std.proofs.Common.{◌≡◌, ◌≤◌, ◌<◌, ℕ, ◌&&◌, List, ◌++◌, length, refl, arith}
 use Rattle.packet_sync.specs.Slips.{is_in_step, is_sync}
 use Rattle.packet_sync.specs.OtherPackets.{are_apart, other_packets}

@@ -1,4 +1,4 @@
--- What is said of a stream, from some of its rest on.
+-- The notes on a stream, computed from its rest.
 use Rattle.std.proofs.Common.{◌≡◌, ◌≤◌, ◌<◌, inl, inr, ℕ, zero, suc, ◌+◌, ◌*◌, ◌-◌, ◌/◌, ◌==◌, nat_lt, Bool, true, false, refl, sym, ap, ap₂, subst, arith, ◌∙◌}
 use Rattle.std.proofs.Common.{List, [], ◌∷◌, ◌++◌, length, length-append, length-drop, map, take, drop, Option, None, Some, append_assoc, append-nil, drop-drop}
 use Rattle.std.proofs.lemmas.Bool.Decides.{nat_tests}
@@ -58,7 +58,7 @@ later (suc n) zero bs p q a b some more = later_end (suc n) zero bs p q a b (ome
 later (suc n) (suc m) bs p q a b some more =
     later_place n m bs p q a b some more (nat_lt (length bs) (a + b + 188)) refl (λ q b some more. later n m bs p q a b some more)
 
--- all of them
+-- All slips from byte a on are the slips of the rest.
 later_all : (n : ℕ) (bs : List ℕ) (p a : ℕ) → length bs ≤ n + a → slips_from n bs p a ≡ map (later_slip p a) (slips (drop a bs))
 unfolding slips
 later_all n bs p a some =
@@ -85,7 +85,7 @@ later_none (s ∷ ss) =
 
 -- 2. After some packets in step
 
--- the first k of them
+-- If the first k packets are in step, all slips are after them.
 steady_slips : (k : ℕ) (bs : List ℕ) → 188 * k ≤ length bs → Steady bs (188 * k) → slips bs ≡ slips_from (length bs - k) bs k (188 * k)
 unfolding slips
 steady_slips zero bs within steady = let e : length bs ≡ length bs - 0 = omega arith in ap (λ (n : ℕ). slips_from n bs 0 0) e
@@ -201,7 +201,7 @@ lost_fields k size bs found long steady is =
     ∙ sym (after_slip (length bs - k) bs (188 * k) size (with_packets k bs found) left long (sym is))
     ∙ fields_all (length bs - k - 1) bs (188 * k + size) (with_packets k bs found) (omega (arith, least))
 
--- of bytes after which others come
+-- A packet within the first bytes is the same if more bytes follow.
 packet_front : (bs more : List ℕ) (at : ℕ) → at + 188 ≤ length bs → packet_at (bs ++ more) at ≡ packet_at bs at
 packet_front bs more at within =
     let fits : at ≤ length bs = omega (arith, within) in
@@ -214,9 +214,9 @@ packets_front zero bs more found within = refl
 packets_front (suc k) bs more found within =
     ap₂ with_packet (packet_front bs more (188 * k) (omega (arith, within))) (packets_front k bs more found (omega (arith, within)))
 
--- 4. A stretch is noted
+-- 4. The notes after a stretch
 
--- some packets, and no slip
+-- Some packets without a slip
 packets_alike : (k : ℕ) (bytes more : List ℕ) (old : NotesView) → 188 * k ≤ length bytes → Steady (bytes ++ more) (188 * k) →
     SayAlike old (bytes ++ more)
     (record { slips = old.slips; fields = with_packets k bytes old.fields; packet = old.packet + k; start = old.start + 188 * k })
@@ -234,7 +234,7 @@ packets_alike k bytes more old within steady =
           ∙ ap₂ (λ (r : List ℕ) (f : List FieldLeftOut). fields_from (length r) r 0 f) rest (packets_front k bytes more old.fields within);
     }
 
--- some packets, and a slip
+-- Some packets, and then a slip
 lost_alike : (k size : ℕ) (bytes more : List ℕ) (old : NotesView) → 188 * k + size ≤ length bytes → 188 * k + 188 ≤ length (bytes ++ more) →
     Steady (bytes ++ more) (188 * k) →
     slip_size (bytes ++ more) (188 * k) ≡ Some size →
@@ -263,7 +263,7 @@ lost_alike k size bytes more old within long steady is =
           ∙ ap₂ (λ (r : List ℕ) (f : List FieldLeftOut). fields_from (length r) r 0 f) rest (packets_front k bytes more old.fields front);
     }
 
--- all that is left of a stream that has ended
+-- The last bytes of a stream that has ended
 last_alike : (k size : ℕ) (bytes : List ℕ) (old : NotesView) → size ≡ length bytes → 188 * k ≤ size → size < 188 * k + 188 → Steady bytes (188 * k) →
     SayAlike old bytes (record { slips = old.slips; fields = with_packets k bytes old.fields; packet = old.packet + k; start = old.start + size }) []
 unfolding slips slips_from fields_from
@@ -276,7 +276,7 @@ last_alike k size bytes old whole within short steady =
       fields = steady_fields k bytes old.fields front steady ∙ fields_end (length bytes - k) bytes (188 * k) (with_packets k bytes old.fields) few;
     }
 
--- what is said is the same of notes that are the same
+-- Equal notes and equal rests give the same notes on the stream.
 alike_as : (old a b : NotesView) (before rest left : List ℕ) → b ≡ a → left ≡ rest → SayAlike old before a rest → SayAlike old before b left
 alike_as old a b before rest left e f so =
     subst (λ (n : NotesView). SayAlike old before n left) (sym e) (subst (λ (r : List ℕ). SayAlike old before a r) (sym f) so)
@@ -361,7 +361,7 @@ stretch_noted bytes ended s old middle new within stepped packets e f =
 
 -- 5. A whole stream
 
--- nothing is said before its first byte, and nothing is left after its last
+-- If the notes begin empty and no bytes are left, they have the slips and the fields of the whole stream.
 pub all_noted : (bytes : List ℕ) (n : NotesView) → SayAlike no_notes bytes n [] → (n.slips ≡ slips bytes) × (n.fields ≡ fields_left_out bytes)
 unfolding slips slips_from fields_from fields_left_out
 all_noted bytes n so = (

@@ -25,7 +25,7 @@ pub one_slip : (n : ℕ) (bs : List ℕ) (packet at size : ℕ) → at + 188 ≤
 unfolding slip_then
 one_slip n bs packet at size long e = next n bs packet at long ∙ (rw e refl)
 
--- 2. Where a new step is looked for
+-- 2. The places at which the search tries a new step
 
 pub found_here : (bs : List ℕ) (at size n : ℕ) → size < n → true ≡ is_new_step bs at size → new_step bs at size (n - size) ≡ Some size
 unfolding new_step
@@ -40,7 +40,7 @@ pub found_nowhere : (bs : List ℕ) (at size n : ℕ) → n ≤ size → new_ste
 unfolding new_step
 found_nowhere bs at size n past = let e : n - size ≡ 0 = omega (arith, past) in rw e refl
 
--- 3. What is found so far
+-- 3. The slips found so far
 
 pub with_packet : (n : ℕ) (bs : List ℕ) (packet at : ℕ) → length bs ≤ n + at → at + 188 ≤ length bs → None ≡ slip_size bs at →
     slips_from n bs packet at ≡ slips_from (n - 1) bs (packet + 1) (at + 188)

@@ -1,4 +1,4 @@
--- What is carried, from the front of a stream on.
+-- The carried bytes, from the front of a stream on.
 use Rattle.std.proofs.Common.{◌≡◌, ◌≤◌, ◌<◌, ◌⊎◌, inl, inr, ℕ, zero, suc, ◌+◌, ◌*◌, ◌-◌, nat_lt, Bool, true, false, if◌then◌else◌, refl, sym, ap, subst, arith}
 use Rattle.std.proofs.Common.{◌∙◌, List, [], ◌++◌, length, length-append, length-drop, take, drop, get_or, slice_get, slice_range, Option, None, Some}
 use Rattle.std.proofs.Common.{append_assoc, append-nil, drop-drop, take-add}
@@ -10,9 +10,9 @@ use Rattle.packet_sync.specs.declared.slip.Slip.{Slip}
 use Rattle.packet_sync.proofs.SlipSteps.{at_end, one_packet, one_slip}
 use Rattle.packet_sync.proofs.WholeStreams.{slip_within}
 
--- 1. A slip is decided by 1,128 bytes
+-- 1. The 1,128 bytes that decide a slip
 
--- two lists have the same bytes from two places on
+-- From a and b on, the two lists have the same 1,128 bytes.
 abbrev Agree : List ℕ → ℕ → List ℕ → ℕ → Type 0
 Agree xs a ys b = (k : ℕ) → k < 1128 → slice_get xs (a + k) ≡ slice_get ys (b + k)
 
@@ -82,7 +82,7 @@ at_front xs more k within = at_front_by xs more k within (slice_get_cases xs k).
 at_zero : (bs rest : List ℕ) (at k : ℕ) → slice_get bs (at + k) ≡ slice_get rest k → slice_get bs (at + k) ≡ slice_get rest (0 + k)
 at_zero bs rest at k is = let e : 0 + k ≡ k = omega arith in rw e is
 
--- the bytes that have come decide it, or there are no more
+-- The present bytes decide the slip, if there are 1,128 or if no more bytes follow.
 decided : (bs more : List ℕ) (at : ℕ) → (at + 1128 ≤ length bs) ⊎ (more ≡ []) → slip_size bs at ≡ slip_size (drop at bs ++ more) 0
 decided bs more at (inl long) =
     same_slip bs (drop at bs ++ more) at 0
@@ -90,13 +90,13 @@ decided bs more at (inl long) =
 decided bs more at (inr none) =
     rw (none, append-nil (drop at bs)) (same_slip bs (drop at bs) at 0 (λ k less. at_zero bs (drop at bs) at k (at_drop bs at k)))
 
--- one in the rest of a list
+-- A slip at a later place is a slip in the rest of the list.
 pub slip_later : (bs : List ℕ) (a b : ℕ) → slip_size bs (a + b) ≡ slip_size (drop a bs) b
 slip_later bs a b = same_slip bs (drop a bs) (a + b) b (λ k less.
     let e : a + (b + k) ≡ a + b + k = omega arith in
     subst (λ (i : ℕ). slice_get bs i ≡ slice_get (drop a bs) (b + k)) e (at_drop bs a (b + k)))
 
--- 3. What is carried, packet by packet
+-- 3. The carried bytes, packet by packet
 
 kept_then : Option ℕ → List ℕ → (List ℕ → List ℕ) → List ℕ
 kept_then None bs after = take 188 bs ++ after (drop 188 bs)
@@ -137,7 +137,7 @@ kept_slip : (n : ℕ) (bs : List ℕ) (size : ℕ) → 188 ≤ length bs → sli
 unfolding kept kept_then
 kept_slip n bs size long is = let e : nat_lt (length bs) 188 ≡ false = search (arith, long) in rw e (rw is refl)
 
--- no packet is left
+-- If no whole packet is left, the rest of the bytes is carried.
 at_last : (n : ℕ) (bs : List ℕ) (packet a at : ℕ) → a ≤ at → length bs < at + 188 → carried_from bs a (slips_from n bs packet at) ≡ slice_range bs a at
     ++ kept n (drop at bs)
 unfolding carried_from
@@ -185,7 +185,7 @@ carried_kept : (bs : List ℕ) → carried bs ≡ kept (length bs) bs
 unfolding slips
 carried_kept bs = same_kept (length bs) bs 0 0 0 (omega arith) (omega arith)
 
--- however much fuel there is
+-- The search returns no smaller size than its first, however many sizes it may try.
 first_from : (bs : List ℕ) (at size n k : ℕ) (b : Bool) → is_new_step bs at size ≡ b → (new_step bs at (size + 1) n ≡ Some k → size + 1 ≤ k) →
     new_step bs at size (suc n) ≡ Some k → size ≤ k
 unfolding new_step
@@ -240,7 +240,7 @@ same_fuel (suc n) (suc m) bs some more = fuel_place n m bs some more (nat_lt (le
 front_kept : (bs : List ℕ) → 188 ≤ length bs → kept (length bs) bs ≡ kept (suc (length bs)) bs
 front_kept bs long = same_fuel (length bs) (suc (length bs)) bs (omega arith) (omega arith)
 
--- 4. What is known
+-- 4. Enough bytes for a decision
 
 pub known_by : (ended : Bool) (bs more : List ℕ) (at n : ℕ) → n ≡ (if ended then 188 else 1128) → at ≤ length bs → n ≤ length bs - at →
     (ended ≡ true → more ≡ []) →
@@ -273,7 +273,7 @@ carried_slip bs size long is =
 pub carried_few : (bs : List ℕ) → length bs < 188 → carried bs ≡ bs
 carried_few bs short = carried_kept bs ∙ kept_short (length bs) bs short
 
--- what is carried up to a place in the bytes that have come
+-- The bytes up to `at` are carried as they are.
 abbrev pub SoFar : List ℕ → List ℕ → ℕ → Type 0
 SoFar bs more at = carried (bs ++ more) ≡ take at bs ++ carried (drop at bs ++ more)
 
@@ -325,13 +325,13 @@ next_last bs more at within short none so =
 
 -- 6. Steps
 
--- the bytes that have come decide it of the whole stream
+-- The present bytes decide the slip of the whole stream.
 whole_slip : (bs more : List ℕ) (at : ℕ) → at + 188 ≤ length bs → (at + 1128 ≤ length bs) ⊎ (more ≡ []) → slip_size (bs ++ more) at ≡ slip_size bs at
 whole_slip bs more at long known =
     let within : at ≤ length bs = omega (arith, long) in
     shift (bs ++ more) at ∙ ap (λ (r : List ℕ). slip_size r 0) (drop-append-le at bs more within) ∙ sym (decided bs more at known)
 
--- the step goes on after each packet of these first bytes
+-- After each packet of the first `size` bytes the step continues.
 abbrev pub Steady : List ℕ → ℕ → Type 0
 Steady bs size = (k : ℕ) → 188 * k + 188 ≤ size → slip_size bs (188 * k) ≡ None
 

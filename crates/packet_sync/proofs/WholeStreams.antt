@@ -1,4 +1,4 @@
--- A stream in step has no slip; of any stream nothing but slips is left out.
+-- A stream in step has no slip; in any stream only the slips are left out.
 use Rattle.std.proofs.Common.{◌≡◌, ◌≤◌, ◌<◌, ◌⊎◌, inl, inr, ℕ, zero, suc, ◌+◌, ◌*◌, ◌-◌, ◌%◌, ◌==◌, ◌&&◌, not, nat_lt, Bool, true, false, refl, sym, subst}
 use Rattle.std.proofs.Common.{arith, ◌∙◌, List, [], ◌∷◌, length, length-append, length-drop, length-take-le, drop, get_or, slice_get, slice_range, Option, None}
 use Rattle.std.proofs.Common.{Some}
@@ -45,7 +45,7 @@ pub carried_whole : (bs : List ℕ) → IsInStep bs → (slips bs ≡ []) × (ca
 unfolding slips carried_from
 carried_whole bs step = let e : slips_from (length bs) bs 0 0 ≡ [] = none_in (length bs) bs 0 step in (e, rw e refl)
 
--- 2. A slip lies within the stream
+-- 2. Slips within the stream
 
 first_is_by : (bs : List ℕ) (at size n k : ℕ) → (new_step bs at (size + 1) n ≡ Some k → is_new_step bs at k ≡ true) → (b : Bool) → is_new_step bs at size ≡ b →
     new_step bs at size (suc n) ≡ Some k → is_new_step bs at k ≡ true
@@ -63,11 +63,11 @@ unfolding new_step
 first_is bs at size zero k e = absurd cc
 first_is bs at size (suc n) k e = first_is_by bs at size n k (first_is bs at (size + 1) n k) (is_new_step bs at size) refl e
 
-stands_within : (bs : List ℕ) (at : ℕ) → is_sync bs at ≡ true →
+sync_within : (bs : List ℕ) (at : ℕ) → is_sync bs at ≡ true →
     ((x : ℕ) × (at < length bs) × (slice_get bs at ≡ Some x) × (get_or bs at x ≡ x)) ⊎ ((length bs ≤ at) × (slice_get bs at ≡ None)) → at < length bs
 unfolding is_sync
-stands_within bs at e (inl one) = one.1
-stands_within bs at e (inr none) =
+sync_within bs at e (inl one) = one.1
+sync_within bs at e (inr none) =
     let no : is_sync bs at ≡ false = rw none.1 refl in absurd (let both : false ≡ true = sym no ∙ e in cc)
 
 first_of_three : (a b c : Bool) → (a && b && c) ≡ true → a ≡ true
@@ -87,7 +87,7 @@ unfolding is_new_step
 new_is_in_step bs at size e = second_of_two (not (size % 188 == 0)) (is_in_step bs (at + size)) e
 
 new_within : (bs : List ℕ) (at size : ℕ) → is_new_step bs at size ≡ true → at + size < length bs
-new_within bs at size e = stands_within bs (at + size) (begins_in_step bs (at + size) (new_is_in_step bs at size e)) (slice_get_cases bs (at + size)).1
+new_within bs at size e = sync_within bs (at + size) (begins_in_step bs (at + size) (new_is_in_step bs at size e)) (slice_get_cases bs (at + size)).1
 
 slip_within_by : (bs : List ℕ) (at size : ℕ) (b : Bool) → goes_on bs at ≡ b → slip_size bs at ≡ Some size → at + size < length bs
 unfolding slip_size
@@ -99,7 +99,7 @@ slip_within_by bs at size false is e =
 pub slip_within : (bs : List ℕ) (at size : ℕ) → slip_size bs at ≡ Some size → at + size < length bs
 slip_within bs at size e = slip_within_by bs at size (goes_on bs at) refl e
 
--- 3. Slips stand one after another
+-- 3. The order of slips
 
 ordered_step : (n : ℕ) (bs : List ℕ) (packet at a : ℕ) → a ≤ at → at + 188 ≤ length bs →
     ((packet next a : ℕ) → a ≤ next → next ≤ length bs → AreOrdered bs a (slips_from n bs packet next)) → (o : Option ℕ) → slip_size bs at ≡ o →
@@ -136,7 +136,7 @@ ordered bs = ordered_from (length bs) bs 0 0 0 (omega arith) (omega arith)
 pub are_ordered : (bs : List ℕ) (found : List Slip) → found ≡ slips bs → AreOrdered bs 0 found
 are_ordered bs found e = subst (λ (ss : List Slip). AreOrdered bs 0 ss) (sym e) (ordered bs)
 
--- 4. What is carried and what is left out
+-- 4. Carried bytes, and bytes that are left out
 
 length_between : (bs : List ℕ) (a b : ℕ) → b ≤ length bs → length (slice_range bs a b) ≡ b - a
 length_between bs a b within = let short : b - a ≤ length (drop a bs) = omega (arith, length-drop a bs, within) in length-take-le (b - a) (drop a bs) short

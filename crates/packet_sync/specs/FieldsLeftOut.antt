@@ -24,7 +24,7 @@ is_noted found pid field = list_any (λ f. f.pid == pid && number_of f.field == 
 
 -- `found`, with a field of a PID if it is in the packet and not noted yet
 unfoldable pub with_field : ℕ → Field → Bool → List FieldLeftOut → List FieldLeftOut
-with_field pid field stands found = if stands && not (is_noted found pid field) then found ++ record { pid = pid; field = field } ∷ [] else found
+with_field pid field present found = if present && not (is_noted found pid field) then found ++ record { pid = pid; field = field } ∷ [] else found
 
 -- with the indicators and the clock reference of an adaptation field; the random_access_indicator of a unit's first packet is carried
 unfoldable pub with_indicators : ℕ → ℕ → Bool → List FieldLeftOut → List FieldLeftOut

@@ -39,12 +39,12 @@ fn is_noted(found: &[FieldLeftOut], pid: u16, field: Field) -> bool
 fn note<A: Allocator>(
     pid: u16,
     field: Field,
-    stands: bool,
+    present: bool,
     found: &mut Vec<FieldLeftOut, A>,
 ) -> Result<(), AllocError>
-    ensures { OnOk result (found.new.items ≡ spec.with_field pid field stands found.old.items) }
+    ensures { OnOk result (found.new.items ≡ spec.with_field pid field present found.old.items) }
 {
-    if stands && !is_noted(found, pid, field) {
+    if present && !is_noted(found, pid, field) {
         found.push(FieldLeftOut { pid, field })?;
     }
     Ok(())

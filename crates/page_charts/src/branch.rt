@@ -25,7 +25,8 @@ fn write_item_if(
     pid: u16,
     name: PidName,
 ) -> Result<(), AllocError>
-    ensures { OnOk result (string_bytes text.new ≡ string_bytes text.old ++ spec.item_if labels.now program (pid, name)) }
+    ensures { OnOk result (string_bytes text.new
+        ≡ string_bytes text.old ++ spec.item_if labels.now program (pid, name)) }
 {
     if labels.program_number(pid) == program {
         write_item(text, pid, name)

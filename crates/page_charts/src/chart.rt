@@ -64,7 +64,8 @@ fn write_key(
     order: &[PidCurve],
     entry: &PidCurve,
 ) -> Result<(), AllocError>
-    ensures { OnOk result (string_bytes text.new ≡ string_bytes text.old ++ spec.key unit labels.now order.now entry.now) }
+    ensures { OnOk result (string_bytes text.new
+        ≡ string_bytes text.old ++ spec.key unit labels.now order.now entry.now) }
 {
     write_sample(text, class_of(order, entry.pid))?;
     write_pid(text, labels, entry.pid, entry.name)?;
@@ -147,7 +148,8 @@ fn write_line(
     class: usize,
     entry: &PidCurve,
 ) -> Result<(), AllocError>
-    ensures { OnOk result (string_bytes text.new ≡ string_bytes text.old ++ spec.line frame.now labels.now class entry.now) }
+    ensures { OnOk result (string_bytes text.new
+        ≡ string_bytes text.old ++ spec.line frame.now labels.now class entry.now) }
 {
     write!(text, "<path class=\"line s{class}\" d=\"M")?;
     write_points(text, frame, entry.curve.span(), entry.curve.slots())?;
@@ -216,7 +218,8 @@ fn write_values(
     class: usize,
     entry: &PidCurve,
 ) -> Result<(), AllocError>
-    ensures { OnOk result (string_bytes text.new ≡ string_bytes text.old ++ spec.values_text frame.now labels.now class entry.now) }
+    ensures { OnOk result (string_bytes text.new
+        ≡ string_bytes text.old ++ spec.values_text frame.now labels.now class entry.now) }
 {
     write_band(text, frame, class, entry)?;
     write_line(text, frame, labels, class, entry)?;

@@ -266,7 +266,8 @@ fn write_groups(
     mains: &[PidCurve],
 ) -> Result<(), AllocError>
     ensures { OnOk result (string_bytes text.new
-        ≡ string_bytes text.old ++ numbered (spec.group_if frame.now labels.now transports.now mains.now) 0 transports.now) }
+        ≡ string_bytes text.old
+        ++ numbered (spec.group_if frame.now labels.now transports.now mains.now) 0 transports.now) }
 {
     for (number, entry) in transports.iter().enumerate() {
         write_group_if(text, frame, labels, transports, mains, number, entry)?;

@@ -1,14 +1,14 @@
--- Texts of the elements of a list, the last one first, written one after another.
+-- The texts of a list's elements, written from the last to the first.
 use Rattle.std.proofs.Common.{◌≡◌, ◌∙◌, sym, ℕ, suc, ◌+◌, ◌-◌, ◌<◌, ◌≤◌, List, [], ◌∷◌, ◌++◌, drop, length, refl, ap, arith, append_assoc}
 use Rattle.std.proofs.lemmas.List.{append-nil, drop_all}
 use Rattle.page_curves.specs.Paths.{numbered_back}
 
--- those of no element yet
+-- No element is written yet.
 pub back_none : {A : Type 0} (part : ℕ → A → List ℕ) (xs : List A) (text : List ℕ) (n : ℕ) → length xs ≤ n → text ≡ text ++ numbered_back part n (drop n xs)
 unfolding numbered_back
 back_none part xs text n all = rw (drop_all n xs all) (sym (append-nil text))
 
--- one more, before them in the list
+-- The text of one more element, which precedes the written elements in the list.
 pub back_more : {A : Type 0} (part : ℕ → A → List ℕ) (xs : List A) (old text new : List ℕ) (n m : ℕ) (x : A) → m ≡ suc n → drop n xs ≡ x ∷ drop m xs →
     text ≡ old ++ numbered_back part m (drop m xs) → new ≡ text ++ part n x → new ≡ old ++ numbered_back part n (drop n xs)
 unfolding numbered_back

@@ -1,4 +1,4 @@
--- Curves one by one, beside the values that are kept of them.
+-- Curves, one by one, and the values that a page keeps of them.
 use Rattle.std.proofs.Common.{◌≡◌, ◌≢◌, ◌∙◌, sym, ℕ, zero, suc, ◌+◌, ◌==◌, ◌<◌, ◌≤◌, Bool, true, false, cond, List, [], ◌∷◌, ◌++◌, length, set, take, drop}
 use Rattle.std.proofs.Common.{Option, Some, None, Result, Ok, Err, refl, ap, subst, arith}
 use Rattle.std.proofs.lemmas.Bool.Decides.{nat_tests}
@@ -14,7 +14,7 @@ equals a b e = grind (arith, nat_tests)
 pub differs : (a b : ℕ) → a ≢ b → (a == b) ≡ false
 differs a b e = grind (arith, nat_tests)
 
--- 1. The same by the entries
+-- 1. Finding a curve among the entries
 
 unfoldable pub entry_has : ℕ → List PidCurve → Bool
 entry_has pid [] = false
@@ -45,7 +45,7 @@ same_length [] (k ∷ ks) a = absurd a
 same_length (e ∷ es) [] a = absurd a
 same_length (e ∷ es) (k ∷ ks) a = ap suc (same_length es ks a.1)
 
--- 2. One more, and one that changes
+-- 2. Adding a curve, and changing a curve
 
 pub one_more : (es : List PidCurve) (ks : List KeptCurve) (e : PidCurve) (k : KeptCurve) → AreCurves es ks → IsKept e k →
     AreCurves (es ++ e ∷ []) (ks ++ k ∷ [])
@@ -55,7 +55,7 @@ one_more [] (l ∷ ks) e k a i = absurd a
 one_more (d ∷ es) [] e k a i = absurd a
 one_more (d ∷ es) (l ∷ ks) e k a i = (a.0, one_more es ks e k a.1 i)
 
--- a walk along the curves that has met none of the PID so far
+-- A walk along the curves that has not met a curve of the PID.
 pub record Walks (es : List PidCurve) (ks : List KeptCurve) (pid : ℕ) (s : Sample) (n : ℕ) : Type 0 where
   pub are : AreCurves es ks
   pub none : with_sample pid s ks ≡ take n ks ++ with_sample pid s (drop n ks)
@@ -63,7 +63,7 @@ pub record Walks (es : List PidCurve) (ks : List KeptCurve) (pid : ℕ) (s : Sam
 pub begins : (es : List PidCurve) (ks : List KeptCurve) (pid : ℕ) (s : Sample) → AreCurves es ks → Walks es ks pid s 0
 begins es ks pid s a = record { are = a; none = refl }
 
--- the walk passes one of another PID
+-- The walk passes a curve of another PID.
 passed : (es : List PidCurve) (ks : List KeptCurve) (pid n : ℕ) (s : Sample) (e : PidCurve) → AreCurves es ks → slice_get es n ≡ Some e →
     (e.pid == pid) ≡ false →
     take n ks ++ with_sample pid s (drop n ks) ≡ take (suc n) ks ++ with_sample pid s (drop (suc n) ks)
@@ -82,7 +82,7 @@ goes_on es ks pid n s e at other w =
     let next : suc n ≡ n + 1 = omega arith in
     subst (Walks es ks pid s) next (record { are = w.are; none = w.none ∙ passed es ks pid n s e w.are at (differs e.pid pid other) })
 
--- it stops at the first of the PID
+-- The walk changes the first curve of the PID.
 changed : (es : List PidCurve) (ks : List KeptCurve) (pid n : ℕ) (s : Sample) (e e' : PidCurve) → AreCurves es ks → slice_get es n ≡ Some e →
     (e.pid == pid) ≡ true →
     e'.pid ≡ e.pid → e'.name ≡ e.name → e'.limit ≡ e.limit → ((samples : List Sample) → IsCurve e.curve samples → IsCurve e'.curve (s ∷ samples)) →
@@ -102,7 +102,7 @@ stops : (es : List PidCurve) (ks : List KeptCurve) (pid n : ℕ) (s : Sample) (e
     Walks es ks pid s n → AreCurves (set es n e') (with_sample pid s ks)
 stops es ks pid n s e e' at it p q r takes w = subst (AreCurves (set es n e')) (sym w.none) (changed es ks pid n s e e' w.are at it p q r takes)
 
--- if there was memory for the value
+-- The walk changes the curve, unless memory runs out.
 pub stops_ok : {V E : Type 0} (r : Result V E) (es : List PidCurve) (ks : List KeptCurve) (pid n : ℕ) (s : Sample) (e e' : PidCurve) → slice_get es n ≡ Some e →
     e.pid ≡ pid →
     e'.pid ≡ e.pid → e'.name ≡ e.name → e'.limit ≡ e.limit → ((samples : List Sample) → IsCurve e.curve samples → OnOk r (IsCurve e'.curve (s ∷ samples))) →
@@ -110,7 +110,7 @@ pub stops_ok : {V E : Type 0} (r : Result V E) (es : List PidCurve) (ks : List K
 stops_ok (Ok v) es ks pid n s e e' at it p q r takes w = stops es ks pid n s e e' at (equals e.pid pid it) p q r takes w
 stops_ok (Err x) es ks pid n s e e' at it p q r takes w = tt
 
--- or comes to the end
+-- The walk reaches the end of the curves.
 past : (ks : List KeptCurve) (pid n : ℕ) (s : Sample) → length ks ≡ n → take n ks ++ with_sample pid s (drop n ks) ≡ ks
 unfolding with_sample
 past [] pid zero s e = refl

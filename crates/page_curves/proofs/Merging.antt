@@ -1,4 +1,4 @@
--- The bounds of twice as many windows are those of both halves.
+-- The bounds of a slot with twice as many windows join the bounds of its halves.
 use Rattle.std.proofs.Common.{◌≡◌, ◌≢◌, ◌∙◌, ℕ, ◌+◌, ◌-◌, ◌*◌, ◌/◌, ◌^◌, ◌==◌, min, max, Bool, true, false, List, [], ◌∷◌, Option, Some, None, refl, sym, ap}
 use Rattle.std.proofs.Common.{ap₂, arith}
 use Rattle.std.proofs.lemmas.Bool.Decides.{nat_tests}
@@ -67,7 +67,7 @@ joined_across a b c d =
     ∙ ap (joined a) (sym (joined_assoc b c d) ∙ ap (λ (x : Option Bounds). joined x d) (joined_comm b c) ∙ joined_assoc c b d)
     ∙ sym (joined_assoc a c (joined b d))
 
--- a window of a slot lies in its first half or in its second
+-- A window of a slot is in its first or in its second half.
 value_halved : (q slot v : ℕ) → value_if (q / 2 == slot) v ≡ joined (value_if (q == 2 * slot) v) (value_if (q == 2 * slot + 1) v)
 unfolding joined
 value_halved q slot v = by (q / 2 == slot) (q == 2 * slot) (q == 2 * slot + 1) refl refl refl

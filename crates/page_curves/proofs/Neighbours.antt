@@ -1,4 +1,4 @@
--- Slots that are joined with the ones after them, in place.
+-- Slots that are joined in pairs, in place.
 use Rattle.std.proofs.Common.{◌≡◌, ◌≢◌, ◌∙◌, ℕ, ◌+◌, ◌*◌, ◌==◌, ◌<◌, ◌≤◌, ◌⊎◌, inl, inr, Bool, true, false, List, [], ◌∷◌, length, get_or, set, take, drop, min}
 use Rattle.std.proofs.Common.{max, ◌/◌, Option, None, refl, sym, ap, ap₂, subst, arith}
 use Rattle.std.proofs.lemmas.Bool.{cases_lt}
@@ -8,7 +8,7 @@ use Rattle.page_curves.specs.Bounds.{joined}
 use Rattle.page_curves.specs.Slots.{greatest_in, greatest_of}
 use Rattle.page_curves.proofs.Merging.{equal, unequal}
 
--- the first n are joined, the others are as they were
+-- The first n slots are joined, and the later slots are unchanged.
 pub record Joins (now before : List (Option Bounds)) (n : ℕ) : Type 0 where
   pub same_length : length now ≡ length before
   pub done : (k : ℕ) → k < n → get_or now k None ≡ joined (get_or before (2 * k) None) (get_or before (2 * k + 1) None)
@@ -37,7 +37,7 @@ joins_more now before i x lt is keeps j = record {
         let other : k ≢ i = unequal k i e in
         get_or-set_other now i k x None other ∙ j.done k (omega (arith, less, other))
 
--- half of them is left
+-- Half of the slots is left.
 pub joins_all : (now before : List (Option Bounds)) (count : ℕ) → length before ≤ 2 * count → Joins now before count → (slot : ℕ) →
     get_or (take count now) slot None ≡ joined (get_or before (2 * slot) None) (get_or before (2 * slot + 1) None)
 unfolding joined
@@ -52,7 +52,7 @@ joins_all now before count half j slot = by (cases_lt slot count)
         let second : get_or before (2 * slot + 1) None ≡ None = get_or_past before (2 * slot + 1) None (omega (arith, half, le)) in
         none ∙ sym (ap₂ joined first second)
 
--- the greatest of what is left of the slots
+-- The greatest value of the remaining slots.
 pub greatest_more : (rest after : List (Option Bounds)) (b : Option Bounds) (g x m whole : ℕ) → x ≡ greatest_in b → m ≡ max g x → rest ≡ b ∷ after →
     max g (greatest_of rest) ≡ whole →
     max m (greatest_of after) ≡ whole

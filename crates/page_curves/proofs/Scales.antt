@@ -1,4 +1,4 @@
--- Scales one by one, and the greatest value of curves one by one.
+-- Scales, one by one, and the greatest value of curves, one by one.
 use Rattle.std.proofs.Common.{◌≡◌, ◌∙◌, ℕ, ◌==◌, min, max, Bool, true, false, List, [], ◌∷◌, refl, sym, ap, arith}
 use Rattle.page_curves.specs.declared.scale.TheConstants.{GREATEST_VALUE}
 use Rattle.page_curves.specs.declared.pid_curves.PidCurve.{PidCurve}

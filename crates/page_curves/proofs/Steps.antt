@@ -1,4 +1,4 @@
--- Steps of a scale of times one by one.
+-- The steps of a time scale, one by one.
 use Rattle.std.proofs.Common.{◌≡◌, ◌∙◌, ℕ, min, Bool, true, false, List, [], ◌∷◌, refl, sym, ap}
 use Rattle.page_curves.specs.declared.time_scale.TheConstants.{LONGEST_STEP}
 use Rattle.page_curves.specs.TimeScale.{reaches, step_among}

@@ -15,7 +15,7 @@ pub four : {V E : Type 0} (r : Result V E) (old one other more new a b c d : Lis
     OnOk r (new ≡ old ++ (a ++ (b ++ (c ++ d))))
 four r old one other more new a b c d first second third last = two r old one new a (b ++ (c ++ d)) first (three r one other more new b c d second third last)
 
--- a text that is pushed
+-- A text is appended, unless memory runs out.
 pub pushed : {V E : Type 0} (r : Result V E) (old new a : List ℕ) → new ≡ (if is_ok r then old ++ a else old) → OnOk r (new ≡ old ++ a)
 pushed (Ok v) old new a is = is
 pushed (Err e) old new a is = tt

@@ -1,4 +1,4 @@
--- The values of a curve and the bounds of its slots.
+-- The values of a curve, and the bounds of its slots.
 use Rattle.std.proofs.Common.{◌≡◌, ◌∙◌, ℕ, ◌/◌, ◌==◌, ◌<◌, ◌≤◌, ◌⊎◌, inl, inr, min, max, Bool, true, false, List, [], ◌∷◌, Option, Some, None, refl, sym, ap}
 use Rattle.std.proofs.Common.{subst, arith}
 use Rattle.std.proofs.lemmas.Bool.Decides.{nat_tests}
@@ -56,7 +56,7 @@ first : (x : Sample) (xs : List Sample) (span slot : ℕ) → x.number / span �
 unfolding IsAmong
 first x xs span slot here = record { one = x; among = inl refl; here = here; value_is = refl }
 
--- the least of two is one of them, and the greatest
+-- The lesser of two numbers has any property that both have, and so does the greater.
 least_of : (P : ℕ → Type 0) (a b : ℕ) → P a → P b → P (min a b)
 least_of P a b p q = by (le a b)
   where

@@ -1,4 +1,4 @@
--- A curve whose slots come to stand for more windows, and to which a value comes.
+-- A curve whose slots grow to more windows, and then take a value.
 use Rattle.std.proofs.Common.{◌≡◌, ◌∙◌, ℕ, zero, suc, ◌+◌, ◌-◌, ◌*◌, ◌/◌, ◌^◌, ◌==◌, ◌<◌, ◌≤◌, ◌⊎◌, inl, inr, max, Bool, true, false, List, [], ◌∷◌, ◌++◌}
 use Rattle.std.proofs.Common.{length, get_or, set, take, Option, Some, None, refl, sym, ap, ap₂, subst, arith}
 use Rattle.std.proofs.lemmas.List.{get_or_past, get_or-set_same, get_or-set_other, get_or-take, get_or_push, get_or_append_left}
@@ -8,7 +8,7 @@ use Rattle.page_curves.specs.Slots.{CurveView, slot_at}
 use Rattle.page_curves.specs.Curves.{HasSlots, IsCurve, IsSpan, Sample, bounds_in, next_of, sample}
 use Rattle.page_curves.proofs.Merging.{equal, unequal, merged, quotient}
 
--- the slots while they are widened for the windows below `next`: not all may have room yet
+-- The slots while they grow for the windows below `next`: they may still be too few.
 pub record Widens (curve : CurveView) (samples : List Sample) (next : ℕ) : Type 0 where
   pub power : (k : ℕ) × (curve.span ≡ 2 ^ k)
   pub room : next_of samples ≤ 512 * curve.span
@@ -30,7 +30,7 @@ at_first curve samples next is le = record {
 twice : (k : ℕ) → 2 * 2 ^ k ≡ 2 ^ suc k
 twice k = omega arith
 
--- one step
+-- One step doubles the windows of each slot.
 pub halved : (old new : CurveView) (samples : List Sample) (next : ℕ) → Widens old samples next → 512 * old.span < next → new.span ≡ 2 * old.span →
     ((slot : ℕ) → slot_at new.slots slot ≡ joined (slot_at old.slots (2 * slot)) (slot_at old.slots (2 * slot + 1))) → Widens new samples next
 halved old new samples next w beyond span slots = record {
@@ -41,7 +41,7 @@ halved old new samples next w beyond span slots = record {
       ∙ sym (merged old.span slot samples) ∙ ap (λ (n : ℕ). bounds_in n slot samples) (sym span);
 }
 
--- the last window's number plus 1 has room where its slot is one of 512
+-- If a window's slot is among the 512 slots, the slots have room for all windows up to this window.
 below : (n span : ℕ) → 0 < span → n / span < 512 → n + 1 ≤ 512 * span
 below n span pos few = grind (arith)
 
@@ -56,7 +56,7 @@ widened curve samples number w pos few = record {
   each = w.each;
 }
 
--- a value more
+-- A slot takes one more value.
 pub put_slot : (slots : List (Option Bounds)) (s v : ℕ) (x : Option Bounds) → s < length slots → x ≡ get_or slots s None → (i : ℕ) →
     get_or (set slots s (joined (Some (one_value v)) x)) i None ≡ joined (value_if (s == i) v) (get_or slots i None)
 unfolding joined
@@ -80,7 +80,7 @@ with_value old new samples number value slot has place span slots = record {
       (has.each i ∙ ap (λ (n : ℕ). bounds_in n i samples) (sym span));
 }
 
--- slots that are added have no values
+-- Added slots have no values.
 pub pushed : (slots : List (Option Bounds)) (i : ℕ) → get_or (slots ++ None ∷ []) i None ≡ get_or slots i None
 pushed [] i = by i
   where
@@ -90,7 +90,7 @@ pushed [] i = by i
 pushed (x ∷ xs) zero = refl
 pushed (x ∷ xs) (suc i) = pushed xs i
 
--- no value has come
+-- A curve without values.
 pub empty_curve : (curve : CurveView) → curve.span ≡ 1 → curve.slots ≡ [] → IsCurve curve []
 unfolding next_of bounds_in
 empty_curve curve one none = record {
@@ -98,7 +98,7 @@ empty_curve curve one none = record {
   each = λ slot. ap (λ (slots : List (Option Bounds)). get_or slots slot None) none;
 }
 
--- twice as many windows a slot: fewer slots before a window's
+-- With twice as many windows in a slot, fewer slots precede a window's slot.
 pub fewer : (n s t : ℕ) → 512 ≤ n / s → 0 < s → t ≡ 2 * s → n / t < n / s
 fewer n s t many pos e = subst (λ (k : ℕ). k < n / s) (sym (ap (λ (k : ℕ). n / k) e ∙ quotient n s)) (half (n / s) many)
   where
@@ -108,7 +108,7 @@ fewer n s t many pos e = subst (λ (k : ℕ). k < n / s) (sym (ap (λ (k : ℕ).
 pub span_fits : (n s : ℕ) → n < 2 ^ 64 → 0 < s → 512 ≤ n / s → s < 2 ^ 63
 span_fits n s small pos many = omega (arith, small, beyond n s pos many)
 
--- slots without values are added
+-- Adding slots without values keeps the curve.
 pub kept : (old new : CurveView) (samples : List Sample) (next : ℕ) → HasSlots old samples next → new.span ≡ old.span →
     ((i : ℕ) → slot_at new.slots i ≡ slot_at old.slots i) → HasSlots new samples next
 kept old new samples next has span same = record {

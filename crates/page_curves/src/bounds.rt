@@ -22,7 +22,7 @@ impl Bounds {
         }
     }
 
-    // The bounds of all values of two sets.
+    // Returns the bounds of all values of two sets.
     fn with(self, other: Bounds) -> Bounds
         ensures { result ≡ spec.both self other }
     {

@@ -57,14 +57,14 @@ impl Curve {
         &self.slots
     }
 
-    /// Returns the greatest value, 0 where none has come.
+    /// Returns the greatest value, 0 if there is no value.
     pub fn greatest(&self) -> u64
         ensures { result ≡ spec.greatest_of self.now.slots }
     {
         greatest_of(&self.slots)
     }
 
-    // Each slot represents twice as many windows.
+    // Joins the slots in pairs: each slot then represents twice as many windows.
     fn halve(&mut self)
         requires { self.old.span < 2 ^ 63 }
         ensures span { self.new.span ≡ 2 * self.old.span }
@@ -75,7 +75,7 @@ impl Curve {
         self.span *= 2;
     }
 
-    // As many windows a slot as it takes for this one to lie in a slot.
+    // Joins slots until the window of this number lies in one of them.
     fn widen(&mut self, number: u64)
         ensures there { number / self.new.span < 512 }
         ensures slots { (samples : List Sample) → IsCurve self.old samples →
@@ -86,7 +86,7 @@ impl Curve {
         }
     }
 
-    // As many slots as it takes to have this one.
+    // Adds slots without values until the slot of this number exists.
     fn reach(&mut self, slot: usize) -> Result<(), AllocError>
         requires { slot < 512 }
         ensures there { OnOk result (slot < length self.new.slots) }
@@ -99,7 +99,7 @@ impl Curve {
         Ok(())
     }
 
-    // A value more in a slot.
+    // Adds a value to a slot.
     fn put(&mut self, slot: usize, value: u64)
         requires { slot < length self.old.slots }
         ensures slots { (i : ℕ) → spec.slot_at self.new.slots i

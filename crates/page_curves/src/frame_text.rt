@@ -22,7 +22,7 @@ const QUARTERS: [u64; 5] = [0, 1, 2, 3, 4];
 // The numbers of steps of the scale of times that have a line, if the scale is that long.
 const STEP_COUNTS: [u64; 7] = [0, 1, 2, 3, 4, 5, 6];
 
-// A difference, with a sign if it is below 0.
+// Appends a difference, with a sign if it is below 0.
 #[tactic(auto, unfolding(crate::specs::Frames::offset_text))]
 fn write_offset(text: &mut String, value: u64) -> Result<(), AllocError>
     ensures { OnOk result (string_bytes text.new ≡ string_bytes text.old ++ spec.offset_text value) }
@@ -73,7 +73,7 @@ fn write_level_line(text: &mut String, y: u64) -> Result<(), AllocError>
     )
 }
 
-// A line across the picture, with its value.
+// Appends a line across the picture, with its value.
 #[tactic(auto, unfolding(crate::specs::Frames::level_text))]
 fn write_level(text: &mut String, unit: ChartUnit, value: u64, y: u64) -> Result<(), AllocError>
     ensures { OnOk result (string_bytes text.new ≡ string_bytes text.old ++ spec.level_text unit value y) }
@@ -93,7 +93,7 @@ fn write_moment_line(text: &mut String, x: u64) -> Result<(), AllocError>
     )
 }
 
-// A line down the picture, with its moment in a unit.
+// Appends a line down the picture, with its moment in a unit.
 #[tactic(auto, unfolding(crate::specs::Frames::moment_text))]
 fn write_moment(text: &mut String, x: u64, moment: u64, unit: TimeUnit) -> Result<(), AllocError>
     ensures { OnOk result (string_bytes text.new ≡ string_bytes text.old ++ spec.moment_text x moment unit) }
@@ -104,7 +104,7 @@ fn write_moment(text: &mut String, x: u64, moment: u64, unit: TimeUnit) -> Resul
     write!(text, "{count} {name}</text>\n")
 }
 
-// A name above the scale of values.
+// Appends a name above the scale of values.
 #[tactic(auto, unfolding(crate::specs::Frames::name_above))]
 fn write_name_above(text: &mut String, name: &str) -> Result<(), AllocError>
     ensures { OnOk result (string_bytes text.new ≡ string_bytes text.old ++ spec.name_above name.now) }
@@ -115,7 +115,7 @@ fn write_name_above(text: &mut String, name: &str) -> Result<(), AllocError>
     )
 }
 
-// The bounds of a slot, where a window without a value has the value 0.
+// Returns the bounds of a slot; a window without a value has the value 0.
 #[tactic(auto, unfolding(crate::specs::Frames::with_absent))]
 fn with_absent(bounds: Option<Bounds>, windows: u64) -> Bounds
     ensures { result ≡ spec.with_absent bounds windows }
@@ -131,7 +131,7 @@ fn with_absent(bounds: Option<Bounds>, windows: u64) -> Bounds
     }
 }
 
-// The least top of a scale: ten of the unit of its values.
+// Returns the least top of a scale: ten of the unit of its values.
 #[tactic(auto, unfolding(crate::specs::Frames::least_top))]
 fn least_top(unit: ChartUnit) -> u64
     ensures { result ≡ spec.least_top unit }
@@ -181,7 +181,7 @@ impl Frame {
         self.window_count() * u64::from(self.millis.min(1 << 22))
     }
 
-    // How many windows a slot has.
+    // Returns the number of windows of a slot.
     fn windows_in(&self, span: u64, slot: u64) -> u64
         ensures { result ≡ spec.windows_in self.now span slot }
     {
@@ -224,7 +224,7 @@ impl Frame {
         }
     }
 
-    // The line at a number of quarters of the scale of differences.
+    // Appends the line at a number of quarters of the scale of differences.
     fn write_quarter(&self, text: &mut String, quarter: u64) -> Result<(), AllocError>
         ensures { OnOk result (string_bytes text.new ≡ string_bytes text.old ++ spec.quarter_text self.now quarter) }
     {
@@ -233,7 +233,7 @@ impl Frame {
         write_level(text, self.unit, value, offset_height(top, value))
     }
 
-    // The lines at some quarters of the scale.
+    // Appends the lines at some quarters of the scale.
     fn write_quarters(&self, text: &mut String, quarters: &[u64]) -> Result<(), AllocError>
         ensures { OnOk result (string_bytes text.new
             ≡ string_bytes text.old ++ flat_map (spec.quarter_text self.now) quarters.now) }
@@ -244,7 +244,7 @@ impl Frame {
         Ok(())
     }
 
-    // The scale of values.
+    // Appends the scale of values.
     #[tactic(auto, unfolding(crate::specs::Frames::levels_by))]
     fn write_levels(&self, text: &mut String) -> Result<(), AllocError>
         ensures { OnOk result (string_bytes text.new ≡ string_bytes text.old ++ spec.levels_by self.now self.now.unit) }
@@ -255,7 +255,7 @@ impl Frame {
         }
     }
 
-    // The line at a number of fifths of the scale of values.
+    // Appends the line at a number of fifths of the scale of values.
     fn write_fifth(&self, text: &mut String, fifth: u64) -> Result<(), AllocError>
         ensures { OnOk result (string_bytes text.new ≡ string_bytes text.old ++ spec.fifth_text self.now fifth) }
     {
@@ -265,7 +265,7 @@ impl Frame {
         write_level(text, self.unit, value, height_of(top, value))
     }
 
-    // The lines at some fifths of the scale.
+    // Appends the lines at some fifths of the scale.
     fn write_fifths(&self, text: &mut String, fifths: &[u64]) -> Result<(), AllocError>
         ensures { OnOk result (string_bytes text.new
             ≡ string_bytes text.old ++ flat_map (spec.fifth_text self.now) fifths.now) }
@@ -276,7 +276,7 @@ impl Frame {
         Ok(())
     }
 
-    // The line after a number of steps of the scale of times, if the scale is that long.
+    // Appends the line after a number of steps of the scale of times, if the scale is that long.
     fn write_step(&self, text: &mut String, count: u64) -> Result<(), AllocError>
         ensures { OnOk result (string_bytes text.new ≡ string_bytes text.old ++ spec.step_text self.now count) }
     {
@@ -290,7 +290,7 @@ impl Frame {
         write_moment(text, x, moment, TimeUnit::of_step(step))
     }
 
-    // The lines after some steps of the scale.
+    // Appends the lines after some steps of the scale.
     fn write_steps(&self, text: &mut String, counts: &[u64]) -> Result<(), AllocError>
         ensures { OnOk result (string_bytes text.new
             ≡ string_bytes text.old ++ flat_map (spec.step_text self.now) counts.now) }

@@ -16,7 +16,7 @@ const THOUSANDS: [u64; 7] = [
     1,
 ];
 
-// Three digits after a narrow space.
+// Appends three digits after a narrow space.
 #[tactic(auto, unfolding(crate::specs::Numbers::three_digits))]
 fn write_three(text: &mut String, count: u64) -> Result<(), AllocError>
     ensures { OnOk result (string_bytes text.new ≡ string_bytes text.old ++ spec.three_digits count) }
@@ -25,7 +25,7 @@ fn write_three(text: &mut String, count: u64) -> Result<(), AllocError>
     write!(text, "&#8239;{hundreds}{tens}{ones}")
 }
 
-// A group of three digits, by its unit; the first group without a space and zeros, and nothing before it.
+// Appends a group of three digits, by its unit: the first group without a space and zeros, and no group before it.
 fn write_group(text: &mut String, value: u64, unit: u64) -> Result<(), AllocError>
     ensures { OnOk result (string_bytes text.new ≡ string_bytes text.old ++ spec.group value unit) }
 {

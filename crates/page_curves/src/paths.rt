@@ -10,7 +10,7 @@ use crate::scale::{across, height_of};
 use std::alloc::AllocError;
 use std::fmt::Write;
 
-// A point of the line of greatest values: lines join all points after the first `M`.
+// Appends a point of the line of greatest values: lines join all points after the first `M`.
 #[tactic(auto, unfolding(crate::specs::Paths::point_of))]
 fn write_point(
     text: &mut String,
@@ -33,7 +33,7 @@ fn write_point(
     }
 }
 
-// A point of the line of least values.
+// Appends a point of the line of least values.
 #[tactic(auto, unfolding(crate::specs::Paths::low_of))]
 fn write_low(
     text: &mut String,
@@ -56,7 +56,7 @@ fn write_low(
     }
 }
 
-// A line from a limit to a value over it, and a mark above that.
+// Appends a line from a limit to a value over it, and a mark above that line.
 fn write_over_to(
     text: &mut String,
     frame: &Frame,
@@ -71,7 +71,7 @@ fn write_over_to(
     write!(text, "M{x} {low}V{high}m-35 -80h70l-35 70z")
 }
 
-// What of a slot lies over a limit.
+// Appends the part of a slot that lies over a limit.
 #[tactic(auto, unfolding(crate::specs::Paths::over))]
 fn write_over(
     text: &mut String,
@@ -114,7 +114,7 @@ pub fn write_points(
     Ok(())
 }
 
-// The point of a slot.
+// Appends the point of a slot on the line of least values.
 fn write_low_at(
     text: &mut String,
     frame: &Frame,
@@ -149,7 +149,7 @@ pub fn write_lows_back(
     Ok(())
 }
 
-/// Appends what of all slots lies over a limit.
+/// Appends the parts of all slots that lie over a limit.
 pub fn write_overs(
     text: &mut String,
     frame: &Frame,

@@ -29,7 +29,7 @@ pub struct PidCurves {
     pub curves: Vec<PidCurve>,
 }
 
-// Whether a PID has a curve.
+// Returns whether a PID has a curve.
 fn has_pid(curves: &[PidCurve], pid: u16) -> bool
     ensures { (kept : List KeptCurve) → AreCurves curves.now kept → result ≡ spec.has_pid pid kept }
 {
@@ -41,7 +41,7 @@ fn has_pid(curves: &[PidCurve], pid: u16) -> bool
     false
 }
 
-// What a PID carries, if it has a curve.
+// Returns what a PID carries, if it has a curve.
 fn name_in(curves: &[PidCurve], pid: u16) -> Option<PidName>
     ensures { (kept : List KeptCurve) → AreCurves curves.now kept → result ≡ spec.kept_name pid kept }
 {
@@ -53,14 +53,14 @@ fn name_in(curves: &[PidCurve], pid: u16) -> Option<PidName>
     None
 }
 
-// Whether a PID gets no curve: it has one, or there are as many as there may be.
+// Returns whether a PID gets no curve: it has one, or there are already as many as there may be.
 fn is_closed(curves: &[PidCurve], pid: u16) -> bool
     ensures { (kept : List KeptCurve) → AreCurves curves.now kept → result ≡ spec.is_closed pid kept }
 {
     curves.len() >= MOST_CURVES || has_pid(curves, pid)
 }
 
-// A value of the curve of a PID, if it has one.
+// Adds the value of a window to the curve of a PID, if it has one.
 fn take_in(curves: &mut [PidCurve], pid: u16, number: u64, value: u64) -> Result<(), AllocError>
     ensures { (kept : List KeptCurve) → AreCurves curves.old kept →
         OnOk result (AreCurves curves.new (with_sample pid (sample number value) kept)) }
@@ -73,7 +73,7 @@ fn take_in(curves: &mut [PidCurve], pid: u16, number: u64, value: u64) -> Result
     Ok(())
 }
 
-// The greatest value of a curve and of its limit.
+// Returns the greatest value of a curve and of its limit.
 fn greatest_in(entry: &PidCurve) -> u64
     ensures { result ≡ spec.greatest_in entry.now }
 {

@@ -77,7 +77,7 @@ impl PidLabels {
         Ok(())
     }
 
-    // The program of a PID, and what it carries of it.
+    // Returns the program of a PID, and what the PID carries of this program, if a program is known.
     fn program_of(&self, pid: u16) -> Option<PidProgram>
         ensures { result ≡ lookup (nat_eq pid) self.now.programs }
     {
@@ -102,7 +102,7 @@ impl PidLabels {
     }
 }
 
-// The number of a program, 0 if there is none.
+// Returns the number of a program, 0 if there is no program.
 #[tactic(auto, unfolding(crate::specs::PidLabels::number_of))]
 fn number_of(program: Option<PidProgram>) -> u16
     ensures { result ≡ spec.number_of program }
@@ -132,7 +132,7 @@ fn write_program(text: &mut String, program: u16) -> Result<(), AllocError>
     write!(text, " (program {program})")
 }
 
-// What a PID carries.
+// Appends what a PID carries.
 #[tactic(auto, unfolding(crate::specs::PidLabels::carried_text))]
 fn write_carried(
     text: &mut String,
@@ -160,7 +160,7 @@ pub fn write_label(text: &mut String, labels: &PidLabels, pid: u16) -> Result<()
     write_carried(text, labels, PidName::of_pid(pid), labels.program_of(pid))
 }
 
-/// Appends a PID and what it carries; a name where no program is known.
+/// Appends a PID and what it carries; if no program of the PID is known, a name.
 #[tactic(auto, unfolding(crate::specs::PidLabels::pid_text))]
 pub fn write_pid(
     text: &mut String,

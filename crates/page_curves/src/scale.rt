@@ -86,14 +86,15 @@ static SCALES: [u64; 43] = [
     1_000_000_000_000_000,
 ];
 
-// Whether a scale ends there on which values up to this one lie.
+// Returns whether values up to `greatest` lie on a scale that ends at `scale`.
 fn reaches(scale: u64, greatest: u64) -> bool
     ensures { result ≡ spec.reaches scale greatest }
 {
     scale >= greatest && scale <= GREATEST_VALUE
 }
 
-// The first of these scales on which values up to this one lie; the greatest of all where none is.
+// Returns the first of these scales on which values up to `greatest` lie, or the greatest scale of all if none is long
+// enough.
 fn scale_among(scales: &[u64], greatest: u64) -> u64
     ensures same { result ≡ spec.scale_among scales.now greatest }
     ensures bound { result ≤ 10 ^ 15 }

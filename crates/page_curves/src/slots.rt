@@ -8,7 +8,7 @@ use crate::bounds::{Bounds, joined};
 /// The greatest number of slots of a curve.
 pub const MOST_SLOTS: usize = 512;
 
-/// Returns the values of a slot; past the last one there are none.
+/// Returns the values of a slot; a slot past the last one has no values.
 pub fn slot_at(slots: &[Option<Bounds>], slot: usize) -> Option<Bounds>
     ensures { result ≡ spec.slot_at slots.now slot }
 {
@@ -18,7 +18,7 @@ pub fn slot_at(slots: &[Option<Bounds>], slot: usize) -> Option<Bounds>
     }
 }
 
-/// Joins each slot of an even place with the one after it: half as many slots.
+/// Joins each slot of an even place with the slot after it, so that half as many slots are left.
 pub(crate) fn join_neighbours(slots: &mut Vec<Option<Bounds>>)
     requires { vec_len slots.old ≤ 512 }
     ensures joined { (slot : ℕ) → spec.slot_at slots.new.items slot
@@ -33,7 +33,7 @@ pub(crate) fn join_neighbours(slots: &mut Vec<Option<Bounds>>)
     slots.truncate(count);
 }
 
-/// Returns the greatest value of all slots, 0 where there is none.
+/// Returns the greatest value of all slots, 0 if no slot has a value.
 pub(crate) fn greatest_of(slots: &[Option<Bounds>]) -> u64
     ensures { result ≡ spec.greatest_of slots.now }
 {
@@ -44,7 +44,7 @@ pub(crate) fn greatest_of(slots: &[Option<Bounds>]) -> u64
     greatest
 }
 
-// The greatest value of a slot, 0 where it has none.
+// Returns the greatest value of a slot, 0 if it has no value.
 #[tactic(auto, unfolding(crate::specs::Slots::greatest_in))]
 fn greatest_in(bounds: Option<Bounds>) -> u64
     ensures { result ≡ spec.greatest_in bounds }

@@ -43,7 +43,7 @@ static STEPS: [u64; 24] = [
 ];
 
 impl TimeUnit {
-    /// Returns the unit of the multiples of a step: the greatest that is not greater than it.
+    /// Returns the unit of the multiples of a step: the greatest unit that is not greater than the step.
     pub fn of_step(step: u64) -> TimeUnit
         ensures { result ≡ spec.unit_of step }
     {
@@ -58,7 +58,7 @@ impl TimeUnit {
         }
     }
 
-    /// Returns its length in ms.
+    /// Returns the length of the unit in ms.
     #[tactic(auto, unfolding(crate::specs::TimeScale::unit_millis))]
     pub fn millis(self) -> u64
         ensures same { result ≡ spec.unit_millis self }
@@ -72,7 +72,7 @@ impl TimeUnit {
         }
     }
 
-    /// Returns its name.
+    /// Returns the name of the unit.
     #[tactic(auto, unfolding(crate::specs::TimeScale::unit_name))]
     pub fn name(self) -> &'static str
         ensures { result.now ≡ spec.unit_name self }
@@ -86,14 +86,14 @@ impl TimeUnit {
     }
 }
 
-// Whether six steps reach `length`.
+// Returns whether six steps reach `length`.
 fn reaches(step: u64, length: u64) -> bool
     ensures { result ≡ spec.reaches step length }
 {
     step <= LONGEST_STEP && step * 6 >= length
 }
 
-// The first step of a list whose sixth multiple reaches `length`; otherwise the longest step.
+// Returns the first step of a list whose sixth multiple reaches `length`; otherwise the longest step.
 fn step_among(steps: &[u64], length: u64) -> u64
     ensures same { result ≡ spec.step_among steps.now length }
     ensures bound { result ≤ 86400000 }

@@ -1,4 +1,4 @@
--- More bytes change no answer but that the bytes were too short.
+-- More bytes change no result except Short.
 use Rattle.std.proofs.Common.{◌≡◌, ◌≢◌, ℕ, ◌+◌, ◌*◌, ◌≤◌, ◌==◌, ◌||◌, not, Bool, true, false, cond, None, Result, Ok, Err, List, [], ◌∷◌, ◌++◌, length, refl}
 use Rattle.std.proofs.Common.{arith, ltb}
 use Rattle.std.proofs.lemmas.Bool.{ltb-false, le-ltb}
@@ -13,7 +13,7 @@ use Rattle.pes_packet.specs.declared.refusal.PesError.TheVariants.{Short, Prefix
 use Rattle.pes_packet.specs.declared.time_stamps.Stamps.TheVariants.{Absent}
 use Rattle.pes_packet.specs.declared.reading.PesHeader.{PesHeader}
 
--- what was read does not change
+-- A result other than Short stays the same.
 abbrev Stays : Result (PesHeader × ℕ) PesError → Result (PesHeader × ℕ) PesError → Type 0
 Stays now later = now ≢ Err Short → later ≡ now
 
@@ -21,7 +21,7 @@ or_stays : (b c d : Bool) → (c ≡ true → d ≡ true) → (b || c) ≡ true 
 or_stays true c d h e = refl
 or_stays false c d h e = h e
 
--- a byte that misses the prefix still misses it
+-- A byte that differs from the prefix still differs.
 misses_stays : (wanted bytes more : List ℕ)
     → list_any (λ p. not (p.0 == p.1)) (zip wanted bytes) ≡ true → list_any (λ p. not (p.0 == p.1)) (zip wanted (bytes ++ more)) ≡ true
 misses_stays [] bytes more e = e
@@ -72,7 +72,7 @@ start_stays (p ∷ q ∷ r ∷ []) more = λ some. absurd (some refl)
 start_stays (p ∷ q ∷ r ∷ id ∷ []) more = λ some. absurd (some refl)
 start_stays (p ∷ q ∷ r ∷ id ∷ high ∷ []) more = λ some. absurd (some refl)
 
--- six bytes, or too few
+-- If the bytes are not too short and match the prefix, they match it with more bytes.
 long_enough : (bytes more : List ℕ) → start_at bytes ≢ Err Short → misses_prefix bytes ≡ false → misses_prefix (bytes ++ more) ≡ false
 unfolding start_at
 long_enough (p ∷ q ∷ r ∷ bytes) more some e = e

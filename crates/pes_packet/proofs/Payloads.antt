@@ -9,14 +9,14 @@ use Rattle.std.specs.Simd.{first_chunks}
 use Rattle.pes_packet.specs.Payloads.{pieces, piece_count}
 use Rattle.pes_packet.specs.Laws.{PayloadsJoin}
 
--- the payloads of bytes of which some are left: the first 184 bytes, and the payloads of the rest
+-- The payloads of bytes are the first 184 bytes, then the payloads of the rest.
 pub pieces_more : (bytes : List ℕ) → 0 < length bytes → pieces bytes ≡ take 184 bytes ∷ pieces (drop 184 bytes)
 unfolding pieces
 pieces_more bytes some =
     let n : piece_count (length bytes) ≡ suc (piece_count (length (drop 184 bytes))) = omega (arith, length-drop 184 bytes) in
     rw n refl
 
--- no bytes, no payloads
+-- If there are no bytes, there are no payloads.
 pub pieces_none : (bytes : List ℕ) → length bytes ≡ 0 → pieces bytes ≡ []
 unfolding pieces
 pieces_none bytes none = rw none refl

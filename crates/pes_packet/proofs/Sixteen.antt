@@ -9,11 +9,11 @@ use Rattle.pes_packet.specs.declared.reading.PesHeader.{PesHeader}
 pub sixteen_size : (bytes : List ℕ) → length (sixteen bytes) ≡ 16
 sixteen_size bytes = length-take-le 16 (bytes ++ replicate 16 0) (omega (arith, length-append bytes (replicate 16 0)))
 
--- 16 bytes are what they are
+-- A list of 16 bytes is its own first 16 bytes.
 pub sixteen_is : (bytes : List ℕ) → length bytes ≡ 16 → sixteen bytes ≡ bytes
 sixteen_is bytes e = take_at bytes (replicate 16 0) 16 e
 
--- so is PES_private_data that has 16
+-- PES_private_data of 16 bytes does not change.
 pub same_private : (o : Option (List ℕ)) → IfSome o (λ bytes. length bytes ≡ 16) → option_map sixteen o ≡ o
 same_private None h = refl
 same_private (Some bytes) h = ap Some (sixteen_is bytes h)

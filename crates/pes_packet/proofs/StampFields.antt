@@ -1,4 +1,4 @@
--- A stamp is read exactly if the bytes are one by the table of its fields.
+-- A time stamp is read if and only if the bytes are a time stamp by the table of its fields.
 use Rattle.std.proofs.Common.{◌≡◌, ℕ, ◌+◌, ◌*◌, ◌/◌, ◌%◌, ◌^◌, ◌<◌, ◌≤◌, ◌==◌, Bool, true, false, cond, Result, Ok, Err, List, [], ◌∷◌, ◌++◌, length, take}
 use Rattle.std.proofs.Common.{drop, refl, sym, ap, ◌∙◌, subst, arith, ltb, append_assoc, ◌⊎◌, inl, inr}
 use Rattle.std.proofs.lemmas.Bool.{eqb-true, eq-eqb, and_parts, and_from, ltb-false, le-ltb}
@@ -13,7 +13,7 @@ use Rattle.pes_packet.specs.declared.refusal.PesError.TheVariants.{Marker, Lengt
 use Rattle.pes_packet.specs.declared.time_stamps.Stamps.{Stamps}
 use Rattle.pes_packet.specs.declared.time_stamps.Stamps.TheVariants.{Absent, Pts, PtsDts}
 
--- a test that let a value pass
+-- A test that returns Ok was passed.
 pub passed : {A E : Type 0} (b : Bool) (x y : A) (d : E) → cond b (Ok x) (Err d) ≡ Ok y → (b ≡ true) × (x ≡ y)
 passed true x y d e = (refl, cc)
 passed false x y d e = absurd cc
@@ -29,7 +29,7 @@ stamp_of a b c d e v ha hb hc hd he ma mc me is = record {
   below = omega arith;
 }
 
--- what is read is a stamp
+-- Bytes that are read as a time stamp are a time stamp by the table of fields.
 pub stamp_takes : (front : List ℕ) (v : ℕ) → IsBytes front → length front ≡ 5 → stamp_at front ≡ Ok v → IsStamp front v
 unfolding stamp_at
 stamp_takes (a ∷ b ∷ c ∷ d ∷ e ∷ []) v fits len read =
@@ -54,7 +54,7 @@ fields_of a b c d e m v ha hb hc hd he is below = (omega arith, omega arith, ome
 read_at : (b : Bool) (x y : ℕ) (d : PesError) → b ≡ true → x ≡ y → cond b (Ok x) (Err d) ≡ Ok y
 read_at b x y d p e = rw (p, e) refl
 
--- a stamp is read
+-- A time stamp by the table of fields is read.
 pub stamp_again : (front : List ℕ) (v : ℕ) → IsBytes front → IsStamp front v → stamp_at front ≡ Ok v
 unfolding stamp_at
 stamp_again (a ∷ b ∷ c ∷ d ∷ e ∷ []) v fits s =
@@ -67,7 +67,7 @@ stamp_again (a ∷ b ∷ c ∷ []) v fits s = absurd (omega arith)
 stamp_again (a ∷ b ∷ c ∷ d ∷ []) v fits s = absurd (omega arith)
 stamp_again (a ∷ b ∷ c ∷ d ∷ e ∷ f ∷ more) v fits s = absurd (omega arith)
 
--- five bytes that were at hand
+-- The next five bytes, and the bytes after them.
 pub record Five (bytes : List ℕ) (five : List ℕ × List ℕ) : Type 0 where
   pub front : five.0 ≡ take 5 bytes
   pub rest : five.1 ≡ drop 5 bytes
@@ -84,13 +84,13 @@ pub five_again : (bytes : List ℕ) → 5 ≤ length bytes → five_at bytes ≡
 unfolding five_at
 five_again bytes some = rw (le-ltb (length bytes) 5 some) refl
 
--- stamps were read from the front of header data
+-- Time stamps are at the front of header data.
 pub record ReadsStamps (flags : ℕ) (bytes : List ℕ) (stamps : Stamps) : Type 0 where
   pub front : List ℕ
   pub others : List ℕ
   pub is : bytes ≡ front ++ others
   pub flags_are : flags ≡ stamp_flags stamps
-  pub stand : IsStamps front stamps
+  pub matching : IsStamps front stamps
 
 five_long : (bytes : List ℕ) → 5 ≤ length bytes → length (take 5 bytes) ≡ 5
 five_long bytes h = length-take-le 5 bytes h
@@ -103,14 +103,14 @@ pts_takes flags bytes stamps fits two read =
     let s = bind_ok (stamp_at f.0.0) _ stamps f.2 in
     let made : ◌≡◌ {A = Result Stamps PesError} (Ok (Pts s.0)) (Ok stamps) = s.2 in
     let is : Pts s.0 ≡ stamps = cc (made) in
-    let stands : IsStamp (take 5 bytes) s.0 =
+    let matches : IsStamp (take 5 bytes) s.0 =
     stamp_takes (take 5 bytes) s.0 (IsBytes-take 5 bytes fits) (five_long bytes five.some) (ap stamp_at (sym five.front) ∙ s.1) in
     subst (λ (x : Stamps). ReadsStamps flags bytes x) is (record {
       front = take 5 bytes;
       others = drop 5 bytes;
       is = sym (take-append-drop 5 bytes);
       flags_are = two;
-      stand = stands;
+      matching = matches;
     })
 
 split_ten : (bytes : List ℕ) → bytes ≡ (take 5 bytes ++ take 5 (drop 5 bytes)) ++ drop 5 (drop 5 bytes)
@@ -132,9 +132,9 @@ pts_dts_takes flags bytes stamps fits three read =
     let is : PtsDts p.0 d.0 ≡ stamps = cc (made) in
     let front : g.0.0 ≡ take 5 (drop 5 bytes) = second.front ∙ ap (take {A = ℕ} 5) first.rest in
     let more : 5 ≤ length (drop 5 bytes) = subst (λ (t : List ℕ). 5 ≤ length t) first.rest second.some in
-    let pts_stands : IsStamp (take 5 bytes) p.0 =
+    let pts_matches : IsStamp (take 5 bytes) p.0 =
     stamp_takes (take 5 bytes) p.0 (IsBytes-take 5 bytes fits) (five_long bytes first.some) (ap stamp_at (sym first.front) ∙ p.1) in
-    let dts_stands : IsStamp (take 5 (drop 5 bytes)) d.0 =
+    let dts_matches : IsStamp (take 5 (drop 5 bytes)) d.0 =
     stamp_takes (take 5 (drop 5 bytes)) d.0 (IsBytes-take 5 (drop 5 bytes) (IsBytes-drop 5 bytes fits)) (five_long (drop 5 bytes) more)
     (ap stamp_at (sym front) ∙ d.1) in
     subst (λ (x : Stamps). ReadsStamps flags bytes x) is (record {
@@ -142,10 +142,10 @@ pts_dts_takes flags bytes stamps fits three read =
       others = drop 5 (drop 5 bytes);
       is = split_ten bytes;
       flags_are = three;
-      stand = record { first = take 5 bytes; second = take 5 (drop 5 bytes); is = refl; pts_stands = pts_stands; dts_stands = dts_stands };
+      matching = record { first = take 5 bytes; second = take 5 (drop 5 bytes); is = refl; pts_matches = pts_matches; dts_matches = dts_matches };
     })
 
--- the ways that PTS_DTS_flags choose
+-- The choice that PTS_DTS_flags makes.
 ways : (flags : ℕ) (none pts both : Result Stamps PesError) (stamps : Stamps)
     → cond (flags == 0) none (cond (flags == 2) pts (cond (flags == 3) both (Err BadFlags))) ≡ Ok stamps
     → ((flags ≡ 0) × (none ≡ Ok stamps)) ⊎ (((flags ≡ 2) × (pts ≡ Ok stamps)) ⊎ ((flags ≡ 3) × (both ≡ Ok stamps)))
@@ -169,7 +169,7 @@ stamps_takes flags bytes stamps fits read =
     elim (ways flags (Ok Absent) (pts_at bytes) (pts_dts_at bytes) stamps read) [
       | inl none ↦
           subst (λ (x : Stamps). ReadsStamps flags bytes x) (ok_is Absent stamps none.1)
-          (record { front = []; others = bytes; is = refl; flags_are = none.0; stand = refl })
+          (record { front = []; others = bytes; is = refl; flags_are = none.0; matching = refl })
       | inr (inl pts) ↦ pts_takes flags bytes stamps fits pts.0 pts.1
       | inr (inr both) ↦ pts_dts_takes flags bytes stamps fits both.0 both.1
     ]
@@ -182,26 +182,26 @@ five_front front others len =
 
 pub pts_again : (front others : List ℕ) (pts : ℕ) → IsBytes front → IsStamp front pts → pts_at (front ++ others) ≡ Ok (Pts pts)
 unfolding pts_at
-pts_again front others pts fits stands =
-    rw (five_front front others stands.len, stamp_again front pts fits stands) refl
+pts_again front others pts fits matches =
+    rw (five_front front others matches.len, stamp_again front pts fits matches) refl
 
 pub pts_dts_again : (front others : List ℕ) (pts dts : ℕ) → IsBytes front → IsPtsDts front pts dts → pts_dts_at (front ++ others) ≡ Ok (PtsDts pts dts)
 unfolding pts_dts_at
-pts_dts_again front others pts dts fits stands =
-    let both : IsBytes (stands.first ++ stands.second) = subst IsBytes stands.is fits in
-    let is : front ++ others ≡ stands.first ++ (stands.second ++ others) =
-    ap (λ (t : List ℕ). t ++ others) stands.is ∙ append_assoc stands.first stands.second others in
-    let p : stamp_at stands.first ≡ Ok pts = stamp_again stands.first pts (IsBytes-append_left stands.first stands.second both) stands.pts_stands in
-    let d : stamp_at stands.second ≡ Ok dts = stamp_again stands.second dts (IsBytes-append_right stands.first stands.second both) stands.dts_stands in
-    let f : five_at (stands.first ++ (stands.second ++ others)) ≡ Ok (stands.first, stands.second ++ others) =
-    five_front stands.first (stands.second ++ others) stands.pts_stands.len in
-    let s : five_at (stands.second ++ others) ≡ Ok (stands.second, others) = five_front stands.second others stands.dts_stands.len in
+pts_dts_again front others pts dts fits matches =
+    let both : IsBytes (matches.first ++ matches.second) = subst IsBytes matches.is fits in
+    let is : front ++ others ≡ matches.first ++ (matches.second ++ others) =
+    ap (λ (t : List ℕ). t ++ others) matches.is ∙ append_assoc matches.first matches.second others in
+    let p : stamp_at matches.first ≡ Ok pts = stamp_again matches.first pts (IsBytes-append_left matches.first matches.second both) matches.pts_matches in
+    let d : stamp_at matches.second ≡ Ok dts = stamp_again matches.second dts (IsBytes-append_right matches.first matches.second both) matches.dts_matches in
+    let f : five_at (matches.first ++ (matches.second ++ others)) ≡ Ok (matches.first, matches.second ++ others) =
+    five_front matches.first (matches.second ++ others) matches.pts_matches.len in
+    let s : five_at (matches.second ++ others) ≡ Ok (matches.second, others) = five_front matches.second others matches.dts_matches.len in
     rw (is, f, s, p, d) refl
 
--- stamps are read from the front of header data
+-- Time stamps at the front of header data are read.
 pub stamps_again : (stamps : Stamps) (front others : List ℕ) → IsBytes front → IsStamps front stamps →
     stamps_at (stamp_flags stamps) (front ++ others) ≡ Ok stamps
 unfolding stamps_at
-stamps_again Absent front others fits stands = refl
-stamps_again (Pts pts) front others fits stands = pts_again front others pts fits stands
-stamps_again (PtsDts pts dts) front others fits stands = pts_dts_again front others pts dts fits stands
+stamps_again Absent front others fits matches = refl
+stamps_again (Pts pts) front others fits matches = pts_again front others pts fits matches
+stamps_again (PtsDts pts dts) front others fits matches = pts_dts_again front others pts dts fits matches

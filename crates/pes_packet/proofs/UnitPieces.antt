@@ -17,7 +17,7 @@ count_all false pes =
     let same : piece_count (length pes) ≡ piece_count (0 + length pes) = omega arith in
     (payloads_join pes).count ∙ same
 
--- bytes by their number and their place
+-- Equal numbers and equal places give equal bytes.
 part_is : (pes : List ℕ) (m n a b : ℕ) → m ≡ n → a ≡ b → Some (take m (drop a pes)) ≡ Some (take n (drop b pes))
 part_is pes m n a b e f = ap₂ (λ (k p : ℕ). Some (take k (drop p pes))) e f
 

@@ -1,4 +1,4 @@
--- A written header is one by the table of fields, and is read again.
+-- A written header is a header by the table of fields, and is read back.
 use Rattle.std.proofs.Common.{◌≡◌, ℕ, ◌+◌, ◌*◌, ◌/◌, ◌%◌, ◌^◌, ◌<◌, ◌≤◌, ◌==◌, ◌&&◌, ◌||◌, not, nat_le, zero, suc, ◌-◌, Bool, true, false, cond, Option, Some}
 use Rattle.std.proofs.Common.{None, is_some, option_map, IfSome, Ok, drop, List, [], ◌∷◌, ◌++◌, length, replicate, refl, sym, ap, ◌∙◌, arith, ◌⊎◌, inl, inr}
 use Rattle.std.proofs.Common.{IsTrue}
@@ -27,7 +27,7 @@ either : (b c : Bool) → (b || c) ≡ true → (b ≡ true) ⊎ (c ≡ true)
 either true c e = inl refl
 either false c e = inr e
 
--- the stream_ids that units have
+-- The stream_ids that units have.
 pub unit_ids : (id : ℕ) → is_unit_id id ≡ true → (id ≡ 189) ⊎ ((192 ≤ id) × (id ≤ 239))
 unit_ids id e =
     elim (either (id == 189) (nat_le 192 id && nat_le id 239) e) [
@@ -39,7 +39,7 @@ pub unit_id_below : (id : ℕ) → (id ≡ 189) ⊎ ((192 ≤ id) × (id ≤ 239
 unit_id_below id (inl e) = omega arith
 unit_id_below id (inr e) = omega arith
 
--- a stream_id of units has flag bytes
+-- A header with a unit's stream_id has flag bytes.
 flagged_ids : (id : ℕ) → (id ≡ 189) ⊎ ((192 ≤ id) × (id ≤ 239)) → has_flags id ≡ true
 unfolding has_flags
 flagged_ids id (inl e) = rw e refl
@@ -54,7 +54,7 @@ length_cases : (b : Bool) (n : ℕ) → (cond b n 0 ≡ 0) ⊎ ((b ≡ true) × 
 length_cases true n = inr (refl, refl)
 length_cases false n = inl refl
 
--- a written PES_packet_length is 0, or counts and fits 16 bits
+-- A written PES_packet_length is 0, or counts the bytes and fits 16 bits.
 pub packet_length_is : (n : ℕ) → (packet_length n ≡ 0) ⊎ ((n ≤ 65_535) × (packet_length n ≡ n))
 unfolding packet_length
 packet_length_is n =
@@ -88,10 +88,10 @@ five_bytes : (a b c d e : ℕ) → a < 256 → b < 256 → c < 256 → d < 256 �
 five_bytes a b c d e ha hb hc hd he =
     IsBytes-cons a (b ∷ c ∷ d ∷ e ∷ []) ha (IsBytes-cons b (c ∷ d ∷ e ∷ []) hb (three_bytes c d e hc hd he))
 
--- a written stamp is one by the table of fields
-stamp_stands : (mark stamp : ℕ) → mark < 16 → stamp < 2 ^ 33 → IsStamp (stamp_bytes mark stamp) stamp
+-- A written time stamp is a time stamp by the table of fields.
+stamp_matches : (mark stamp : ℕ) → mark < 16 → stamp < 2 ^ 33 → IsStamp (stamp_bytes mark stamp) stamp
 unfolding stamp_bytes
-stamp_stands mark stamp hm hs = record { len = refl; mark = mark; spelled = omega arith; below = hs }
+stamp_matches mark stamp hm hs = record { len = refl; mark = mark; spelled = omega arith; below = hs }
 
 stamp_is_bytes : (mark stamp : ℕ) → mark < 16 → stamp < 2 ^ 33 → IsBytes (stamp_bytes mark stamp)
 unfolding stamp_bytes
@@ -99,9 +99,9 @@ stamp_is_bytes mark stamp hm hs =
     five_bytes (mark * 16 + (stamp / 2 ^ 30 * 2 + 1)) (stamp / 2 ^ 22 % 256) (stamp / 2 ^ 15 % 128 * 2 + 1) (stamp / 2 ^ 7 % 256) (stamp % 128 * 2 + 1)
     (omega arith) (omega arith) (omega arith) (omega arith) (omega arith)
 
-start_stands : (id len : ℕ) (header : PesHeader) → id < 256 → len < 2 ^ 16 → header.id ≡ id → header.len ≡ len → IsStart (pes_start_bytes id len) header
+start_matches : (id len : ℕ) (header : PesHeader) → id < 256 → len < 2 ^ 16 → header.id ≡ id → header.len ≡ len → IsStart (pes_start_bytes id len) header
 unfolding pes_start_bytes
-start_stands id len header hi hl ei el = record { len = refl; spelled = omega arith; id = omega arith; packet_length = omega arith }
+start_matches id len header hi hl ei el = record { len = refl; spelled = omega arith; id = omega arith; packet_length = omega arith }
 
 start_is_bytes : (id len : ℕ) → id < 256 → len < 2 ^ 16 → IsBytes (pes_start_bytes id len)
 unfolding pes_start_bytes
@@ -109,15 +109,15 @@ start_is_bytes id len hi hl =
     IsBytes-cons 0 (0 ∷ 1 ∷ id ∷ (len / 256) ∷ (len % 256) ∷ []) (omega arith)
     (five_bytes 0 1 id (len / 256) (len % 256) (omega arith) (omega arith) hi (omega arith) (omega arith))
 
--- a header is at the front of bytes, and is read there
-pub record Stands (bytes : List ℕ) (header : PesHeader) (size : ℕ) : Type 0 where
+-- A header is at the front of bytes, and is read there.
+pub record IsHeaderAt (bytes : List ℕ) (header : PesHeader) (size : ℕ) : Type 0 where
   pub is : IsPesHeader bytes header size
   pub read : header_at bytes ≡ Ok (header, size)
 
--- flag bytes
-flags_stand : (second n : ℕ) (private : Bool) (flags : PesFlags) (stamps : Stamps) → n < 256 → stamp_flags stamps * 64 ≡ second → second < 255
+-- Written flag bytes.
+flags_match : (second n : ℕ) (private : Bool) (flags : PesFlags) (stamps : Stamps) → n < 256 → stamp_flags stamps * 64 ≡ second → second < 255
     → IsFlags ((0x80 + flag_bits flags) ∷ (second + bit private) ∷ n ∷ []) flags stamps n
-flags_stand second n private flags stamps hn e hs = record {
+flags_match second n private flags stamps hn e hs = record {
   len = refl;
   scrambling = 0;
   parts = bit private;
@@ -131,7 +131,7 @@ flag_byte_fits : (flags : PesFlags) → 0x80 + flag_bits flags < 256
 flag_byte_fits flags =
     omega (arith, bit_most flags.priority, bit_most flags.aligned, bit_most flags.copyright, bit_most flags.original)
 
--- the PES extension and the stuffing are as many bytes as are wanting
+-- The PES extension and the stuffing fill the header data.
 filled_by : (long : Bool) (private : Option (List ℕ)) (n : ℕ) → n ≤ 10
     → cond long 36 (n + cond (is_some private) 17 0)
     ≡ n + length (extension private ++ cond long (replicate (36 - (n + cond (is_some private) 17 0)) 0xFF) [])
@@ -146,7 +146,7 @@ data_fits true private n h = omega arith
 data_fits false true n h = omega arith
 data_fits false false n h = omega arith
 
--- PES_private_data is read behind the stamps
+-- PES_private_data is read after the time stamps.
 pub first_again : (bytes more : List ℕ) → first_sixteen (sixteen bytes ++ more) ≡ Some (sixteen bytes)
 unfolding first_sixteen
 first_again bytes more =
@@ -163,11 +163,11 @@ private_again second (Some bytes) wire more unset set skips =
     drop_at wire ((0x8E ∷ sixteen bytes) ++ more) (before_extension (second + 1)) (sym skips) in
     rw (set, behind) (first_again bytes more)
 
--- a header with these stamps
-with_stands : (id size : ℕ) (marks : Marks) (second : ℕ) (stamps : Stamps) (wire rest : List ℕ) → id < 256 → has_flags id ≡ true
+-- A written header with these time stamps.
+with_matches : (id size : ℕ) (marks : Marks) (second : ℕ) (stamps : Stamps) (wire rest : List ℕ) → id < 256 → has_flags id ≡ true
     → second < 255 → stamp_flags stamps * 64 ≡ second → flag (second + 0) 1 ≡ false → flag (second + 1) 1 ≡ true → before_extension (second + 1) ≡ length wire
     → length wire ≤ 10 → IsStamps wire stamps → IsBytes wire
-    → Stands (header_with id size marks second wire ++ rest)
+    → IsHeaderAt (header_with id size marks second wire ++ rest)
     (record {
       id = id;
       len = packet_length (3 + data_length marks (length wire) + size);
@@ -178,7 +178,7 @@ with_stands : (id size : ℕ) (marks : Marks) (second : ℕ) (stamps : Stamps) (
     })
     (length (header_with id size marks second wire))
 unfolding header_with pes_start_bytes
-with_stands id size marks second stamps wire rest hi flagged hs announced unset set skips short stand fits =
+with_matches id size marks second stamps wire rest hi flagged hs announced unset set skips short matching fits =
     let n : ℕ = length wire in
     let others : List ℕ = extension marks.private_data ++ stuffing marks n in
     let flags : List ℕ = (0x80 + flag_bits marks.flags) ∷ (second + bit (is_some marks.private_data)) ∷ data_length marks n ∷ [] in
@@ -201,9 +201,9 @@ with_stands id size marks second stamps wire rest hi flagged hs announced unset 
       | inr some ↦ inr (omega (arith, some, joined))
     ] in
     let front : IsStart start header =
-    start_stands id (packet_length (3 + data_length marks n + size)) header hi (packet_length_fits (3 + data_length marks n + size)) refl refl in
+    start_matches id (packet_length (3 + data_length marks n + size)) header hi (packet_length_fits (3 + data_length marks n + size)) refl refl in
     let flag_bytes : IsFlags flags marks.flags stamps (data_length marks n) =
-    flags_stand second (data_length marks n) (is_some marks.private_data) marks.flags stamps below announced hs in
+    flags_match second (data_length marks n) (is_some marks.private_data) marks.flags stamps below announced hs in
     let flags_fit : IsBytes flags =
     three_bytes (0x80 + flag_bits marks.flags) (second + bit (is_some marks.private_data)) (data_length marks n) (flag_byte_fits marks.flags)
     (omega (arith, hs, bit_most (is_some marks.private_data))) below in
@@ -216,28 +216,28 @@ with_stands id size marks second stamps wire rest hi flagged hs announced unset 
         rest = rest;
         is = refl;
         size_is = length-append start (flags ++ (wire ++ others));
-        start_stands = front;
-        after_stands = rw flagged (record {
+        start_matches = front;
+        after_matches = rw flagged (record {
           flags = flags;
           stamps = wire;
           others = others;
           is = refl;
-          flags_stand = flag_bytes;
+          flags_match = flag_bytes;
           data_is = filled;
-          stamps_stand = stand;
+          stamps_match = matching;
           private_is = private;
           counted = counted;
         });
       };
       read = start_again header start (flags ++ (wire ++ others)) rest
           (start_is_bytes id (packet_length (3 + data_length marks n + size)) hi (packet_length_fits (3 + data_length marks n + size)))
-          front (rw flagged (flagged_by header flags wire others rest flags_fit fits flag_bytes filled stand counted private))
+          front (rw flagged (flagged_by header flags wire others rest flags_fit fits flag_bytes filled matching counted private))
           ∙ ap (λ (k : ℕ). Ok (header, k)) (sym (length-append start (flags ++ (wire ++ others))));
     }
 
--- a header with a PTS alone
-pts_stands : (id size : ℕ) (marks : Marks) (pts : ℕ) (rest : List ℕ) → id < 256 → has_flags id ≡ true → pts < 2 ^ 33
-    → Stands (pts_header id size marks pts ++ rest)
+-- A written header with a PTS and no DTS.
+pts_matches : (id size : ℕ) (marks : Marks) (pts : ℕ) (rest : List ℕ) → id < 256 → has_flags id ≡ true → pts < 2 ^ 33
+    → IsHeaderAt (pts_header id size marks pts ++ rest)
     (record {
       id = id;
       len = packet_length (3 + data_length marks 5 + size);
@@ -248,13 +248,13 @@ pts_stands : (id size : ℕ) (marks : Marks) (pts : ℕ) (rest : List ℕ) → i
     })
     (length (pts_header id size marks pts))
 unfolding pts_header stamp_bytes
-pts_stands id size marks pts rest hi flagged hp =
-    with_stands id size marks 0x80 (Pts pts) (stamp_bytes 2 pts) rest hi flagged (omega arith) refl refl refl refl (omega arith)
-    (stamp_stands 2 pts (omega arith) hp) (stamp_is_bytes 2 pts (omega arith) hp)
+pts_matches id size marks pts rest hi flagged hp =
+    with_matches id size marks 0x80 (Pts pts) (stamp_bytes 2 pts) rest hi flagged (omega arith) refl refl refl refl (omega arith)
+    (stamp_matches 2 pts (omega arith) hp) (stamp_is_bytes 2 pts (omega arith) hp)
 
--- a header with a PTS and a DTS
-pts_dts_stands : (id size : ℕ) (marks : Marks) (pts dts : ℕ) (rest : List ℕ) → id < 256 → has_flags id ≡ true → pts < 2 ^ 33 → dts < 2 ^ 33
-    → Stands (pts_dts_header id size marks pts dts ++ rest)
+-- A written header with a PTS and a DTS.
+pts_dts_match : (id size : ℕ) (marks : Marks) (pts dts : ℕ) (rest : List ℕ) → id < 256 → has_flags id ≡ true → pts < 2 ^ 33 → dts < 2 ^ 33
+    → IsHeaderAt (pts_dts_header id size marks pts dts ++ rest)
     (record {
       id = id;
       len = packet_length (3 + data_length marks 10 + size);
@@ -265,20 +265,20 @@ pts_dts_stands : (id size : ℕ) (marks : Marks) (pts dts : ℕ) (rest : List �
     })
     (length (pts_dts_header id size marks pts dts))
 unfolding pts_dts_header stamp_bytes
-pts_dts_stands id size marks pts dts rest hi flagged hp hd =
-    with_stands id size marks 0xC0 (PtsDts pts dts) (stamp_bytes 3 pts ++ stamp_bytes 1 dts) rest hi flagged (omega arith) refl refl refl refl (omega arith)
+pts_dts_match id size marks pts dts rest hi flagged hp hd =
+    with_matches id size marks 0xC0 (PtsDts pts dts) (stamp_bytes 3 pts ++ stamp_bytes 1 dts) rest hi flagged (omega arith) refl refl refl refl (omega arith)
     (record {
       first = stamp_bytes 3 pts;
       second = stamp_bytes 1 dts;
       is = refl;
-      pts_stands = stamp_stands 3 pts (omega arith) hp;
-      dts_stands = stamp_stands 1 dts (omega arith) hd;
+      pts_matches = stamp_matches 3 pts (omega arith) hp;
+      dts_matches = stamp_matches 1 dts (omega arith) hd;
     })
     (IsBytes-append (stamp_bytes 3 pts) (stamp_bytes 1 dts) (stamp_is_bytes 3 pts (omega arith) hp) (stamp_is_bytes 1 dts (omega arith) hd))
 
--- either header, by whether the stamps on the wire are one
-header_stands : (b : Bool) (id size : ℕ) (marks : Marks) (p d : ℕ) (rest : List ℕ) → id < 256 → has_flags id ≡ true → p < 2 ^ 33 → d < 2 ^ 33
-    → Stands (cond b (pts_header id size marks p) (pts_dts_header id size marks p d) ++ rest)
+-- A written header; if PTS and DTS are equal, the DTS is left out.
+header_matches : (b : Bool) (id size : ℕ) (marks : Marks) (p d : ℕ) (rest : List ℕ) → id < 256 → has_flags id ≡ true → p < 2 ^ 33 → d < 2 ^ 33
+    → IsHeaderAt (cond b (pts_header id size marks p) (pts_dts_header id size marks p d) ++ rest)
     (cond b
     (record {
       id = id;
@@ -297,28 +297,28 @@ header_stands : (b : Bool) (id size : ℕ) (marks : Marks) (p d : ℕ) (rest : L
       private_data = option_map sixteen marks.private_data;
     }))
     (length (cond b (pts_header id size marks p) (pts_dts_header id size marks p d)))
-header_stands true id size marks p d rest hi flagged hp hd = pts_stands id size marks p rest hi flagged hp
-header_stands false id size marks p d rest hi flagged hp hd = pts_dts_stands id size marks p d rest hi flagged hp hd
+header_matches true id size marks p d rest hi flagged hp hd = pts_matches id size marks p rest hi flagged hp
+header_matches false id size marks p d rest hi flagged hp hd = pts_dts_match id size marks p d rest hi flagged hp hd
 
--- the header of a unit is one
-pub written_stands : (id size : ℕ) (marks : Marks) (pts dts : ℕ) (rest : List ℕ) → IsTrue (fits_packet id size)
-    → Stands (pes_header_bytes id size marks pts dts ++ rest) (written_header id size marks pts dts) (length (pes_header_bytes id size marks pts dts))
+-- The written header of a unit is a header by the table of fields.
+pub written_matches : (id size : ℕ) (marks : Marks) (pts dts : ℕ) (rest : List ℕ) → IsTrue (fits_packet id size)
+    → IsHeaderAt (pes_header_bytes id size marks pts dts ++ rest) (written_header id size marks pts dts) (length (pes_header_bytes id size marks pts dts))
 unfolding pes_header_bytes written_header
-written_stands id size marks pts dts rest fits =
+written_matches id size marks pts dts rest fits =
     let all = and_parts (is_unit_id id && nat_le 1 size) (nat_le size (greatest_size id)) fits in
     let parts = and_parts (is_unit_id id) (nat_le 1 size) all.0 in
     let ids = unit_ids id parts.0 in
     let hp : on_wire pts < 2 ^ 33 = omega arith in
     let hd : on_wire dts < 2 ^ 33 = omega arith in
-    header_stands (on_wire pts == on_wire dts) id size marks (on_wire pts) (on_wire dts) rest (unit_id_below id ids) (flagged_ids id ids) hp hd
+    header_matches (on_wire pts == on_wire dts) id size marks (on_wire pts) (on_wire dts) rest (unit_id_below id ids) (flagged_ids id ids) hp hd
 
 pub written_is_header : WrittenIsHeader
-written_is_header id size marks pts dts rest fits = (written_stands id size marks pts dts rest fits).is
+written_is_header id size marks pts dts rest fits = (written_matches id size marks pts dts rest fits).is
 
 pub written_is_read : WrittenIsRead
-written_is_read id size marks pts dts rest fits = (written_stands id size marks pts dts rest fits).read
+written_is_read id size marks pts dts rest fits = (written_matches id size marks pts dts rest fits).read
 
--- a header has 9 bytes and its data
+-- A header has 9 bytes and its header data.
 with_size : (id size : ℕ) (marks : Marks) (second : ℕ) (wire : List ℕ) → length wire ≤ 10
     → length (header_with id size marks second wire) ≡ 9 + data_length marks (length wire)
 unfolding header_with pes_start_bytes
@@ -359,7 +359,7 @@ count_fits true false false size h = omega (arith, packet_length_all (3 + 5 + si
 count_fits false false true size h = omega (arith, packet_length_all (3 + 27 + size) (omega arith))
 count_fits false false false size h = omega (arith, packet_length_all (3 + 10 + size) (omega arith))
 
--- without what the field takes
+-- The size limit without the field of random access.
 less_field : (header : ℕ) (access : Bool) (size : ℕ) → size + (header + cond access 2 0) ≤ 65_522 → size + header ≤ 65_522
 less_field header true size h = omega (arith, h)
 less_field header false size h = omega (arith, h)
@@ -396,7 +396,7 @@ pub without_marks : WithoutMarks
 unfolding pes_header_bytes pts_header pts_dts_header header_with pes_start_bytes stamp_bytes plain_header
 without_marks id size pts dts = refl
 
--- 36 bytes of header data are of a long header alone
+-- Header data has 36 bytes only in a long header.
 long_of_pts : (long private : Bool) → (cond long 36 (5 + cond private 17 0) == 36) ≡ long
 long_of_pts true private = refl
 long_of_pts false true = refl
@@ -410,7 +410,7 @@ long_of_both false false = refl
 twice : (private : Option (List ℕ)) → IfSome private (λ bytes. length bytes ≡ 16) → option_map sixteen (option_map sixteen private) ≡ private
 twice private h = same_private (option_map sixteen private) (has_sixteen private) ∙ same_private private h
 
--- marks by what a header says
+-- Marks are equal if their parts are equal.
 marks_by : (marks : Marks) (long : Bool) (private : Option (List ℕ)) → long ≡ marks.long → private ≡ marks.private_data
     → ◌≡◌ {A = Marks} (record { random_access = marks.random_access; flags = marks.flags; long = long; private_data = private }) marks
 marks_by marks long private el ep = rw (el, ep) refl

@@ -21,8 +21,8 @@ pub record IsPtsDts (bytes : List ℕ) (pts dts : ℕ) : Type 0 where
   pub first : List ℕ
   pub second : List ℕ
   pub is : bytes ≡ first ++ second
-  pub pts_stands : IsStamp first pts
-  pub dts_stands : IsStamp second dts
+  pub pts_matches : IsStamp first pts
+  pub dts_matches : IsStamp second dts
 
 -- the stamps
 abbrev pub IsStamps : List ℕ → Stamps → Type 0
@@ -64,9 +64,9 @@ pub record IsFlagged (bytes : List ℕ) (header : PesHeader) : Type 0 where
   pub stamps : List ℕ
   pub others : List ℕ
   pub is : bytes ≡ flags ++ (stamps ++ others)
-  pub flags_stand : IsFlags flags header.flags header.stamps header.data_length
+  pub flags_match : IsFlags flags header.flags header.stamps header.data_length
   pub data_is : header.data_length ≡ length stamps + length others
-  pub stamps_stand : IsStamps stamps header.stamps
+  pub stamps_match : IsStamps stamps header.stamps
   pub private_is : header.private_data ≡ private_at (slice_index flags 1) (stamps ++ others)
   pub counted : (header.len ≡ 0) ⊎ (length bytes ≤ header.len)
 
@@ -82,5 +82,5 @@ pub record IsPesHeader (bytes : List ℕ) (header : PesHeader) (size : ℕ) : Ty
   pub rest : List ℕ
   pub is : bytes ≡ start ++ (after ++ rest)
   pub size_is : size ≡ length start + length after
-  pub start_stands : IsStart start header
-  pub after_stands : IsAfter (has_flags header.id) after header
+  pub start_matches : IsStart start header
+  pub after_matches : IsAfter (has_flags header.id) after header

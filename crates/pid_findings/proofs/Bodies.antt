@@ -1,4 +1,4 @@
--- What is left out of the body of a PES packet decides nothing.
+-- No finding depends on the left-out body of a PES packet.
 use Rattle.std.proofs.Common.{◌≡◌, ℕ, ◌-◌, ◌+◌, Bool, true, false, cond, List, [], ◌∷◌, ◌++◌, length, take, drop, map, replicate, Option, Some, None, Result}
 use Rattle.std.proofs.Common.{Ok, Err, refl, sym, ap, ap₂, subst, ◌∙◌, arith, length-append, append_assoc, ◌≤◌, ◌==◌}
 use Rattle.std.specs.Prelude.{nat_lt, min, option_map}
@@ -57,7 +57,7 @@ unfolding bytes_without_body
 without_length unit_kinds.Pes bytes = bodiless_length bytes (header_at bytes) refl
 without_length unit_kinds.Section bytes = refl
 
--- the same header is read, with more bytes as well
+-- The header read from the bytes stays the same without the body, even with more bytes.
 bodiless_read : (bytes more : List ℕ) (r : Result (PesHeader × ℕ) PesError) → header_at bytes ≡ r →
     header_at (bodiless bytes r ++ more) ≡ header_at (bytes ++ more)
 unfolding bodiless
@@ -74,7 +74,7 @@ pes_read_now : (bytes : List ℕ) → header_at (bodiless bytes (header_at bytes
 pes_read_now bytes =
     ap header_at (sym (append-nil (bodiless bytes (header_at bytes)))) ∙ pes_read bytes [] ∙ ap header_at (append-nil bytes)
 
--- and what begins is of the same kind
+-- A unit that begins with the bytes has the same kind without the body.
 begun_more : (kind : UnitKind) (access : Bool) (bytes more : List ℕ) →
     begun_kind kind access (bytes_without_body kind bytes ++ more) ≡ begun_kind kind access (bytes ++ more)
 unfolding begun_kind bytes_without_body
@@ -86,7 +86,7 @@ unfolding begun_kind bytes_without_body
 begun_now unit_kinds.Pes access bytes = rw (pes_read_now bytes) refl
 begun_now unit_kinds.Section access bytes = refl
 
--- left out once more, with more bytes, it is what is left out of all
+-- If more bytes are appended, leaving out the body again leaves out the body of all bytes.
 front_again : (n : ℕ) (bytes zeros more : List ℕ) → n ≤ length bytes → take n ((take n bytes ++ zeros) ++ more) ≡ take n (bytes ++ more)
 front_again n bytes zeros more there =
     ap (take n) (append_assoc (take n bytes) zeros more) ∙ take_at (take n bytes) (zeros ++ more) n (length-take-le n bytes there)
@@ -118,7 +118,7 @@ without_again kind bytes =
     ap (bytes_without_body kind) (sym (append-nil (bytes_without_body kind bytes))) ∙ without_more kind bytes []
     ∙ ap (bytes_without_body kind) (append-nil bytes)
 
--- 3. What bytes decide
+-- 3. The decision by bytes
 
 abbrev shown : Option WhatView → Option WhatView
 shown what = option_map without_body what
@@ -158,7 +158,7 @@ decided_same unit_kinds.Pes bytes more =
     (same_more (bodiless bytes (header_at bytes)) bytes more (bodiless_length bytes (header_at bytes) refl))
 decided_same unit_kinds.Section bytes more = refl
 
--- 4. What is found
+-- 4. The findings
 
 abbrev all_shown : List Found → List Found
 all_shown found = map found_without_body found
@@ -180,7 +180,7 @@ about_same : (packet : ℕ) (kind : UnitKind) (access : Bool) (x y : List ℕ) (
     all_shown (about (unit_of packet kind access x) v ∷ []) ≡ all_shown (about (unit_of packet kind access y) w ∷ [])
 about_same packet kind access x y v w begun what = rw (begun, what) refl
 
--- the bytes past the end of a PES packet go by its header
+-- The number of bytes past the end of a PES packet depends on its header alone.
 past_shown : (n : ℕ) (w : WhatView) → past_end n (without_body w) ≡ past_end n w
 past_shown n (IsPes header unended body) = refl
 past_shown n (IsTruncated bytes) = refl
@@ -213,7 +213,7 @@ found_same packet kind access x y (Some v) (Some w) begun size what =
 found_same packet kind access x y (Some v) None begun size what = absurd (some_or_none (without_body v) what)
 found_same packet kind access x y None (Some w) begun size what = absurd (none_or_some (without_body w) what)
 
--- by a payload that goes on
+-- The findings of a payload that continues a unit
 appended_same : (payload : List ℕ) (open_unit : Option OpenUnit) →
     all_shown (found_appended payload (option_map unit_without_body open_unit)) ≡ all_shown (found_appended payload open_unit)
 unfolding found_appended
@@ -222,14 +222,14 @@ appended_same payload (Some u) =
     found_same u.packet u.kind u.access (bytes_without_body u.kind u.bytes ++ payload) (u.bytes ++ payload) _ _ (begun_more u.kind u.access u.bytes payload)
     (same_more (bytes_without_body u.kind u.bytes) u.bytes payload (without_length u.kind u.bytes)) (decided_same u.kind u.bytes payload)
 
--- by what cuts it short
+-- The finding of a unit that is cut short
 cut_same : (open_unit : Option OpenUnit) → all_shown (cut_short (option_map unit_without_body open_unit)) ≡ all_shown (cut_short open_unit)
 cut_same None = refl
 cut_same (Some u) =
     about_same u.packet u.kind u.access (bytes_without_body u.kind u.bytes) u.bytes (IsTruncated (bytes_without_body u.kind u.bytes)) (IsTruncated u.bytes)
     (begun_now u.kind u.access u.bytes) (ap IsTruncated (same_zeros (bytes_without_body u.kind u.bytes) u.bytes (without_length u.kind u.bytes)))
 
--- by its end
+-- The finding at the end of a unit
 end_by : (z unended : Bool) (header : PesHeader) (size : ℕ) (x y : List ℕ) → length x ≡ length y →
     without_body (cond z (IsPes header unended (drop size x)) (IsTruncated x)) ≡ without_body (cond z (IsPes header unended (drop size y)) (IsTruncated y))
 end_by true unended header size x y e = ap (IsPes header unended) (same_zeros (drop size x) (drop size y) (same_drop size x y e))
@@ -257,7 +257,7 @@ ended_same unended None = refl
 ended_same unended (Some u) =
     about_same u.packet u.kind u.access (bytes_without_body u.kind u.bytes) u.bytes _ _ (begun_now u.kind u.access u.bytes) (end_read unended u.kind u.bytes)
 
--- by the bytes before the place to which pointer_field points
+-- The findings of the bytes that pointer_field skips
 last_by : (before : List ℕ) (packet : ℕ) (kind : UnitKind) (access : Bool) (bytes : List ℕ) →
     all_shown (last_bytes_by before (unit_without_body (unit_of packet kind access bytes)) kind) ≡ all_shown
     (last_bytes_by before (unit_of packet kind access bytes) kind)
@@ -271,7 +271,7 @@ unfolding last_bytes
 last_same before None = refl
 last_same before (Some u) = last_by before u.packet u.kind u.access u.bytes
 
--- by a packet
+-- The findings of a packet
 before_same : (x y more : List Found) → all_shown x ≡ all_shown y → all_shown (x ++ more) ≡ all_shown (y ++ more)
 before_same x y more e =
     map-append found_without_body x more ∙ ap (λ (found : List Found). found ++ all_shown more) e ∙ sym (map-append found_without_body y more)
@@ -303,7 +303,7 @@ found_at_same : (m : Marked) (open_unit : Option OpenUnit) → all_shown (found_
 unfolding found_at
 found_at_same m open_unit = at_same m.duplicate _ _ _ (break_same m.entry.index m.broken (role m) open_unit)
 
--- 5. What is open
+-- 5. The open unit
 
 abbrev kept : Option OpenUnit → Option OpenUnit
 kept open_unit = option_map unit_without_body open_unit
@@ -361,9 +361,9 @@ bodies_decide_nothing s entry = (found_by_same s entry, step_same s entry)
 pub state_again : (s : PidState) → state_without_body (state_without_body s) ≡ state_without_body s
 state_again s = ap (λ (o : Option OpenUnit). record s { open_unit = o }) (kept_again s.open_unit)
 
--- 6. An open unit whose header stands apart
+-- 6. An open unit with a separate header
 
--- fewer bytes decide nothing then either
+-- Fewer bytes decide nothing, if the bytes without the body decide nothing.
 none_shown : (d : Option WhatView) → shown d ≡ None → d ≡ None
 none_shown None e = refl
 none_shown (Some w) e = absurd cc
@@ -375,7 +375,7 @@ waits_left kind bytes least waits more lt =
     same_more (bytes_without_body kind bytes) bytes more (without_length kind bytes) in
     none_shown (decided kind (bytes_without_body kind bytes ++ more)) (decided_same kind bytes more ∙ ap shown (waits more (omega (arith, lt, same))))
 
--- its bytes are the header and zeros
+-- The bytes without the body are the header and zeros.
 pub headed : (front rest : List ℕ) (header : PesHeader) → header_at (front ++ rest) ≡ Ok (header, length front) →
     bytes_without_body unit_kinds.Pes (front ++ rest) ≡ front ++ replicate (length rest) 0
 unfolding bytes_without_body bodiless

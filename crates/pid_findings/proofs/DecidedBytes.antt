@@ -1,4 +1,4 @@
--- What is decided stays decided with more bytes.
+-- A decision stays the same with more bytes.
 use Rattle.std.proofs.Common.{◌≡◌, ◌≢◌, ℕ, zero, suc, ◌+◌, ◌-◌, ◌==◌, subst, Bool, true, false, cond, List, [], ◌∷◌, ◌++◌, length, Option, Some, None, Result}
 use Rattle.std.proofs.Common.{Ok, Err, refl, arith, length-append}
 use Rattle.std.specs.Prelude.{nat_lt}
@@ -70,7 +70,7 @@ of_section_before bytes more (Err section_errors.Short) s k e = refl
 of_section_before bytes more (Err x) s k e =
     let q : s ≡ Err x = k (λ y. absurd cc) in subst (λ (t : Result (SectionView × ℕ) SectionError). of_section (bytes ++ more) t ≡ None) q e
 
--- what more bytes leave undecided is undecided before
+-- Bytes are undecided if they are undecided with more bytes after them.
 pub undecided_before : (kind : UnitKind) (bytes more : List ℕ) → decided kind (bytes ++ more) ≡ None → decided kind bytes ≡ None
 unfolding decided
 undecided_before unit_kinds.Pes bytes more e = of_pes_before bytes more (header_at bytes) (header_at (bytes ++ more)) (longer_is_read bytes more) e
@@ -84,7 +84,7 @@ last_by b bytes rest true d f ih e = absurd cc
 last_by b bytes rest false None f ih e = subst (λ (x : List ℕ). decided unit_kinds.Section x ≡ None) (value_is (b ∷ bytes) rest e) f
 last_by b bytes rest false (Some what) f ih e = ih (taken_by (b ∷ bytes) what - 1) e
 
--- a section at the end of a payload is undecided
+-- A section at the end of a payload is undecided.
 pub last_undecided : (k : ℕ) (bytes rest : List ℕ) → last_in k bytes ≡ Some rest → decided unit_kinds.Section rest ≡ None
 unfolding last_in
 last_undecided k [] rest e = absurd cc

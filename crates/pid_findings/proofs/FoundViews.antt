@@ -1,4 +1,4 @@
--- What is given: what it says, and which of its bytes are slices of a packet.
+-- The content of the findings that are given, and which of them are slices of a packet.
 use Rattle.std.proofs.Common.{◌≡◌, Bool, true, false, List, [], ◌∷◌, ◌++◌, map, refl, sym, ap, ap₂, ◌∙◌}
 use Rattle.std.specs.Prelude.{◌&&◌, ◌||◌}
 use Rattle.std.specs.List.{list_any}
@@ -16,7 +16,7 @@ with_pid_of : (place : Place) (found : List Found) → map (λ (g : GivenView). 
 with_pid_of place [] = refl
 with_pid_of place (x ∷ xs) = ap (λ (ys : List FindingView). with_pid place.pid place.packet x ∷ ys) (with_pid_of place xs)
 
--- what findings at a place say
+-- The content of the findings at a place
 pub says : {A : Type 0} (place : Place) (old new : List (Finding A)) (found : List Found) → Finds place old new found →
     map finding_view new ≡ map finding_view old ++ map (with_pid place.pid place.packet) found
 says place old new found h =
@@ -32,14 +32,14 @@ within_of : (place : Place) (found : List Found) →
 within_of place [] = refl
 within_of place (x ∷ xs) = ap (λ (ys : List Bool). (x.within && place.borrowed) ∷ ys) (within_of place xs)
 
--- which of them are slices
+-- Which of the findings are slices
 pub spans : {A : Type 0} (place : Place) (old new : List (Finding A)) (found : List Found) → Finds place old new found →
     map is_span new ≡ map is_span old ++ map (λ (b : Bool). b && place.borrowed) (map (λ (f : Found). f.within) found)
 spans place old new found h =
     spans_of new ∙ ap (map (λ (g : GivenView). g.span)) h ∙ map-append (λ (g : GivenView). g.span) (map given_view old) (map (given place) found)
     ∙ ap₂ (λ (xs ys : List Bool). xs ++ ys) (sym (spans_of old)) (within_of place found)
 
--- where the packet is borrowed, all that lies in it whole
+-- If the packet is borrowed, each finding that lies whole in it is a slice.
 pub all_borrowed : (within : List Bool) → map (λ (b : Bool). b && true) within ≡ within
 all_borrowed [] = refl
 all_borrowed (true ∷ within) = ap (λ (ys : List Bool). true ∷ ys) (all_borrowed within)
@@ -69,12 +69,12 @@ any_none (false ∷ within) = any_none within
 keeps : {A : Type 0} (old new : List (Finding A)) (more : List Bool) → any more ≡ false → map is_span new ≡ map is_span old ++ more → KeepsJoined old new
 keeps old new more n h = λ k. any_of new ∙ ap any h ∙ any_append (map is_span old) more (sym (any_of old) ∙ k) n
 
--- where it is not borrowed, none
+-- If the packet is not borrowed, no finding is a slice.
 pub none_borrowed : {A : Type 0} (old new : List (Finding A)) (within : List Bool) →
     map is_span new ≡ map is_span old ++ map (λ (b : Bool). b && false) within → KeepsJoined old new
 none_borrowed old new within h = keeps old new (map (λ (b : Bool). b && false) within) (any_none within) h
 
--- findings whose bytes are joined
+-- A finding with joined bytes is no slice.
 pub joined_one : {A : Type 0} (old new : List (Finding A)) → map is_span new ≡ map is_span old ++ false ∷ [] → KeepsJoined old new
 unfolding any
 joined_one old new h = keeps old new (false ∷ []) refl h
@@ -85,7 +85,7 @@ joined place old new found e h =
     none_borrowed old new (map (λ (f : Found). f.within) found)
     (spans place old new found h ∙ ap (λ (l : Bool). map is_span old ++ map (λ (b : Bool). b && l) (map (λ (f : Found). f.within) found)) e)
 
--- nothing new is given
+-- No new finding is given.
 pub same_joined : {A : Type 0} (old new : List (Finding A)) → KeepsFindings old new → KeepsJoined old new
 same_joined old new h = λ k. any_of new ∙ ap any (spans_of new ∙ ap (map (λ (g : GivenView). g.span)) h ∙ sym (spans_of old)) ∙ sym (any_of old) ∙ k
 

@@ -1,4 +1,4 @@
--- Packets that go on with an open unit.
+-- Packets that continue an open unit.
 use Rattle.std.proofs.Common.{◌≡◌, ◌<◌, ℕ, ◌+◌, ◌/◌, ◌%◌, ◌==◌, Bool, true, false, List, [], drop, Option, Some, None, is_some, Ok, refl, arith, ◌∙◌, ap, ap₂}
 use Rattle.std.proofs.Common.{sym}
 use Rattle.std.specs.Prelude.{slice_index, not, ◌&&◌}
@@ -13,7 +13,7 @@ use Rattle.pid_findings.specs.Marks.{LastView, Marked, break_after, break_at, is
 use Rattle.pid_findings.specs.OpenUnits.{OpenUnit}
 use Rattle.pid_findings.specs.Roles.{Continuation, role, role_by, role_of}
 
--- 1. What their bytes say
+-- 1. The fields of these packets
 
 sync_is : (n : ℕ) → n ≡ 0x47 → (n == 0x47) ≡ true
 sync_is n e = grind (arith, nat_tests)
@@ -42,7 +42,7 @@ plain_read bytes sync low high =
       control (slice_index bytes 3) high,
     ) refl
 
--- 2. What they are to the last packet of their PID
+-- 2. The last packet of the PID before a packet that continues a unit
 
 not_same : (n c : ℕ) → (n == (c + 1) % 16) ≡ true → (n == c) ≡ false
 not_same n c e = grind (arith, nat_tests)
@@ -69,7 +69,7 @@ marks_next : (last : LastView) (index : ℕ) (bytes : List ℕ) → is_next (Som
 unfolding mark is_repeat break_at break_after
 marks_next last index bytes e = rw (no_repeats last index bytes e, e) refl
 
--- 3. What they leave and find
+-- 3. The open unit after a packet that continues it, and the findings of the packet
 
 pub plain_step : (last : Option LastView) (index : ℕ) (bytes : List ℕ) (open_unit : Option OpenUnit) → is_next last bytes ≡ true →
     step (record { last = last; open_unit = open_unit }) (plain_entry index bytes)
@@ -84,7 +84,7 @@ unfolding found_at role role_of role_by by_break by_role
 plain_found None index bytes open_unit e = absurd cc
 plain_found (Some last) index bytes open_unit e = rw (marks_next last index bytes e) refl
 
--- 4. The same from what the parts of the program say
+-- 4. The same facts from the parts of the program
 
 next_some : (last : Option LastView) (bytes : List ℕ) → is_next last bytes ≡ true → is_some last ≡ true
 next_some None bytes e = absurd cc

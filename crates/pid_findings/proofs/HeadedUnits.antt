@@ -1,4 +1,4 @@
--- Open PES packets whose header was read: their bytes after it.
+-- Open PES packets with a header that was read: the bytes after the header.
 use Rattle.std.proofs.Common.{◌≡◌, ◌≢◌, ℕ, ◌+◌, ◌-◌, ◌≤◌, ◌<◌, ◌==◌, Bool, true, false, cond, List, [], ◌∷◌, ◌++◌, length, take, drop, Option, Some, None}
 use Rattle.std.proofs.Common.{is_some, Ok, refl, arith, ◌∙◌, ap, ap₂, sym, subst, length-append, append_assoc}
 use Rattle.std.specs.Prelude.{nat_lt}
@@ -14,27 +14,27 @@ use Rattle.pid_findings.specs.Views.{IsPes}
 use Rattle.pid_findings.specs.Findings.{ended, decided_by, found_if, stray_bytes}
 use Rattle.pid_findings.proofs.LeastSizes.{least_by, not_zero}
 
--- a list after another one
+-- A list after the front that precedes it
 pub after_front : (front rest : List ℕ) → drop (length front) (front ++ rest) ≡ rest
 after_front [] rest = refl
 after_front (x ∷ front) rest = after_front front rest
 
--- the front of two lists that are joined
+-- The front of two joined lists
 pub take_front : (front rest : List ℕ) → take (length front) (front ++ rest) ≡ front
 take_front [] rest = refl
 take_front (x ∷ front) rest = ap (λ (xs : List ℕ). x ∷ xs) (take_front front rest)
 
--- more bytes after it leave the header
+-- A header that was read stays the same with more bytes after it.
 pub still_read : (bytes more : List ℕ) (h : PesHeader × ℕ) → header_at bytes ≡ Ok h → header_at (bytes ++ more) ≡ Ok h
 still_read bytes more h is = longer_is_read bytes more (rw is (λ x. absurd cc)) ∙ is
 
--- how many bytes a PES packet waits for
+-- The number of bytes for which a PES packet waits
 pub waits_for : (bytes : List ℕ) (header : PesHeader) (size least : ℕ) → header_at bytes ≡ Ok (header, size) →
     least ≡ cond (header.len == 0) (max_unbounded_pes + 1) (6 + header.len) →
     IsUndecidedBelow unit_kinds.Pes bytes least
 waits_for bytes header size least is e = least_by bytes (header, size) least (header.len == 0) is refl e
 
--- where nothing more comes, one without a length ends with all that came
+-- If nothing follows, a PES packet without a length ends with all its bytes.
 endless : (packet : ℕ) (access : Bool) (front body : List ℕ) (header : PesHeader) → header_at (front ++ body) ≡ Ok (header, length front) → header.len ≡ 0 →
     ended false (Some (record { packet = packet; kind = unit_kinds.Pes; access = access; bytes = front ++ body })) ≡ whole_pes packet access header body ∷ []
 unfolding ended begun_kind
@@ -49,14 +49,14 @@ pub endless_found : (open_unit : Option OpenUnit) (unit : OpenUnit) (packet : �
     open_unit ≡ Some unit → record { packet = packet; kind = kind; access = access; bytes = front ++ body } ≡ unit → IsFront read kind front (front ++ body) →
     read ≡ Some header →
     header.len ≡ 0 → size ≡ length body → ended false open_unit ≡ whole_pes packet access header (take size (body ++ [])) ∷ []
-endless_found open_unit unit packet kind access read front body header size opened view stands some zero sized =
-    let head : IsFront (Some header) kind front (front ++ body) = subst (λ (o : Option PesHeader). IsFront o kind front (front ++ body)) some stands in
+endless_found open_unit unit packet kind access read front body header size opened view matches some zero sized =
+    let head : IsFront (Some header) kind front (front ++ body) = subst (λ (o : Option PesHeader). IsFront o kind front (front ++ body)) some matches in
     let all : take size (body ++ []) ≡ body = ap (λ (n : ℕ). take n (body ++ [])) sized ∙ ap (take (length body)) (append-nil body) ∙ take_whole body in
     ap (ended false) opened ∙ ap (λ (u : OpenUnit). ended false (Some u)) (sym view)
     ∙ ap (λ (k : UnitKind). ended false (Some (record { packet = packet; kind = k; access = access; bytes = front ++ body }))) head.0
     ∙ endless packet access front body header head.1 zero ∙ ap (λ (xs : List ℕ). whole_pes packet access header xs ∷ []) (sym all)
 
--- one with a length ends with the last of its bytes
+-- A PES packet with a length ends with its last byte.
 fewer : (n m : ℕ) → m ≤ n → nat_lt n m ≡ false
 fewer n m le = grind (arith, nat_tests)
 
@@ -84,14 +84,14 @@ unfolding found_if begun_kind
 whole_found packet access front body payload header is more le =
     rw (whole_decided front body payload header is more le, still_read (front ++ body) payload (header, length front) is) refl
 
--- the same of an open unit whose header was read, with the bytes after its header
+-- An open unit with a header that was read, and the bytes after the header
 abbrev ReadUnit : OpenUnit → ℕ → UnitKind → Bool → Option PesHeader → List ℕ → List ℕ → PesHeader → Type 0
 ReadUnit unit packet kind access read front body header =
     (record { packet = packet; kind = kind; access = access; bytes = front ++ body } ≡ unit) × IsFront read kind front (front ++ body) × (read ≡ Some header)
 
 read_front : (kind : UnitKind) (read : Option PesHeader) (front all : List ℕ) (header : PesHeader) → IsFront read kind front all → read ≡ Some header →
     IsFront (Some header) kind front all
-read_front kind read front all header stands some = subst (λ (o : Option PesHeader). IsFront o kind front all) some stands
+read_front kind read front all header matches some = subst (λ (o : Option PesHeader). IsFront o kind front all) some matches
 
 enough_in : (unit : OpenUnit) (packet : ℕ) (kind : UnitKind) (access : Bool) (front body payload : List ℕ) (header : PesHeader) →
     record { packet = packet; kind = kind; access = access; bytes = front ++ body } ≡ unit → 6 + header.len ≤ length unit.bytes + length payload →
@@ -99,7 +99,7 @@ enough_in : (unit : OpenUnit) (packet : ℕ) (kind : UnitKind) (access : Bool) (
 enough_in unit packet kind access front body payload header view enough =
     omega (arith, enough, ap (λ (u : OpenUnit). length u.bytes) view, length-append front body)
 
--- it is found with the bytes past its end
+-- The open unit is found whole, with the stray bytes past its end.
 pub whole_unit : (unit : OpenUnit) (packet : ℕ) (kind : UnitKind) (access : Bool) (read : Option PesHeader) (front body payload : List ℕ) (header : PesHeader)
     (size rest : ℕ) →
     ReadUnit unit packet kind access read front body header → header.len ≢ 0 → 6 + header.len ≤ length unit.bytes + length payload →
@@ -126,12 +126,12 @@ whole_unit_decided unit packet kind access read front body payload header h more
     ∙ ap (λ (k : UnitKind). is_some (decided k ((front ++ body) ++ payload))) head.0
     ∙ ap is_some (whole_decided front body payload header head.1 more le)
 
--- more bytes after the last ones
+-- More bytes after the last bytes
 pub appended_last : (front zeros bytes payload : List ℕ) → (front ++ (zeros ++ bytes)) ++ payload ≡ front ++ (zeros ++ (bytes ++ payload))
 appended_last front zeros bytes payload =
     append_assoc front (zeros ++ bytes) payload ∙ ap (λ (xs : List ℕ). front ++ xs) (append_assoc zeros bytes payload)
 
--- more bytes leave an open unit as it is, as long as all are fewer than the least that may decide it
+-- More bytes leave an open unit as it is, if all its bytes together are fewer than the least number that may decide it.
 front_stays : (header : Option PesHeader) (kind : UnitKind) (front bytes more : List ℕ) → IsFront header kind front bytes →
     IsFront header kind front (bytes ++ more)
 front_stays None kind front bytes more h = h

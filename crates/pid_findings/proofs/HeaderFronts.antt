@@ -1,4 +1,4 @@
--- A PES header is read of its own bytes alone.
+-- A PES header depends on its own bytes alone.
 use Rattle.std.proofs.Common.{◌≡◌, ℕ, zero, suc, ◌+◌, ◌*◌, ◌/◌, ◌≤◌, ◌<◌, Bool, true, false, cond, Result, Ok, Err, List, [], ◌∷◌, length, take, get_or, refl}
 use Rattle.std.proofs.Common.{sym, ap, ◌∙◌, arith, ltb}
 use Rattle.std.proofs.lemmas.Bool.{ltb-false, le-ltb}
@@ -21,7 +21,7 @@ not_ok e h is = absurd cc
 value_is : (g h : PesHeader × ℕ) → ◌≡◌ {A = Read} (Ok g) (Ok h) → g ≡ h
 value_is g h is = cc
 
--- past a test
+-- A header that is read passes each test.
 passes : (b : Bool) (e : PesError) (r : Read) (h : PesHeader × ℕ) → cond b (Err e) r ≡ Ok h → b ≡ false
 passes true e r h is = absurd (not_ok e h is)
 passes false e r h is = refl
@@ -30,7 +30,7 @@ passed : (b : Bool) (e : PesError) (r : Read) (h : PesHeader × ℕ) → cond b 
 passed true e r h is = absurd (not_ok e h is)
 passed false e r h is = is
 
--- the size of a header with flags
+-- The size of a header with flags
 sized : (r : Result Stamps PesError) (f : Stamps → PesHeader) (n : ℕ) (h : PesHeader × ℕ) → (r >>= (λ stamps. Ok (f stamps, n))) ≡ Ok h → h.1 ≡ n
 sized (Ok stamps) f n h is = sym (ap (λ (x : PesHeader × ℕ). x.1) (value_is (f stamps, n) h is))
 sized (Err e) f n h is = absurd (not_ok e h is)
@@ -42,7 +42,7 @@ data_size id len first second size bytes h is =
     let two = passed (is_too_short len size) Length _ h one in
     sized (stamps_at (second / 64) (take size bytes)) _ (9 + size) h two
 
--- the data are read of as many bytes alone
+-- The data of a header depend on its own bytes alone.
 data_front : (id len first second size : ℕ) (bytes : List ℕ) → size ≤ length bytes →
     data_at id len first second size (take size bytes) ≡ data_at id len first second size bytes
 unfolding data_at
@@ -50,14 +50,14 @@ data_front id len first second size bytes there =
     let n : length (take size bytes) ≡ size = length-take-le size bytes there in
     rw (take_all size (take size bytes) (omega (arith, n))) refl
 
--- what a header takes: so many bytes are there, and they are read alone
+-- The bytes of the header are there, and the header can be read from them alone.
 abbrev pub IsAlone : List ℕ → PesHeader × ℕ → Type 0
 IsAlone bytes h = (h.1 ≤ length bytes) × (start_at (take h.1 bytes) ≡ Ok h)
 
 nine : (size : ℕ) → 9 + size ≡ suc (suc (suc (suc (suc (suc (suc (suc (suc size))))))))
 nine size = omega arith
 
--- with flags
+-- A header with flags
 flags_alone : (p q r id high low : ℕ) (bytes : List ℕ) (h : PesHeader × ℕ) → has_flags id ≡ true → flags_at id (high * 256 + low) bytes ≡ Ok h →
     IsAlone (p ∷ q ∷ r ∷ id ∷ high ∷ low ∷ bytes) h
 unfolding start_at flags_at
@@ -76,7 +76,7 @@ flags_alone p q r id high low (first ∷ second ∷ size ∷ bytes) h flags is =
     rw (flags, enough, data_front id (high * 256 + low) first second size bytes there) read_data in
     (omega (arith, n, there), rw front read)
 
--- without: this is what is read of six bytes
+-- A header without flags, read from six bytes
 plain_alone : (none : PesHeader) (p q r id high low : ℕ) (bytes : List ℕ) (h : PesHeader × ℕ) → start_at (p ∷ q ∷ r ∷ id ∷ high ∷ low ∷ []) ≡ Ok (none, 6) →
     ◌≡◌ {A = Read} (Ok (none, 6)) (Ok h) → IsAlone (p ∷ q ∷ r ∷ id ∷ high ∷ low ∷ bytes) h
 plain_alone none p q r id high low bytes h six is =
@@ -101,7 +101,7 @@ start_alone (p ∷ q ∷ r ∷ id ∷ []) h is = absurd (not_ok Short h is)
 start_alone (p ∷ q ∷ r ∷ id ∷ high ∷ []) h is = absurd (not_ok Short h is)
 start_alone (p ∷ q ∷ r ∷ id ∷ high ∷ low ∷ bytes) h is = by_flags (has_flags id) _ p q r id high low bytes h refl (λ e. rw e refl) is
 
--- a front that has a whole header has the prefix
+-- A front with a whole header has the prefix.
 prefix_front : (n : ℕ) (bytes : List ℕ) (h : PesHeader × ℕ) → start_at (take n bytes) ≡ Ok h → misses_prefix bytes ≡ false →
     misses_prefix (take n bytes) ≡ false
 unfolding start_at
@@ -114,7 +114,7 @@ prefix_front (suc (suc zero)) (p ∷ q ∷ bytes) h is e = absurd (not_ok Short 
 prefix_front (suc (suc (suc n))) (p ∷ q ∷ []) h is e = e
 prefix_front (suc (suc (suc n))) (p ∷ q ∷ r ∷ bytes) h is e = e
 
--- a header that was read is all there, and is read of its own bytes
+-- A header that was read is there as a whole, and depends on its own bytes alone.
 pub header_there : (bytes : List ℕ) (h : PesHeader × ℕ) → header_at bytes ≡ Ok h → h.1 ≤ length bytes
 unfolding header_at
 header_there bytes h is = (start_alone bytes h (passed (misses_prefix bytes) Prefix (start_at bytes) h is)).0
@@ -126,7 +126,7 @@ header_alone bytes h is =
     let fits = prefix_front h.1 bytes h alone.1 (passes (misses_prefix bytes) Prefix (start_at bytes) h is) in
     rw fits alone.1
 
--- its size
+-- The size of a header
 flagged_size : (id len : ℕ) (bytes : List ℕ) (h : PesHeader × ℕ) → get_or bytes 2 0 < 256 → flags_at id len bytes ≡ Ok h → h.1 ≤ 264
 unfolding flags_at
 flagged_size id len [] h few is = absurd (not_ok Short h is)

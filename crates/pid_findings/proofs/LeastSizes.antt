@@ -1,4 +1,4 @@
--- How many bytes a PES packet waits for once its header is read.
+-- The number of bytes for which a PES packet waits after its header is read.
 use Rattle.std.proofs.Common.{◌≡◌, ◌≢◌, ℕ, ◌+◌, ◌<◌, ◌==◌, Bool, true, false, cond, List, ◌++◌, length, None, Ok, refl, arith, ◌∙◌, length-append}
 use Rattle.std.specs.Prelude.{nat_lt}
 use Rattle.std.proofs.lemmas.Bool.Decides.{nat_tests}
@@ -30,7 +30,7 @@ least_by bytes h least z is test size more lt =
     let read : header_at (bytes ++ more) ≡ Ok h = longer_is_read bytes more (rw is (λ x. absurd cc)) ∙ is in
     rw read (of_header_none (bytes ++ more) h least lt z test size)
 
--- fewer bytes leave it open
+-- Fewer bytes leave the unit open.
 pub still_open : (kind : UnitKind) (bytes payload : List ℕ) (least : ℕ) → IsUndecidedBelow kind bytes least → length bytes + length payload < least →
     decided kind (bytes ++ payload) ≡ None
 still_open kind bytes payload least waits lt = waits payload (omega (arith, lt, length-append bytes payload))

@@ -14,7 +14,7 @@ use Rattle.pid_findings.proofs.Bodies.{headed, left_open}
 abbrev unit_of : ℕ → UnitKind → Bool → List ℕ → OpenUnit
 unit_of packet kind access bytes = record { packet = packet; kind = kind; access = access; bytes = bytes }
 
--- 1. The header stood apart before
+-- 1. The header was separate before
 
 zeros_are : (n len : ℕ) (bytes new : List ℕ) → len ≡ length bytes → new ≡ [] → replicate (length (replicate n 0 ++ bytes)) 0 ≡ replicate (n + len) 0 ++ new
 zeros_are n len bytes new l e =
@@ -59,7 +59,7 @@ more_left unit packet kind access None front bytes new n len some view h l e = a
 more_left unit packet kind access (Some header) front bytes new n len some view h l e =
     same_unit unit packet kind access _ _ view (bytes_left header kind front bytes new n len h l e)
 
--- 2. It is set apart now
+-- 2. The header becomes separate
 
 pub alone : (header : Option PesHeader) (kind : UnitKind) (front all bytes : List ℕ) (n : ℕ) → false ≡ is_some header → IsFront header kind front all →
     FollowsHeader header n →

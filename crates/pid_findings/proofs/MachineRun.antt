@@ -19,7 +19,7 @@ step_opens before s entry h =
     let m = mark s.last entry in
     ap (λ (open_unit : Option OpenUnit). next_open m.entry.index (role m) (unbroken m.broken open_unit)) h ∙ sym (open_more m before)
 
--- with what is open after the packets so far, the last one of them first
+-- A run starts with the unit that is open after the packets so far, listed from the last to the first.
 runs_on : (before : List Marked) (s : PidState) (entries : List Entry) → s.open_unit ≡ open_after before →
     run s entries ≡ findings_after before (marked s.last entries)
 unfolding run findings_after step_marked mark
@@ -40,7 +40,7 @@ ends_on before s (entry ∷ entries) h =
     ends_on (m ∷ before) (step s entry) entries (step_opens before s entry h)
     ∙ ap open_after (turned m (marked (Some (seen m)) entries) before)
 
--- the machine finds what the definition says, with the end of the stream and without it
+-- The machine finds the findings of the definition, with and without the end of the stream.
 pub run_finds_all : RunFindsAll
 unfolding open_after stretch divider
 run_finds_all count entries =

@@ -1,4 +1,4 @@
--- What is open after a packet, from what is open before it.
+-- The unit that is open after a packet, from the unit that is open before it.
 use Rattle.std.proofs.Common.{◌≡◌, ℕ, Bool, true, false, List, [], ◌∷◌, ◌++◌, Option, Some, None, refl, sym, ap, ◌∙◌, append_assoc}
 use Rattle.std.specs.Prelude.{option_and_then, option_map, ◌||◌, is_some}
 use Rattle.std.proofs.lemmas.List.{append-nil}
@@ -14,7 +14,7 @@ use Rattle.pid_findings.proofs.DecidedBytes.{last_undecided, undecided_before}
 some_is_not_none : (w : WhatView) → ◌≡◌ {A = Option WhatView} (Some w) None → ⊥
 some_is_not_none w e = absurd cc
 
--- what begins with more bytes after it is the same with these bytes
+-- A unit that begins with more bytes after it is the unit with these bytes appended.
 begins_more : (packet : ℕ) (r : Role) (a b : List ℕ) → begins packet r (a ++ b) ≡ option_map (λ p. appended p b) (begins packet r a)
 unfolding begins
 begins_more packet NoPayload a b = refl
@@ -30,7 +30,7 @@ begins_more packet (SectionStart before bytes) a b = by_rest (last_in 0 bytes)
 begins_more packet PointerPastEnd a b = refl
 begins_more packet (Continuation payload) a b = refl
 
--- what begins with nothing after it, if it is undecided
+-- The unit that begins with no bytes after it is open, if it is undecided.
 begins_new : (packet : ℕ) (r : Role) (open_unit : Option OpenUnit) → role_divides r ≡ true →
     option_and_then undecided (begins packet r []) ≡ next_open packet r open_unit
 unfolding begins next_open undecided unless_decided
@@ -47,7 +47,7 @@ begins_new packet (SectionStart before bytes) open_unit d = by_rest (last_in 0 b
 begins_new packet PointerPastEnd open_unit d = refl
 begins_new packet (Continuation payload) open_unit d = absurd cc
 
--- after a break nothing is open but what begins
+-- After a break only a unit that begins is open.
 begins_broken : (packet : ℕ) (r : Role) → option_and_then undecided (begins packet r []) ≡ next_open packet r None
 unfolding begins next_open
 begins_broken packet NoPayload = refl
@@ -57,7 +57,7 @@ begins_broken packet (SectionStart before bytes) = begins_new packet (SectionSta
 begins_broken packet PointerPastEnd = refl
 begins_broken packet (Continuation payload) = refl
 
--- a part that goes on: decided with its new bytes exactly where it was, or where these decide it
+-- A continued unit is decided with its new bytes exactly if it was decided before or the new bytes decide it.
 grows : (packet : ℕ) (c : List ℕ) (p : OpenUnit) → undecided (appended p c) ≡ next_open packet (Continuation c) (undecided p)
 unfolding next_open undecided unless_decided
 grows packet c p = by_before (decided p.kind p.bytes) refl
@@ -90,12 +90,12 @@ stays_none packet (PesStart access payload) d = absurd cc
 stays_none packet (SectionStart before bytes) d = absurd cc
 stays_none packet PointerPastEnd d = absurd cc
 
--- after a packet that divides
+-- The unit that is open after a packet that divides
 divided : (m : Marked) (before : List Marked) → divides m ≡ true → open_after (m ∷ before) ≡ option_and_then undecided (begins m.entry.index (role m) [])
 unfolding open_after stretch divider joined
 divided m before d = rw d refl
 
--- after a packet that does not
+-- The units after a packet that does not divide
 stretch_more : (m : Marked) (before : List Marked) → divides m ≡ false →
     stretch (m ∷ before) ≡ option_map (λ p. appended p (continuing (role m))) (stretch before)
 unfolding stretch divider joined
@@ -124,7 +124,7 @@ role_decides : (m : Marked) (t : Bool) → m.broken ≡ None → role_divides (r
 unfolding divides
 role_decides m t e r = ap (λ (b : Option (ℕ × ℕ)). is_some b || role_divides (role m)) e ∙ r
 
--- what is open after a packet
+-- The unit that is open after a packet
 pub open_more : (m : Marked) (before : List Marked) → open_after (m ∷ before) ≡ next_open m.entry.index (role m) (unbroken m.broken (open_after before))
 unfolding unbroken
 open_more m before = by_break m.broken refl

@@ -1,4 +1,4 @@
--- Walking over the sections of a payload, one at a time.
+-- A walk over the sections of a payload, one section at a time.
 use Rattle.std.proofs.Common.{◌≡◌, ℕ, zero, suc, ◌-◌, ◌<◌, ◌==◌, Bool, true, false, cond, List, [], ◌∷◌, length, drop, Option, Some, None, refl, sym, ap, ◌∙◌}
 use Rattle.std.proofs.Common.{arith}
 use Rattle.psi_tables.specs.declared.error.SectionError.TheVariants as section_errors
@@ -9,7 +9,7 @@ use Rattle.pid_findings.specs.declared.open_unit.UnitKind.TheVariants as unit_ki
 what_is : (x y : WhatView) → ◌≡◌ {A = Option WhatView} (Some x) (Some y) → x ≡ y
 what_is x y e = cc
 
--- one byte is skipped
+-- One byte is skipped.
 skip_one : (n b : ℕ) (bytes : List ℕ) → 0 < n → drop n (b ∷ bytes) ≡ drop (n - 1) bytes
 skip_one zero b bytes h = absurd (omega arith)
 skip_one (suc n) b bytes h = let e : suc n - 1 ≡ n = omega arith in rw e refl
@@ -62,7 +62,7 @@ rest_by b bytes true d f e = absurd cc
 rest_by b bytes false None f e = refl
 rest_by b bytes false (Some what) f e = absurd cc
 
--- no section stands at the front
+-- No section is at the front.
 pub fill_found : (packet : ℕ) (bytes : List ℕ) → is_stuffing bytes ≡ true → sections_in packet 0 bytes ≡ []
 unfolding sections_in
 fill_found packet [] f = refl
@@ -77,7 +77,7 @@ pub some_left : (bytes : List ℕ) → is_stuffing bytes ≡ false → 0 < lengt
 some_left [] f = absurd cc
 some_left (b ∷ bytes) f = omega arith
 
--- the section at the front is not decided
+-- The section at the front is undecided.
 pub cut_found : (packet : ℕ) (bytes : List ℕ) → decided unit_kinds.Section bytes ≡ None → sections_in packet 0 bytes ≡ []
 unfolding sections_in
 cut_found packet [] d = refl
@@ -88,7 +88,7 @@ unfolding last_in
 cut_last [] f d = absurd cc
 cut_last (b ∷ bytes) f d = rest_by b bytes (b == 0xFF) (decided unit_kinds.Section (b ∷ bytes)) f d
 
--- it is decided, and others follow
+-- The section at the front is decided, and the walk continues after it.
 pub more_found : (packet : ℕ) (bytes : List ℕ) (w : WhatView) → is_stuffing bytes ≡ false → decided unit_kinds.Section bytes ≡ Some w →
     sections_in packet 0 bytes ≡ about_within (section packet bytes) w ∷ sections_in packet 0 (drop (taken_by bytes w) bytes)
 unfolding sections_in

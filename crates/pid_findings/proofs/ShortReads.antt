@@ -1,4 +1,4 @@
--- Bytes that are too few to be read are not many.
+-- Bytes that are too few for a reader are few.
 use Rattle.std.proofs.Common.{◌≡◌, ℕ, ◌+◌, ◌*◌, ◌/◌, ◌%◌, ◌<◌, ◌==◌, Bool, true, false, cond, List, [], ◌∷◌, length, take, drop, get_or, Result, Ok, Err, refl}
 use Rattle.std.proofs.Common.{ap, arith, ltb}
 use Rattle.std.proofs.lemmas.Bool.{ltb-true}
@@ -99,7 +99,7 @@ prefixed : {X : Type 0} (b : Bool) (r : Result X PesError) → is_short (cond b 
 prefixed true r e = absurd cc
 prefixed false r e = e
 
--- a header that wants more bytes
+-- A header that is too short to be read has fewer than 264 bytes.
 pub header_bound : (bytes : List ℕ) → IsBytes bytes → header_at bytes ≡ Err pes_errors.Short → length bytes < 264
 unfolding header_at
 header_bound bytes h e = start_bound bytes (h 8) (prefixed (misses_prefix bytes) (reading.start_at bytes) (ap is_short e))
@@ -125,7 +125,7 @@ sized_more true v r e h = absurd cc
 sized_more false true r e h = refl
 sized_more false false r e h = absurd cc
 
--- a section that wants more bytes
+-- A section that is too short to be read has fewer than 4,099 bytes.
 pub section_bound : (bytes : List ℕ) → IsBytes bytes → section_at bytes ≡ Err section_errors.Short → length bytes < 4099
 unfolding section_at sections.section_start_at sized_at whole_at
 section_bound [] h e = omega arith

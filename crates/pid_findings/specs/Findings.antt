@@ -23,12 +23,12 @@ abbrev pub continuing : Role → List ℕ
 continuing (Continuation payload) = payload
 continuing _ = []
 
--- the packet that last divided
+-- the last packet that divides
 unfoldable pub divider : List Marked → Option Marked
 divider [] = None
 divider (m ∷ before) = if divides m then Some m else divider before
 
--- the payloads since then, joined
+-- the payloads after this packet, joined
 unfoldable pub joined : List Marked → List ℕ
 joined [] = []
 joined (m ∷ before) = if divides m then [] else joined before ++ continuing (role m)
@@ -70,28 +70,28 @@ unfoldable pub ended : Bool → Option OpenUnit → List Found
 ended unended None = []
 ended unended (Some unit) = about unit (end_of unended unit.bytes unit.kind (header_at unit.bytes)) ∷ []
 
--- bytes that belong to nothing that was begun, if there are any
+-- bytes that belong to no unit, if there are any
 abbrev pub stray_bytes : ℕ → List Found
 stray_bytes size = if size == 0 then [] else plain (IsStray size) ∷ []
 
 abbrev pub stray : List ℕ → List Found
 stray payload = stray_bytes (length payload)
 
--- of these bytes how many come past the end of a PES packet: PES_packet_length is the number of bytes that follow it (2.4.3.7)
+-- how many of these bytes are past the end of a PES packet: PES_packet_length is the number of the packet's bytes after this field (2.4.3.7)
 abbrev pub past_end : ℕ → WhatView → ℕ
 past_end size (IsPes header unended body) = size - (6 + header.len)
 past_end size _ = 0
 
--- a PES packet may end before the last payload that it has: the rest of that payload belongs to no PES packet
+-- a PES packet may end inside a payload: the rest of this payload belongs to no PES packet
 unfoldable pub found_if : OpenUnit → Option WhatView → List Found
 found_if unit None = []
 found_if unit (Some what) = about unit what ∷ stray_bytes (past_end (length unit.bytes) what)
 
--- what its bytes decide
+-- the findings that the bytes of a unit decide
 abbrev pub decided_by : OpenUnit → List Found
 decided_by unit = found_if unit (decided unit.kind unit.bytes)
 
--- in the packet where it begins
+-- the same in the packet in which the unit begins
 unfoldable pub found_within : OpenUnit → Option WhatView → List Found
 found_within unit None = []
 found_within unit (Some what) = about_within unit what ∷ stray_bytes (past_end (length unit.bytes) what)
@@ -103,7 +103,7 @@ unfoldable pub found_or_cut : OpenUnit → Option WhatView → List Found
 found_or_cut unit None = cut_short (Some unit)
 found_or_cut unit (Some what) = about unit what ∷ []
 
--- the bytes before the place to which pointer_field points: the last bytes of an open section; an open PES packet has none there
+-- the bytes before the place to which pointer_field points are the last bytes of an open section, and no bytes of an open PES packet
 unfoldable pub last_bytes_by : List ℕ → OpenUnit → UnitKind → List Found
 last_bytes_by bytes unit unit_kinds.Pes = ended false (Some unit)
 last_bytes_by bytes unit unit_kinds.Section = found_or_cut (appended unit bytes) (decided unit_kinds.Section (unit.bytes ++ bytes))
@@ -112,7 +112,7 @@ unfoldable pub last_bytes : List ℕ → Option OpenUnit → List Found
 last_bytes bytes None = []
 last_bytes bytes (Some unit) = last_bytes_by bytes unit unit.kind
 
--- a payload that goes on with the open unit; where none is open, it is stray
+-- a payload that continues the open unit; if no unit is open, the payload is stray
 unfoldable pub found_appended : List ℕ → Option OpenUnit → List Found
 found_appended payload None = stray payload
 found_appended payload (Some unit) = decided_by (appended unit payload)

@@ -26,7 +26,8 @@ fn note_ended<'a, A: Allocator + Clone>(
     verdict: Verdict,
     found: &mut Vec<Finding<'a, A>, A>,
 ) -> Result<(), AllocError>
-    ensures ok { let unit : units.OpenUnit = record { packet = packet; kind = kind; access = access; bytes = bytes.now } in
+    ensures ok { let unit : units.OpenUnit =
+        record { packet = packet; kind = kind; access = access; bytes = bytes.now } in
         OnOk result (Finds place found.old.items found.new.items (units.about unit (what_of unit.bytes verdict)
         ∷ findings.stray_bytes (findings.past_end (length unit.bytes) (what_of unit.bytes verdict)))) }
     ensures err { OnErr result (KeepsFindings found.old.items found.new.items) }
@@ -50,7 +51,8 @@ fn note_with_rest<'a, A: Allocator + Clone>(
     found: &mut Vec<Finding<'a, A>, A>,
 ) -> Result<(), AllocError>
     ensures ok { OnOk result (Finds place found.old.items found.new.items
-        (units.whole_pes begun.0 begun.1 header (take size (body.old.items ++ payload.now)) ∷ findings.stray_bytes rest)) }
+        (units.whole_pes begun.0 begun.1 header (take size (body.old.items ++ payload.now))
+        ∷ findings.stray_bytes rest)) }
     ensures moved { OnOk result (body.new.items ≡ []) }
     ensures err { OnErr result (body.new.items ≡ body.old.items) }
     ensures none { OnErr result (KeepsFindings found.old.items found.new.items) }

@@ -21,7 +21,7 @@ pub(crate) fn is_stamped(stamps: Stamps) -> bool
     !matches!(stamps, Stamps::Absent)
 }
 
-// Returns whether a PES header can be read that has a PTS.
+// Returns whether the bytes begin with a PES header that can be read and has a PTS.
 fn has_pts(bytes: &[u8]) -> bool
     ensures { result ≡ units.has_pts (header_at bytes.now) }
 {
@@ -59,7 +59,8 @@ pub(crate) fn note_decided<'a, A: Allocator + Clone>(
     verdict: Verdict,
     found: &mut Vec<Finding<'a, A>, A>,
 ) -> Result<(), AllocError>
-    ensures ok { let unit : units.OpenUnit = record { packet = packet; kind = kind; access = access; bytes = bytes.now } in
+    ensures ok { let unit : units.OpenUnit =
+        record { packet = packet; kind = kind; access = access; bytes = bytes.now } in
         OnOk result (Finds place found.old.items found.new.items (units.about unit (what_of unit.bytes verdict) ∷ [])) }
     ensures err { OnErr result (KeepsFindings found.old.items found.new.items) }
     ensures one { vec_len found.new ≤ vec_len found.old + 1 }

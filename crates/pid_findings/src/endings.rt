@@ -171,8 +171,8 @@ pub(crate) fn end_before_pointer<'a, A: Allocator + Clone>(
 }
 
 /// Notes a PES packet whose header was read, with the packet in which it began and its random_access_indicator. Its
-/// body of `size` bytes ends with this payload, and is moved to the finding with its room: at most 4,096 bytes, or fewer
-/// than twice the bytes received.
+/// body of `size` bytes ends with this payload, and is moved to the finding with its room: at most 4,096 bytes, or
+/// fewer than twice the bytes received.
 pub(crate) fn note_whole<'a, A: Allocator + Clone>(
     alloc: &A,
     place: Place,

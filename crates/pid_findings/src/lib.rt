@@ -2,8 +2,8 @@
 //!
 //! The findings are a function of the packets of the PID (`specs/Findings`). `PidState` takes packet by packet, and
 //! keeps the last packet and the open section or PES packet (`specs/Machine`, `specs/OpenUnits`); `specs/Marks` says
-//! which packets are duplicates or follow a break, `specs/Roles` what a packet does with its payload. `specs/Bodies` says
-//! what stays the same without the bodies of PES packets.
+//! which packets are duplicates or follow a break, `specs/Roles` what a packet does with its payload. `specs/Bodies`
+//! says what stays the same without the bodies of PES packets.
 #![tactic(auto)]
 
 mod appending;

@@ -17,7 +17,7 @@ pub enum Mark {
     Breaks(u8, u8),
 }
 
-/// discontinuity_indicator.
+/// Returns whether a packet has the discontinuity_indicator.
 fn is_discontinuity(packet: &Packet<'_>) -> bool
     ensures { result ≡ marks.is_discontinuity (packet_view packet.now).adaptation }
 {

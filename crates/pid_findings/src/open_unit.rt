@@ -53,7 +53,8 @@ impl<A: Allocator> Model for OpenUnit<A> {
     } };
 
     ghost invariant = { λ u. units.IsOpen u.header u.kind u.front.items
-        (u.front.items ++ (replicate u.left_out 0 ++ u.bytes.items)) u.least × units.FollowsHeader u.header u.left_out };
+        (u.front.items ++ (replicate u.left_out 0 ++ u.bytes.items)) u.least
+        × units.FollowsHeader u.header u.left_out };
 }
 
 impl<A: Allocator + Clone> OpenUnit<A> {

@@ -68,7 +68,7 @@ pub(crate) fn note_here<'a, A: Allocator>(
     Ok(())
 }
 
-/// Notes bytes that belong to nothing that was begun, if there are any, in a list with room for one more.
+/// Notes bytes that belong to no unit, if there are any, in a list with room for one more finding.
 pub(crate) fn push_stray<'a, A: Allocator>(
     place: Place,
     size: usize,
@@ -88,8 +88,7 @@ pub(crate) fn push_stray<'a, A: Allocator>(
     });
 }
 
-/// Notes bytes that belong to nothing that was begun, if there are any. It stays a call of its own: few packets have
-/// any.
+/// Notes bytes that belong to no unit, if there are any. It stays a call of its own: few packets have such bytes.
 #[inline(never)]
 pub(crate) fn note_stray<'a, A: Allocator>(
     place: Place,

@@ -54,6 +54,7 @@ fn role_by_pointer<'p, 'a: 'p>(payload: PayloadBytes<'p, 'a>) -> PayloadRole<'p,
     PayloadRole::SectionStart(before, after(after(payload, 1), n))
 }
 
+// Returns the role of a payload by the header of its packet, which has this start, and by its first bytes.
 #[tactic(auto, unfolding(crate::specs::Roles::role_by))]
 fn role_by<'p, 'a: 'p>(start: Start, payload: Option<PayloadBytes<'p, 'a>>) -> PayloadRole<'p, 'a>
     ensures role { role_view result ≡ roles.role_by start (option_map payload_list payload.entry) }

@@ -26,7 +26,7 @@ pub(crate) enum Verdict {
     BadSection(SectionError),
 }
 
-/// Returns how many bytes come past the end of the PES packet that these bytes decide.
+/// Returns how many of these bytes are past the end of the PES packet that they decide.
 pub(crate) fn past_end(bytes: &[u8], verdict: Verdict) -> usize
     ensures { result ≡ findings.past_end (length bytes.now) (what_of bytes.now verdict) }
 {
@@ -36,7 +36,7 @@ pub(crate) fn past_end(bytes: &[u8], verdict: Verdict) -> usize
     }
 }
 
-/// Returns what the bytes at hand decide, none while they are too few; then they are not many.
+/// Returns what the bytes at hand decide; none while they are too few: then they are at most 8,388,608.
 #[tactic(auto, unfolding(crate::specs::OpenUnits::decided))]
 pub(crate) fn decide(kind: UnitKind, bytes: &[u8]) -> Option<Verdict>
     ensures decides { option_map (what_of bytes.now) result ≡ decided kind bytes.now }
@@ -48,6 +48,7 @@ pub(crate) fn decide(kind: UnitKind, bytes: &[u8]) -> Option<Verdict>
     }
 }
 
+// Returns the verdict on a section with these bytes.
 #[tactic(auto, unfolding(crate::specs::OpenUnits::decided, crate::specs::OpenUnits::of_section))]
 fn decide_section(bytes: &[u8]) -> Option<Verdict>
     ensures decides { option_map (what_of bytes.now) result ≡ decided UnitKind.Section bytes.now }
@@ -60,6 +61,7 @@ fn decide_section(bytes: &[u8]) -> Option<Verdict>
     }
 }
 
+// Returns the verdict on a PES packet with these bytes.
 #[tactic(auto, unfolding(crate::specs::OpenUnits::decided, crate::specs::OpenUnits::of_pes))]
 fn decide_pes(bytes: &[u8]) -> Option<Verdict>
     ensures decides { option_map (what_of bytes.now) result ≡ decided UnitKind.Pes bytes.now }

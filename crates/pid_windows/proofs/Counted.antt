@@ -69,16 +69,16 @@ no_more : (p : Placed → Bool) (xs : List Placed) → length (filter p xs) ≤ 
 no_more p [] = omega arith
 no_more p (x ∷ xs) = omega (arith, filter_one p x xs, bit (p x), no_more p xs)
 
--- a number in the counts, which goes up with packets of one kind
+-- A number in the counts that grows with packets of one kind
 record IsCounter (f : PidCounts → ℕ) (m : Bool → Bool) : Type 0 where
   none : f (record { packets = 0; pcrs = 0 }) ≡ 0
   more : (c : PidCounts) (pcr : Bool) → f (with_one c pcr) ≡ cond (m pcr) (one_more (f c)) (f c)
 
--- the packets that it counts
+-- The test passes the packets that the number counts.
 abbrev IsTest : (ℕ → ℕ → Placed → Bool) → (Bool → Bool) → Type 0
 IsTest test m = (window pid : ℕ) (p : Placed) → test window pid p ≡ (p.window == window) && ((p.pid == pid) && m p.pcr)
 
--- none of an earlier window is counted
+-- No packet of an earlier window is counted.
 not_before : (a w : ℕ) → a < w → (a == w) ≡ false
 not_before a w less = by (a == w) refl
   where
@@ -106,7 +106,7 @@ step true false n k e room = omega (arith, e)
 step false true n k e room = omega (arith, e)
 step false false n k e room = omega (arith, e)
 
--- the count after a packet, by that before it
+-- The count after a packet depends on the count before it.
 count_one : (f : PidCounts → ℕ) (m : Bool → Bool) (pid q : ℕ) (pcr : Bool) (es : List (ℕ × PidCounts)) → IsCounter f m →
     f (counts_of pid (with_packet es q pcr)) ≡ cond (q == pid) (cond (m pcr) (one_more (f (counts_of pid es))) (f (counts_of pid es))) (f (counts_of pid es))
 count_one f m pid q pcr es is = ap f (entry_is pid q pcr es (q == pid) refl) ∙ by (q == pid)
@@ -121,7 +121,7 @@ no_counts : (f : PidCounts → ℕ) (m : Bool → Bool) (pid : ℕ) → IsCounte
 unfolding counts_or_zero
 no_counts f m pid is = is.none
 
--- the packets of the last window, by those of them that came before the last packet
+-- The last packet adds to the count of its window if the test passes it.
 counted_by : (f : PidCounts → ℕ) (m : Bool → Bool) (test : ℕ → ℕ → Placed → Bool) (packet : Placed) (earlier : List Placed) (pid : ℕ) → IsCounter f m →
     IsTest test m →
     f (counts_of pid (counts_in (state_of earlier) packet.window)) ≡ length (filter (test packet.window pid) earlier) → length (packet ∷ earlier) < 2 ^ 64 →

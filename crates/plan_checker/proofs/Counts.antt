@@ -1,4 +1,4 @@
--- How many parts a description has.
+-- The number of parts of a description
 use Rattle.std.proofs.Common.{◌≤◌, Bool, true, false, ◌++◌, length, arith}
 use Rattle.std.proofs.lemmas.List.{length-append}
 use Rattle.description_parts.specs.Described.{Described}
@@ -32,6 +32,6 @@ few_service_tables d =
       at_most_one d.has_tdt Tdt,
     )
 
--- the tables: the PAT, at most 16 PMTs, 4 of the service information and 16 of the description's own
+-- The tables are the PAT, at most 16 PMTs, 4 tables of the service information, and at most 16 tables of the description itself.
 pub few_tables : (d : Described) → IsInRange d → table_count d ≤ 37
 few_tables d r = omega (arith, table_count-is d, few_service_tables d, r.most_programs, r.most_tables)

@@ -1,4 +1,4 @@
--- A walk over the slots of a period finds those in which a buffer becomes empty.
+-- A walk over the slots of a period finds each slot that empties a buffer.
 use Rattle.std.proofs.Common.{◌≡◌, ℕ, zero, suc, ◌+◌, ◌-◌, ◌*◌, ◌/◌, ◌%◌, ◌<◌, ◌≤◌, ◌==◌, max, Bool, true, false, List, [], ◌∷◌, length, get_or, refl, ap, sym}
 use Rattle.std.proofs.Common.{◌∙◌, inl, inr, arith, add-one}
 use Rattle.std.proofs.Math.Nat.{mod-eq_of_lt}
@@ -16,7 +16,7 @@ use Rattle.slot_plan.specs.EmptySlots.{becomes_empty, empty_slots}
 use Rattle.plan_checker.specs.declared.empties.EmptyWalk.{EmptyWalk}
 use Rattle.plan_checker.specs.EmptyWalks.{one_more, passed, round_gap}
 
--- ---- which slots they are
+-- The slots that empty the buffer
 
 pub length-empty_slots : (rate drain work : ℕ) (marks : List Bool) → length (empty_slots rate drain work marks) ≡ length marks
 unfolding empty_slots
@@ -30,7 +30,7 @@ mark_of rate drain work [] s lt = absurd (omega arith)
 mark_of rate drain work (mark ∷ marks) zero lt = refl
 mark_of rate drain work (mark ∷ marks) (suc s) lt = mark_of rate drain (work_step rate drain work mark) marks s (omega arith)
 
--- slot s of a period is one of them, by its own mark and by the work before it
+-- Slot s of a period empties the buffer or not, by its own mark and the work before it.
 pub empty_at : (rate drain start : ℕ) (marks : List Bool) (s : ℕ) (mark : Bool) (work : ℕ) → s < length marks → get_or marks s false ≡ mark →
     work ≡ work_at rate drain start marks s → own (empty_slots rate drain start marks) s ≡ becomes_empty drain work mark
 empty_at rate drain start marks s mark work lt is now =
@@ -39,13 +39,13 @@ empty_at rate drain start marks s mark work lt is now =
     ∙ ap (λ (b : Bool). becomes_empty drain (work_at rate drain start marks s) b) is
     ∙ ap (λ (w : ℕ). becomes_empty drain w mark) (sym now)
 
--- ---- the walk
+-- The walk
 
--- from one of them to the next
+-- The distance from an emptying slot to the next
 abbrev pub step : List Bool → ℕ → ℕ
 step E i = position E (i + 1) - position E i
 
--- the walk has passed the first s slots of a period, in which these are marked
+-- The state of the walk after the first s slots of a period, given which slots empty the buffer
 pub record Walks (E : List Bool) (s : ℕ) (w : EmptyWalk) : Type 0 where
   pub counted : w.count ≡ own_before (own E) s
   pub first : 0 < w.count → position E 0 ≡ w.first
@@ -68,7 +68,7 @@ walk_begins E = record {
   few = omega arith;
 }
 
--- its next slot is one of them: the first, or a further one
+-- If the next slot empties the buffer, it is the first emptying slot or a later one.
 walk_first : (E : List Bool) (s : ℕ) (w : EmptyWalk) → s < length E → own E s ≡ true → w.count ≡ 0 → Walks E s w →
     Walks E (s + 1) (record { count = 1; first = s; last = s; longest = 0 })
 walk_first E s w lt is empty walks =
@@ -121,7 +121,7 @@ walk_one E s w lt is walks = elim (cases_Bool (w.count == 0)) [
     some_count : (n : ℕ) → (n == 0) ≡ false → 0 < n
     some_count n e = grind (arith, nat_tests, e)
 
--- or not
+-- If the next slot does not empty the buffer, the walk passes it.
 walk_past : (E : List Bool) (s : ℕ) (w : EmptyWalk) → own E s ≡ false → Walks E s w → Walks E (s + 1) w
 walk_past E s w other walks = record {
   counted = rw (add-one s) (walks.counted ∙ sym (own_before_other (own E) s other));
@@ -139,13 +139,13 @@ pub walk_on : (E : List Bool) (s : ℕ) (w : EmptyWalk) (is_empty : Bool) → s 
 walk_on E s w true lt is walks = walk_one E s w lt is walks
 walk_on E s w false lt is walks = walk_past E s w is walks
 
--- ---- its end
+-- The end of the walk
 
 no_places : (xs : List ℕ) → length xs ≡ 0 → get_or xs 0 0 ≡ 0
 no_places [] none = refl
 no_places (x ∷ xs) none = absurd (omega (arith, none))
 
--- nothing is at slot 0 of a period without such slots
+-- In a period without emptying slots the position is 0.
 none_at : (E : List Bool) → per_period E ≡ 0 → position E 0 ≡ 0
 none_at E none = ap (λ (n : ℕ). get_or (places 0 E) n 0 + 0 / per_period E * length E) (zero_rest (per_period E))
     ∙ ap (λ (n : ℕ). get_or (places 0 E) 0 0 + n * length E) (zero_turns (per_period E)) ∙ omega (arith, no_places (places 0 E) none)
@@ -180,7 +180,7 @@ back_found E w walks =
     let there : position E (1 * per_period E - 1) ≡ w.last = ap (position E) e ∙ last_is E w walks in
     omega (arith, there)
 
--- round the end of the period, to the first one
+-- The step from the last emptying slot to the next leads across the end of the period to the first emptying slot.
 round_end : (E : List Bool) (w : EmptyWalk) → Walks E (length E) w → 0 < w.count → step E (w.count - 1) ≡ w.first + (length E - w.last)
 round_end E w walks some =
     let pos : 0 < per_period E = omega (arith, some, all_counted E w walks) in

@@ -1,4 +1,4 @@
--- The search for conditions that fail, through the conditions of a plan in their order.
+-- The search for failing conditions, through the conditions of a plan in their order
 use Rattle.std.specs.Prelude.{is_none, is_some, nat_le, not, take}
 use Rattle.std.proofs.Common.{◌≡◌, ℕ, zero, suc, ◌+◌, ◌-◌, ◌<◌, ◌≤◌, ◌==◌, Bool, true, false, cond, List, [], ◌∷◌, ◌++◌, length, drop, get_or, slice_get}
 use Rattle.std.proofs.Common.{Option, Some, None, refl, ap, sym, ◌∙◌, add-one, arith}
@@ -26,39 +26,39 @@ pub then_next : (r s t : Search) (es fs : List Entry) → s ≡ after r es → t
 then_next r s t es fs e f = f ∙ ap (λ (u : Search). after u fs) e ∙ sym (after_both r es fs)
 
 module _ {A : Type 0} (part : ℕ → A → List Entry) (xs : List A) where
-  -- the conditions of the elements from number i on
+  -- The conditions of the elements from number i on
   abbrev pub from_number : ℕ → List Entry
   from_number i = numbered part i (drop i xs)
 
-  -- those of element number i come first
+  -- The conditions of element number i come first.
   pub from_next : (i : ℕ) (d : A) → i < length xs → from_number i ≡ part i (get_or xs i d) ++ from_number (i + 1)
   from_next i d lt = ap (numbered part i) (drop-cons xs i d lt) ∙ one_on
     where
       one_on : numbered part i (get_or xs i d ∷ drop (suc i) xs) ≡ part i (get_or xs i d) ++ from_number (i + 1)
       one_on = rw (add-one i) refl
 
--- an element of a list, at a number within it
+-- Some element of a list with more than i elements
 element_at : {A : Type 0} (xs : List A) (i : ℕ) → i < length xs → A
 element_at [] i lt = absurd (omega arith)
 element_at (x ∷ xs) i lt = x
 
 module _ {A : Type 0} (part : ℕ → A → List Entry) (xs : List A) where
-  -- a loop over the numbers of a list goes on
+  -- One step of a loop over the numbers of a list
   pub goes_on : (i : ℕ) (whole s t : Search) → whole ≡ after s (from_number part xs i) → i < length xs →
       ((x : A) → slice_get xs i ≡ Some x → t ≡ after s (part i x)) → whole ≡ after t (from_number part xs (i + 1))
   goes_on i whole s t e lt next = let d : A = element_at xs i lt in
       e ∙ ap (after s) (from_next part xs i d lt) ∙ after_both s (part i (get_or xs i d)) (from_number part xs (i + 1))
       ∙ ap (λ (u : Search). after u (from_number part xs (i + 1))) (sym (next (get_or xs i d) (slice_get-get_or xs i d lt)))
 
-  -- and ends
+  -- The end of the loop
   pub all_gone : (i : ℕ) (whole s : Search) → whole ≡ after s (from_number part xs i) → length xs ≤ i → s ≡ whole
   all_gone i whole s e le = sym (e ∙ ap (λ (ys : List A). after s (numbered part i ys)) (drop_all i xs le))
 
--- the element at a number, found in two ways
+-- Two ways to find the element at a number give equal elements.
 pub the_item : {A : Type 0} (xs : List A) (i : ℕ) (x y : A) → slice_get xs i ≡ Some x → y ≡ get_or xs i y → y ≡ x
 the_item {A = A} xs i x y at is = is ∙ sym (unwrap_or-slice_get xs i y) ∙ ap (λ (o : Option A). unwrap_or o y) at
 
--- the conditions on one, two, up to n units in a row: that on i + 1 of them comes before the others
+-- In the conditions on one, two, up to n units in a row, the condition on i + 1 units comes before the later conditions.
 counting_next : (f : ℕ → Entry) (i n : ℕ) → i < n → entries_from f (i + 1) (n - i) ≡ f (i + 1) ∷ entries_from f (i + 1 + 1) (n - (i + 1))
 counting_next f i n lt = let e : n - i ≡ suc (n - (i + 1)) = omega arith in ap (entries_from f (i + 1)) e ∙ rest
   where
@@ -73,7 +73,7 @@ counts_on f i n whole s t e lt next =
 pub counts_done : (f : ℕ → Entry) (i n : ℕ) (whole s : Search) → whole ≡ after s (entries_from f (i + 1) (n - i)) → n ≤ i → s ≡ whole
 counts_done f i n whole s e le = let none : n - i ≡ 0 = omega arith in sym (e ∙ ap (λ (k : ℕ). after s (entries_from f (i + 1) k)) none)
 
--- 2. Once as many are kept as may be
+-- 2. A search that is full
 
 full_step : (b f : Bool) (s t : Search) → f ≡ true → cond b s (cond f s t) ≡ s
 full_step true f s t full = refl
@@ -90,7 +90,7 @@ full_stays s (e ∷ es) full = ap (λ (u : Search). after u es) (one_stays s e f
 pub ends_here : (s : FailureSearch) (whole : Search) (es : List Entry) → whole ≡ after (search_of s) es → is_full (search_of s) ≡ true → search_of s ≡ whole
 ends_here s whole es e full = sym (e ∙ full_stays (search_of s) es full)
 
--- how many are kept at most is never changed
+-- The number of conditions that a search may keep never changes.
 most_step : (b f z : Bool) (s t u : Search) → t.most ≡ s.most → u.most ≡ s.most → (cond b s (cond f s (cond z t u))).most ≡ s.most
 most_step true f z s t u kept passed = refl
 most_step false true z s t u kept passed = refl
@@ -105,9 +105,9 @@ most_stays : (s : Search) (es : List Entry) → (after s es).most ≡ s.most
 most_stays s [] = refl
 most_stays s (e ∷ es) = most_stays (after_one s e) es ∙ most_of_one s e
 
--- 3. What is found
+-- 3. The conditions that are found
 
--- a search that has still to pass n, and keeps at most m: what it keeps after conditions
+-- The conditions that a search keeps, if it has n conditions left to pass and keeps at most m
 abbrev kept_after : (m : ℕ) → List Entry → ℕ → List Entry → List Entry
 kept_after m es n kept = (after (record { left = n; most = m; found = kept }) es).found
 
@@ -119,7 +119,7 @@ nothing_from (suc n) (suc k) = refl
 
 module _ (m : ℕ) (e : Entry) (es : List Entry)
     (later : (n : ℕ) (kept : List Entry) → kept_after m es n kept ≡ kept ++ take (m - length kept) (drop n (failing_of es))) where
-  -- one more is kept
+  -- One more condition is kept.
   one_kept : (kept : List Entry) → length kept < m → kept_after m es 0 (kept ++ e ∷ []) ≡ kept ++ take (m - length kept) (e ∷ failing_of es)
   one_kept kept lt =
       let rest : ℕ = m - length (kept ++ e ∷ []) in
@@ -162,7 +162,7 @@ found_more m (e ∷ es) n kept = number_step m e es (found_more m es) (entry_hol
 pub found_from : (es : List Entry) (n m : ℕ) → (after (start n m) es).found ≡ take m (drop n (failing_of es))
 found_from es n m = let all : m - 0 ≡ m = omega arith in found_more m es n [] ∙ ap (λ (k : ℕ). take k (drop n (failing_of es))) all
 
--- the first is the one by which a plan is refused
+-- The first failing condition is the condition that refuses the plan.
 first_step : (b : Bool) (e : Entry) (es : List Entry) → slice_get (failing_of es) 0 ≡ first_failing es →
     slice_get (cond (not b) (e ∷ failing_of es) (failing_of es)) 0 ≡ cond b (first_failing es) (Some e)
 first_step true e es same = same
@@ -172,7 +172,7 @@ pub first_is : (es : List Entry) → slice_get (failing_of es) 0 ≡ first_faili
 first_is [] = refl
 first_is (e ∷ es) = first_step (entry_holds e) e es (first_is es)
 
--- a search for one alone
+-- A search for one condition
 
 one_of : (es : List Entry) → slice_get (take 1 es) 0 ≡ slice_get es 0
 one_of [] = refl
@@ -219,7 +219,7 @@ asked_fail d p =
     asked_step (is_none (first_failing (shape_entries d p))) (shape_entries d p) (timing_entries d p)
     (λ none. none_fails (shape_entries d p) (is_missing (first_failing (shape_entries d p)) none))
 
--- 5. Conditions that hold before others
+-- 5. Conditions that hold before further conditions
 
 held_step : (b : Bool) (e : Entry) (es fs : List Entry) → cond b (first_failing es) (Some e) ≡ None →
     (first_failing es ≡ None → first_failing (es ++ fs) ≡ first_failing fs) → cond b (first_failing (es ++ fs)) (Some e) ≡ first_failing fs

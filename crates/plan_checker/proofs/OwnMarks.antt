@@ -1,4 +1,4 @@
--- The marks of an item at the slots of a plan, one slot after another.
+-- The marks of an item at the slots of a plan, one slot after another
 use Rattle.std.proofs.Common.{◌≡◌, ℕ, zero, suc, ◌+◌, ◌-◌, ◌*◌, ◌/◌, ◌%◌, ◌^◌, ◌<◌, ◌≤◌, inl, inr, Bool, true, false, List, length, get_or, refl, ap, ◌∙◌, sym}
 use Rattle.std.proofs.Common.{arith, add-one}
 use Rattle.std.proofs.Math.Nat.{add-zero, add-mod_right, mod-eq_of_lt, mod-add-div', mul-le-mul_left, mul-le-mul_right}
@@ -16,18 +16,18 @@ use Rattle.slot_plan.specs.declared.slot.Slot.{Slot}
 use Rattle.slot_plan.specs.declared.slot.Item.{Item}
 use Rattle.slot_plan.specs.Items.{is_own, marks}
 
--- a plan's item has a mark for each slot
+-- A plan's item has a mark for each slot.
 pub length_marks : (item : Item) (slots : List Slot) → length (marks item slots) ≡ length slots
 length_marks item slots = length-map slots (is_own item)
 
--- at a slot of the period, whether it is the item's own
+-- The mark at a slot of the period says whether the slot is the item's own.
 pub mark_at : (item : Item) (slots : List Slot) (i : ℕ) (d : Slot) → i < length slots → own (marks item slots) i ≡ is_own item (get_or slots i d)
 mark_at item slots i d lt =
     let small : i < length (marks item slots) = omega (arith, length_marks item slots) in
     let e : i % length (marks item slots) ≡ i = mod-eq_of_lt small in
     ap (λ (j : ℕ). get_or (marks item slots) j false) e ∙ get_or-map (is_own item) slots i d false lt
 
--- the own slots before the next slot
+-- The number of own slots before the next slot is one higher after an own slot.
 pub own_before_mark : (item : Item) (slots : List Slot) (i : ℕ) (d : Slot) → i < length slots → is_own item (get_or slots i d) ≡ true →
     own_before (own (marks item slots)) (i + 1) ≡ own_before (own (marks item slots)) i + 1
 own_before_mark item slots i d lt y = rw (add-one i) (own_before_own (own (marks item slots)) i (mark_at item slots i d lt ∙ y))
@@ -40,19 +40,19 @@ pub own_before_none : (item : Item) (slots : List Slot) → own_before (own (mar
 unfolding own_before
 own_before_none item slots = refl
 
--- all of them
+-- The number of own slots before the end of the period is the number of own slots of the period.
 pub own_before_all : (item : Item) (slots : List Slot) → own_before (own (marks item slots)) (length slots) ≡ per_period (marks item slots)
 own_before_all item slots = ap (own_before (own (marks item slots))) (sym (length_marks item slots)) ∙ own_before_period (marks item slots)
 
--- an own slot is at the position of its number
+-- An own slot is at the position of its number.
 pub position_found : (item : Item) (slots : List Slot) (i number : ℕ) (d : Slot) → i < length slots → is_own item (get_or slots i d) ≡ true →
     own_before (own (marks item slots)) i ≡ number → 0 < per_period (marks item slots) → position (marks item slots) number ≡ i
 position_found item slots i number d lt y e pos =
     ap (position (marks item slots)) (sym e) ∙ (positions_law (marks item slots) pos).found i (mark_at item slots i d lt ∙ y)
 
--- ---- the period repeated
+-- The repeated period
 
--- at any slot, by its place in the period
+-- The mark at any slot is the mark at its place in the period.
 pub mark_cyclic : (item : Item) (slots : List Slot) (i : ℕ) (d : Slot) → 0 < length slots →
     own (marks item slots) i ≡ is_own item (get_or slots (i % length slots) d)
 mark_cyclic item slots i d pos =
@@ -66,7 +66,7 @@ some_slots item slots pos = grow (length slots) (own_before_all item slots) (own
     grow zero e z = omega (arith, e, z, pos)
     grow (suc n) e z = omega arith
 
--- own slot number r + q * c, by that of the first period
+-- The position of own slot number r + q * c, with c own slots a period, is q periods after the position of own slot r.
 pub position_split : (item : Item) (slots : List Slot) (i : ℕ) → 0 < per_period (marks item slots) →
     position (marks item slots) i ≡ position (marks item slots) (i % per_period (marks item slots)) + i / per_period (marks item slots) * length slots
 position_split item slots i pos =
@@ -74,7 +74,7 @@ position_split item slots i pos =
     ap (position (marks item slots)) (sym (mod-add-div' i c)) ∙ position_turns (marks item slots) (i % c) (i / c) pos
     ∙ ap (λ (n : ℕ). position (marks item slots) (i % c) + i / c * n) (length_marks item slots)
 
--- a coarse bound on its position
+-- The position of own slot number i is before the end of period i + 1.
 pub position_bound : (item : Item) (slots : List Slot) (i : ℕ) → 0 < per_period (marks item slots) → position (marks item slots) i < (i + 1) * length slots
 position_bound item slots i pos =
     let c : ℕ = per_period (marks item slots) in
@@ -85,7 +85,7 @@ position_bound item slots i pos =
     below : (i q c : ℕ) → i % c + q * c ≡ i → 0 < c → q ≤ i
     below i q c e pos = omega (arith, e, mul-le-mul_left q pos)
 
--- an own slot is the position of its number
+-- An own slot is the position of its number.
 pub position_here : (item : Item) (slots : List Slot) (i number : ℕ) → own (marks item slots) i ≡ true → own_before (own (marks item slots)) i ≡ number →
     0 < per_period (marks item slots) → position (marks item slots) number ≡ i
 position_here item slots i number y e pos = ap (position (marks item slots)) (sym e) ∙ (positions_law (marks item slots) pos).found i y
@@ -98,7 +98,7 @@ pub own_before_after_other : (item : Item) (slots : List Slot) (i : ℕ) → own
     own_before (own (marks item slots)) (i + 1) ≡ own_before (own (marks item slots)) i
 own_before_after_other item slots i n = rw (add-one i) (own_before_other (own (marks item slots)) i n)
 
--- an own slot is own a period on, where it has the number that is counted there
+-- The slot one period after an own slot is the position of its number.
 pub a_period_on : (item : Item) (slots : List Slot) (i number : ℕ) → own (marks item slots) i ≡ true →
     own_before (own (marks item slots)) (i + length slots) ≡ number →
     0 < per_period (marks item slots) → position (marks item slots) number ≡ i + length slots
@@ -107,7 +107,7 @@ a_period_on item slots i number y e pos = position_here item slots (i + length s
     turned : own (marks item slots) (i + length slots) ≡ own (marks item slots) i
     turned = rw (length_marks item slots) (ap (λ (n : ℕ). get_or (marks item slots) n false) (add-mod_right i (length slots)))
 
--- ---- the own slot some way ahead
+-- The k-th own slot ahead
 
 own_before_rise : (own : ℕ → Bool) (s : ℕ) → own_before own (suc s) ≤ own_before own s + 1
 own_before_rise own s = elim (cases_Bool (own s)) [
@@ -122,7 +122,7 @@ pub own_before_position : (item : Item) (slots : List Slot) (i : ℕ) → 0 < pe
     own_before (own (marks item slots)) (position (marks item slots) i) ≡ i
 own_before_position item slots i pos = (positions_law (marks item slots) pos).counted i
 
--- the k-th own slot after an own slot is not before it
+-- The k-th own slot after an own slot is not before it.
 pub position_ahead : (item : Item) (slots : List Slot) (i k : ℕ) → own (marks item slots) i ≡ true → 0 < per_period (marks item slots) →
     i ≤ position (marks item slots) (own_before (own (marks item slots)) i + k)
 position_ahead item slots i k y pos =
@@ -132,7 +132,7 @@ position_ahead item slots i k y pos =
       position_le (marks item slots) (own_before (own (marks item slots)) i) (own_before (own (marks item slots)) i + k) pos (omega arith),
     )
 
--- and not too far for 64 bits
+-- The k-th own slot after an own slot is at a position within 64 bits.
 pub position_near : (item : Item) (slots : List Slot) (i k : ℕ) → 0 < per_period (marks item slots) → length slots ≤ 65536 → k < 2 ^ 31 → i ≤ length slots →
     position (marks item slots) (own_before (own (marks item slots)) i + k) < 2 ^ 60
 position_near item slots i k pos short near within =
@@ -147,7 +147,7 @@ position_near item slots i k pos short near within =
     own_before_few zero = omega (arith, own_before_none item slots)
     own_before_few (suc i) = omega (arith, own_before_few i, own_before_rise (own (marks item slots)) i)
 
--- past an own slot, the k-th own slot ahead is the one after the k-th ahead before
+-- After an own slot, the k-th own slot ahead moves to the next own slot.
 pub one_ahead : (item : Item) (slots : List Slot) (i k ahead : ℕ) → own (marks item slots) i ≡ true →
     ahead ≡ position (marks item slots) (own_before (own (marks item slots)) i + k) →
     0 < per_period (marks item slots) →
@@ -160,9 +160,9 @@ one_ahead item slots i k ahead y e pos =
     let both : own_before (own (marks item slots)) ahead + 1 ≡ own_before (own (marks item slots)) (i + 1) + k = omega (arith, there, next) in
     ap (position (marks item slots)) both
 
--- ---- spread
+-- Spread
 
--- no more own slots have passed than the period has
+-- No more own slots have passed than the period has.
 pub few_own_before : (item : Item) (slots : List Slot) (i : ℕ) → i ≤ length slots → own_before (own (marks item slots)) i ≤ per_period (marks item slots)
 few_own_before item slots i le = omega (arith, own_before_le (own (marks item slots)) i (length slots) le, own_before_all item slots)
 
@@ -172,9 +172,9 @@ pub raised_here : (item : Item) (slots : List Slot) (count at number : ℕ) → 
     (own_before (own (marks item slots)) at)
 raised_here item slots count at number e f = rw (e, f, length_marks item slots) refl
 
--- ---- work
+-- Work
 
--- the mark itself, at a slot of the period
+-- Within the period, the mark at a slot says whether the slot is the item's own.
 pub mark_within : (item : Item) (slots : List Slot) (i : ℕ) (d : Slot) → i < length slots → get_or (marks item slots) i false ≡ is_own item (get_or slots i d)
 mark_within item slots i d lt = get_or-map (is_own item) slots i d false lt
 
@@ -188,14 +188,14 @@ pub work_other : (rate drain start : ℕ) (item : Item) (slots : List Slot) (i :
 work_other rate drain start item slots i lt n = work_more rate drain start (marks item slots) i (omega (arith, length_marks item slots))
     ∙ ap (work_step rate drain (work_at rate drain start (marks item slots) i)) n ∙ add-zero (work_at rate drain start (marks item slots) i - 188 * drain)
 
--- ---- one own slot after another
+-- One own slot after another
 
 pub next_position : (item : Item) (slots : List Slot) (i at : ℕ) → at ≡ position (marks item slots) i → 0 < per_period (marks item slots) →
     position (marks item slots) (own_before (own (marks item slots)) at + 1) ≡ position (marks item slots) (i + 1)
 next_position item slots i at e pos =
     ap (λ (n : ℕ). position (marks item slots) (n + 1)) (ap (own_before (own (marks item slots))) e ∙ own_before_position item slots i pos)
 
--- an own slot of a small number has a small position
+-- An own slot with a small number has a small position.
 pub position_small : (item : Item) (slots : List Slot) (i most : ℕ) → 0 < per_period (marks item slots) → length slots ≤ 65536 → i < most →
     position (marks item slots) i < most * 65536
 position_small item slots i most pos short lt = omega (arith, position_bound item slots i pos, mul-le (i + 1) (length slots) most 65536 (omega arith) short)

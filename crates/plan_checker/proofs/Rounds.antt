@@ -13,14 +13,14 @@ use Rattle.description_parts.specs.Tables.{kind_lengths, table_kind, round_packe
 use Rattle.description_parts.specs.declared.table_kind.TableKind.{TableKind}
 use Rattle.description_parts.specs.declared.table_kind.TableKind.TheVariants.{Pat, Pmt, Nit, Sdt, Eit, Tdt, Private}
 
--- an element that is there
+-- A property of all elements is a property of each element.
 found_at : {X : Type 0} (P : X → Type 0) (xs : List X) (i : ℕ) (x : X) → slice_get xs i ≡ Some x → All P xs → P x
 found_at P xs i x e all = rw (there x xs e) at (All-get_or P xs i x (slice_get_within xs i x e) all)
   where
     there : {X : Type 0} (x : X) (xs : List X) → slice_get xs i ≡ Some x → get_or xs i x ≡ x
     there {X = X} x xs e = sym (unwrap_or-slice_get xs i x) ∙ ap (λ (o : Option X). unwrap_or o x) e
 
--- a section, if there is one
+-- A section that may be absent has few packets.
 few_of_option : {X : Type 0} (f : X → ℕ) (o : Option X) → ((x : X) → o ≡ Some x → f x ≤ 1024) → sum_by packets_of_section (map f (option_to_list o)) ≤ 2000
 few_of_option f None small = omega arith
 few_of_option f (Some x) small = let h = small x refl in omega arith
@@ -76,7 +76,7 @@ few_of_kind d r Eit = omega (arith, few_events d.programs r.programs, r.most_pro
 few_of_kind d r Tdt = omega arith
 few_of_kind d r (Private i) = few_of_table (slice_get d.tables i) (λ t e. found_at IsTable d.tables i t e r.tables)
 
--- the packets of a round
+-- The packets of a round are few.
 pub few_places : (d : Described) → IsInRange d → (t : ℕ) → round_packets d t ≤ 20000
 few_places d r t = of_kind (table_kind d t)
   where

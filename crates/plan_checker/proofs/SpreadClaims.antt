@@ -1,4 +1,4 @@
--- What a plan may claim of a stream's spread: the stream's deadlines bound it.
+-- A stream's deadlines bound the spread that a plan may claim for it.
 use Rattle.std.specs.Prelude.{ℕ, zero, suc, ◌+◌, ◌-◌, ◌*◌, ◌^◌, ◌<◌, ◌≤◌, List, [], ◌∷◌, None, length, get_or}
 use Rattle.std.proofs.Common.{◌≡◌, refl, arith}
 use Rattle.std.proofs.lemmas.Nat.{mul-le}
@@ -36,7 +36,7 @@ claim_bound spread packets period count rx peak lead interval rate some few shor
     mul-le (count * lead) rate (65536 * 90000) 100000000 (mul-le count lead 65536 90000 few short) slow in
     omega (arith, once, most)
 
--- the spread that a plan claims of a stream whose deadlines hold
+-- If the deadlines of a stream hold, the spread that a plan claims for it is small.
 spread_small : (d : Described) (p : Planned) (i : ℕ) (s : DescribedStream) → IsInRange d → s ≡ get_or d.streams i s → i < length d.streams →
     per_period (marks (Stream i) p.slots) ≤ 65536 → first_failing (stream_leads d p) ≡ None → (stream_claim p i).spread < 2 ^ 33
 spread_small d p i s ranges is lt few none =

@@ -68,7 +68,8 @@ fn write_slot(refusal: Refusal, text: &mut String) -> Result<(), AllocError>
 
 // Appends the line of a certificate with too many or too few streams.
 fn write_stream_claims(refusal: Refusal, text: &mut String) -> Result<(), AllocError>
-    ensures { OnOk result (string_bytes text.new ≡ string_bytes text.old ++ spec.stream_claims_line (entry_of refusal)) }
+    ensures { OnOk result (string_bytes text.new
+        ≡ string_bytes text.old ++ spec.stream_claims_line (entry_of refusal)) }
 {
     let Refusal { left, right, .. } = refusal;
     write!(
@@ -79,7 +80,8 @@ fn write_stream_claims(refusal: Refusal, text: &mut String) -> Result<(), AllocE
 
 // Appends the line of a certificate with too many or too few programs.
 fn write_program_claims(refusal: Refusal, text: &mut String) -> Result<(), AllocError>
-    ensures { OnOk result (string_bytes text.new ≡ string_bytes text.old ++ spec.program_claims_line (entry_of refusal)) }
+    ensures { OnOk result (string_bytes text.new
+        ≡ string_bytes text.old ++ spec.program_claims_line (entry_of refusal)) }
 {
     let Refusal { left, right, .. } = refusal;
     write!(

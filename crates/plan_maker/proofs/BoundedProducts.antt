@@ -1,11 +1,11 @@
--- Products that stop at a greatest number.
+-- Products that are limited to a greatest number.
 use Rattle.std.proofs.Common.{◌≡◌, ℕ, zero, suc, ◌+◌, ◌*◌, ◌<◌, ◌≤◌, min, List, [], ◌∷◌, length, drop, get_or, refl, ap, sym, ◌∙◌, inl, inr, arith}
 use Rattle.std.proofs.Math.Nat.{mul_assoc}
 use Rattle.std.proofs.lemmas.Bool.{cases_lt}
 use Rattle.std.proofs.lemmas.List.{at_drop_more, at_drop_all}
 use Rattle.plan_maker.specs.Bounded.{whole_product, product, most_wide}
 
--- where a factor has stopped, the product stops at the same number
+-- Limiting a factor does not change the limited product.
 pub stopped : (m a q : ℕ) → min (min a m * q) m ≡ min (a * q) m
 stopped m a zero = omega arith
 stopped m a (suc q) = elim (cases_lt m a) [
@@ -17,7 +17,7 @@ stopped m a (suc q) = elim (cases_lt m a) [
     more x q = omega arith
 
 module _ (xs : List ℕ) (i : ℕ) (d : ℕ) (p : ℕ) (whole : ℕ) where
-  -- one factor more
+  -- The product with one more factor.
   pub next_factor : (next : ℕ) → i < length xs → next ≡ min (p * get_or xs i d) most_wide →
       min (p * whole_product (drop i xs)) most_wide ≡ whole → min (next * whole_product (drop (i + 1) xs)) most_wide ≡ whole
   unfolding whole_product

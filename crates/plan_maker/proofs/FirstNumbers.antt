@@ -48,12 +48,12 @@ first_here (suc n) f i lt none passes = elim (cases_eq i n) [
   | inr d ↦ rw (first_here n f i (omega arith) none passes) refl
 ]
 
--- none of them passes
+-- No number passes the test.
 pub first_fails : (n : ℕ) (f : ℕ → Bool) → ((i : ℕ) → i < n → f i ≡ false) → first_of n f ≡ None
 first_fails zero f fails = first_none f
 first_fails (suc n) f fails = first_not_next n f (first_fails n f (λ i lt. fails i (omega (arith, lt)))) (fails n (omega arith))
 
--- what is found is below the end
+-- A number that is found is below n.
 pub first_below : (n : ℕ) (f : ℕ → Bool) (i : ℕ) → first_of n f ≡ Some i → i < n
 unfolding first_of
 first_below zero f i e = absurd (cc)

@@ -12,11 +12,11 @@ use Rattle.slot_plan.specs.declared.slot.Slot.TheVariants.{Null}
 use Rattle.slot_plan.specs.Numbered.{numbered}
 use Rattle.plan_maker.specs.PlainPlan.{with_item}
 
--- what a slot becomes when it is given out
+-- The content of a slot after the item gets every g-th slot from x on.
 abbrev pub given : Slot → ℕ → ℕ → ℕ → Slot → Slot
 given item g x s old = if s % g == x then item else old
 
--- slots that agree with the given ones everywhere are they, counted from any number on
+-- If each slot of a new list is the new content of the old slot, the new list is all new contents in order.
 pub numbered_same : (f : ℕ → Slot → Slot) (k : ℕ) (old new : List Slot) → length new ≡ length old →
     ((s : ℕ) → s < length old → get_or new s Null ≡ f (k + s) (get_or old s Null)) → new ≡ numbered (λ s o. f s o ∷ []) k old
 numbered_same f k [] [] same all = refl
@@ -50,14 +50,14 @@ length-with_item item g x slots = from 0 slots
     from k [] = refl
     from k (o ∷ os) = omega (arith, from (suc k) os)
 
--- slot first + step * spacing of a period, where the step is among the whole spacings of the period
+-- Slot x + j * g lies within the period if j is below the number of whole spacings.
 pub within_period : (n g x j : ℕ) → 0 < g → x < g → j < n / g → x + j * g < n
 within_period n g x j pos lt small =
     let a : (j + 1) * g ≤ n / g * g = mul-le-mul_right g (omega (arith, small)) in
     let b : n % g + n / g * g ≡ n = mod-add-div' n g in
     omega (arith, a, b, lt)
 
--- the first s slots are given out, and the others are as they were
+-- The first s slots have their new contents, and the later slots are unchanged.
 pub record GivenUpTo (item : Slot) (g x : ℕ) (old now : List Slot) (s : ℕ) : Type 0 where
   pub same : length now ≡ length old
   pub done : (k : ℕ) → k < s → get_or now k Null ≡ given item g x k (get_or old k Null)

@@ -7,7 +7,7 @@ use Rattle.slot_plan.specs.Numbered.{numbered}
 use Rattle.slot_plan.proofs.NumberedLists.{numbered-more}
 
 module _ {A B : Type 0} (f : ℕ → A → B) (xs : List A) where
-  -- of element number i, after those before it
+  -- The list with element number i after the earlier elements.
   pub pushed : (before now : List B) (i : ℕ) (x : A) → i < length xs → x ≡ get_or xs i x →
       now ≡ before ++ numbered (λ j y. f j y ∷ []) 0 (take i xs) → now ++ f i x ∷ [] ≡ before ++ numbered (λ j y. f j y ∷ []) 0 (take (i + 1) xs)
   pushed before now i x lt is e =
@@ -15,32 +15,32 @@ module _ {A B : Type 0} (f : ℕ → A → B) (xs : List A) where
       ∙ ap (λ (ys : List B). before ++ ys)
       (ap (λ (y : A). numbered (λ j y. f j y ∷ []) 0 (take i xs) ++ f i y ∷ []) is ∙ sym (numbered-more (λ j y. f j y ∷ []) xs i x lt))
 
-  -- at the end
+  -- The list is complete at the end.
   pub all_pushed : (before now : List B) (i : ℕ) → length xs ≤ i → now ≡ before ++ numbered (λ j y. f j y ∷ []) 0 (take i xs) →
       now ≡ before ++ numbered (λ j y. f j y ∷ []) 0 xs
   all_pushed before now i le e = e ∙ ap (λ (ys : List A). before ++ numbered (λ j y. f j y ∷ []) 0 ys) (take_all i xs le)
 
--- an element of a list, at a number within it
+-- The element of a list at a number within the list.
 element_at : {A : Type 0} (xs : List A) (i : ℕ) → i < length xs → A
 element_at [] i lt = absurd (omega arith)
 element_at (x ∷ xs) i lt = x
 
 module _ {A B : Type 0} (f : ℕ → B) (xs : List A) where
-  -- the same of numbers alone
+  -- A list that depends on the numbers only.
   pub numbers_pushed : (before now : List B) (i : ℕ) → i < length xs →
       now ≡ before ++ numbered (λ j _. f j ∷ []) 0 (take i xs) → now ++ f i ∷ [] ≡ before ++ numbered (λ j _. f j ∷ []) 0 (take (i + 1) xs)
   numbers_pushed before now i lt e =
       ap (λ (ys : List B). ys ++ f i ∷ []) e ∙ append_assoc before (numbered (λ j _. f j ∷ []) 0 (take i xs)) (f i ∷ [])
       ∙ ap (λ (ys : List B). before ++ ys) (sym (numbered-more (λ j _. f j ∷ []) xs i (element_at xs i lt) lt))
 
--- a test that all elements pass, and one more
+-- If all elements and one more element pass a test, the longer list passes.
 pub still_all : {A : Type 0} (p : A → Bool) (xs : List A) (y : A) → list_all p xs ≡ true → p y ≡ true → list_all p (xs ++ y ∷ []) ≡ true
 still_all p xs y all here = list_all-append p xs (y ∷ []) ∙ both (list_all p xs) (p y) all here
   where
     both : (a b : Bool) → a ≡ true → b ≡ true → (a && (b && true)) ≡ true
     both a b x y = rw (x, y) refl
 
--- parts that are lists, one after another
+-- A list of parts; each part is a list.
 module _ {A B : Type 0} (part : ℕ → A → List B) (xs : List A) where
   pub parts_pushed : (before now : List B) (i : ℕ) (x : A) → i < length xs → x ≡ get_or xs i x →
       now ≡ before ++ numbered part 0 (take i xs) → now ++ part i x ≡ before ++ numbered part 0 (take (i + 1) xs)

@@ -1,4 +1,4 @@
--- The greatest and the least of numbers that may be missing, one number more.
+-- The greatest and the least of numbers that may be missing, with one more number.
 use Rattle.std.proofs.Common.{◌≡◌, ℕ, ◌+◌, Option, refl, add-one}
 use Rattle.plan_maker.specs.Joined.{greater, lesser, greatest_of, least_of}
 

@@ -1,4 +1,4 @@
--- The least shares of slots of what a plan serves.
+-- The least share of slots that each item has in a plan that serves it.
 use Rattle.std.proofs.Common.{◌≡◌, ℕ, zero, suc, ◌+◌, ◌*◌, ◌/◌, ◌%◌, ◌<◌, ◌≤◌, max, Bool, true, false, List, length, get_or, refl, ap, sym, ◌∙◌, inl, inr}
 use Rattle.std.proofs.Common.{arith}
 use Rattle.std.specs.Int.{div_ceil}
@@ -17,7 +17,7 @@ use Rattle.own_slots.proofs.Extremes.{at_most_greatest}
 use Rattle.own_slots.proofs.PositionLemmas.{own_before_turns, positions_law, position_below}
 use Rattle.own_slots.proofs.WorkLemmas.{work_more}
 
--- ---- what recurs
+-- Items that recur
 
 served_turns : (f : ℕ → Bool) (w m j : ℕ) → AtLeastPerWindow f w m → j * m ≤ own_before f (j * w)
 served_turns f w m zero serves = omega arith
@@ -29,16 +29,16 @@ begin : (f : ℕ → Bool) → own_before f 0 ≡ 0
 unfolding own_before
 begin f = refl
 
--- own slots that come k at a time within their greatest gap are k in each such gap
+-- A period of n slots has at least n * k / g own slots, if g is the gap of k own slots.
 pub recurs : (marks : List Bool) (k : ℕ) → 0 < per_period marks → length marks * k ≤ gap marks k * per_period marks
 recurs marks k pos =
     let served = served_turns (own marks) (gap marks k) k (length marks) (gap_law marks k (gap marks k) pos (omega arith)) in
     let same : length marks * gap marks k ≡ 0 + gap marks k * length marks = omega arith in
     omega (arith, served, ap (own_before (own marks)) same, own_before_turns marks 0 (gap marks k), begin (own marks))
 
--- ---- work
+-- Work
 
--- the work after a packet is that of the packet at least
+-- After a packet the work is at least the work of that packet.
 pub least_peak : (rate drain start : ℕ) (marks : List Bool) → 0 < per_period marks → 188 * rate ≤ most_after rate drain start marks
 least_peak rate drain start marks pos =
     let s : ℕ = position marks 0 in
@@ -48,9 +48,9 @@ least_peak rate drain start marks pos =
     let most : after_at rate drain start marks s ≤ most_after rate drain start marks = at_most_greatest (length marks) (after_at rate drain start marks) s lt in
     omega (arith, most, cond-true {A = ℕ} (get_or marks s false) (work_at rate drain start marks (s + 1)) 0 y, rw y at (work_more rate drain start marks s lt))
 
--- ---- shares
+-- Shares
 
--- n slots, c of them own; k at a time within g slots, of which no more than g' are allowed; in parts of w
+-- The share of an item that recurs: a period of n slots has c own slots, k in each gap of g slots, and g' is the greatest gap allowed; in parts of w.
 pub recurring_kept : (n c k g g' w : ℕ) → 0 < n → n * k ≤ g * c → g ≤ g' → n * (w * k / max 1 g') ≤ w * c
 recurring_kept n c zero g g' w some near le = let e : w * zero ≡ zero = omega arith in rw (e, zero-div) (omega arith)
 recurring_kept n c (suc k') zero g' w some near le = absurd (let h = mul-le-mul_left n (one_at_most k') in omega (arith, near, h, some))
@@ -68,7 +68,7 @@ recurring_kept n c (suc k') (suc h') g' w some near le =
     let m : w * (n * k) ≤ w * (g * c) = mul-le-mul_left w near in
     le_of_mul-le-mul_right {k = g} (omega (arith, h, m)) (omega arith)
 
--- a stream: m its packets in the long run, t the time in which they come, on the scale of the rate
+-- The share of a stream with m packets in a time t in the long run, on the scale of the rate.
 pub stream_kept : (n c m t w : ℕ) → 0 < n → m * n ≤ c * t → n * (w * m / t) ≤ w * c
 stream_kept n c m zero w pos le = rw div-zero (omega arith)
 stream_kept n c m (suc t') w pos le =
@@ -78,14 +78,14 @@ stream_kept n c m (suc t') w pos le =
     let m' : w * (m * n) ≤ w * (c * t) = mul-le-mul_left w le in
     le_of_mul-le-mul_right {k = t} (omega (arith, h, m')) (omega arith)
 
--- the packets of a window of a slots at that pace
+-- The packets of a window of a slots, at the stream's pace.
 pub window_kept : (n c m t a x : ℕ) → 0 < n → m * n ≤ c * t → a * c ≤ x → a * m / t ≤ x / n
 window_kept n c m t a x pos le within =
     let q : ℕ = a * m / t in
     let few : n * q ≤ a * c = stream_kept n c m t a pos le in
     le-div q x n pos (omega (arith, few, within))
 
--- a quotient rounded up
+-- A quotient that is rounded up.
 pub ceil_at_most : (x y n : ℕ) → x ≤ n * y → div_ceil x y ≤ n
 ceil_at_most x zero n le = let z : x ≡ 0 = omega (arith, le) in rw (z, zero-div 0, zero-mod 0) (omega arith)
 ceil_at_most x (suc y) n le =
@@ -95,7 +95,7 @@ ceil_at_most x (suc y) n le =
       | inr most ↦ most
     ]
 
--- what is left of a window for packets, where that number of units of it comes before
+-- If a plan leaves the time l for w packets in a row, l is long enough at the slower of the output's and the transport buffer's rate.
 pub lead_kept : (c n r x w a peak l : ℕ) → 0 < c → c ≤ n → c * r ≤ n * x → 188 * r ≤ peak →
     (a + w * n + c) * slot_units_at_1bps * x + c * peak * byte_units_at_1bps ≤ c * l * r * x → (w * max r x + x + r) * slot_units_at_1bps ≤ l * (r * x)
 lead_kept c n r x w a peak l some few pace high le =

@@ -1,4 +1,4 @@
--- Sums that grow by one element, and loads of faster outputs.
+-- Sums that grow by one element, and the loads of faster outputs.
 use Rattle.std.proofs.Common.{◌≡◌, ℕ, zero, suc, ◌+◌, ◌-◌, ◌*◌, ◌/◌, ◌<◌, ◌≤◌, max, false, Option, Some, None, List, [], ◌∷◌, ◌++◌, length, take, get_or}
 use Rattle.std.proofs.Common.{nat_le, refl, ap, sym, ◌∙◌, arith}
 use Rattle.std.specs.Prelude.{IfSome, IsNone, option_map}
@@ -20,7 +20,7 @@ use Rattle.plan_maker.specs.Loads.{stream_load, recurring_load, total, load, has
 use Rattle.plan_maker.proofs.FirstNumbers.{first_fails, first_here}
 use Rattle.plan_maker.proofs.OwnSlotCounts.{each_at_most}
 
--- ---- one element more
+-- One more element
 
 pub total_more : {A : Type 0} (f : ℕ → A → ℕ) (xs : List A) (i : ℕ) (x : A) → i < length xs → x ≡ get_or xs i x →
     total f (take (i + 1) xs) ≡ total f (take i xs) + f i x
@@ -30,7 +30,7 @@ total_more f xs i x lt is =
     let all : total f (take (i + 1) xs) ≡ sum_by (λ n. n) (before ++ here ∷ []) = ap (sum_by (λ (n : ℕ). n)) (numbered-more (λ j y. f j y ∷ []) xs i x lt) in
     omega (arith, all, sum_by-append (λ (n : ℕ). n) before (here ∷ []), sum_by-cons (λ (n : ℕ). n) here [], ap (f i) is)
 
--- the same of numbers alone
+-- A sum that depends on the numbers only.
 pub number_more : {A : Type 0} (f : ℕ → ℕ) (xs : List A) (i : ℕ) → i < length xs → total (λ j _. f j) (take (i + 1) xs) ≡ total (λ j _. f j) (take i xs) + f i
 number_more f xs i lt = total_more (λ j _. f j) xs i (get_or xs i (element xs i lt)) lt (same xs i lt)
   where
@@ -48,7 +48,7 @@ number_more f xs i lt = total_more (λ j _. f j) xs i (get_or xs i (element xs i
     same (x ∷ xs) zero lt = refl
     same (x ∷ xs) (suc i) lt = again xs i x (get_or xs i x) (omega (arith, lt))
 
--- ---- a faster output
+-- Faster outputs
 
 less_of : (x y z : ℕ) → 0 < y → y ≤ z → x / z ≤ x / y
 less_of x y z pos le = le-div (x / z) x y pos (omega (arith, mul-le-mul_left (x / z) le, div-mul-le_self x z))
@@ -75,7 +75,7 @@ load_less d r r' pos le =
     (λ t x is. omega (arith, recurring_less r r' (table_limit d (0 + t)) (round_packets d (0 + t)) le)) in
     omega (arith, streams, pcrs, tables)
 
--- a slower output than one without slots enough has none either
+-- If a faster output has too few slots, a slower output has too few too.
 pub still_full : (d : Described) (r r' : ℕ) → 0 < r → r ≤ r' → has_slots d r' ≡ false → has_slots d r ≡ false
 still_full d r r' pos le full =
     let more : parts < load d r' = over (load d r') parts full in
@@ -87,7 +87,7 @@ still_full d r r' pos le full =
     under : (a b : ℕ) → b < a → nat_le a b ≡ false
     under a b lt = grind (arith, nat_tests)
 
--- what the search for the least rate found is the first of the rates above the description's own
+-- The result of the search for the least rate is the first rate above the description's own that has enough slots.
 pub is_least_rate : (d : Described) (from : ℕ) (found : Option ℕ) → from ≡ d.rate + 1 → IfSome found (IsLeastRate (has_slots d) from) →
     (IsNone found → HasNoRate (has_slots d) from) → found ≡ least_rate d
 is_least_rate d from None same least none = sym (ap (option_map (λ more. d.rate + 1 + more))

@@ -1,4 +1,4 @@
--- Each slot of a period is at most one item's: the own slots of all items together are no more than the period's.
+-- Each slot of a period belongs to at most one item, so all items together own at most the slots of the period.
 use Rattle.std.proofs.Common.{◌≡◌, ℕ, suc, ◌+◌, ◌*◌, ◌<◌, ◌≤◌, ◌==◌, Bool, true, false, cond, List, [], ◌∷◌, Some, length, refl, ap, ◌∙◌, inl, inr, arith}
 use Rattle.std.specs.Prelude.{slice_get}
 use Rattle.std.specs.List.{sum_by}
@@ -13,7 +13,7 @@ use Rattle.slot_plan.specs.declared.slot.Item.TheVariants.{Stream, Pcr, Table}
 use Rattle.slot_plan.specs.Numbered.{numbered}
 use Rattle.slot_plan.specs.Items.{is_own, marks}
 
--- ---- sums of numbered elements
+-- Sums of numbered elements
 
 abbrev pub sum_from : {A : Type 0} → (ℕ → A → ℕ) → ℕ → List A → ℕ
 sum_from f k xs = sum_by (λ n. n) (numbered (λ i x. f i x ∷ []) k xs)
@@ -21,7 +21,7 @@ sum_from f k xs = sum_by (λ n. n) (numbered (λ i x. f i x ∷ []) k xs)
 pub sum_one : {A : Type 0} (f : ℕ → A → ℕ) (k : ℕ) (x : A) (xs : List A) → sum_from f k (x ∷ xs) ≡ f k x + sum_from f (suc k) xs
 sum_one f k x xs = sum_by-cons (λ n. n) (f k x) (numbered (λ i y. f i y ∷ []) (suc k) xs)
 
--- a bound on each, summed
+-- A bound on each element is a bound on the sum.
 pub each_at_most : {A : Type 0} (f g : ℕ → A → ℕ) (n w k : ℕ) (xs : List A) →
     ((i : ℕ) (x : A) → slice_get xs i ≡ Some x → n * f (k + i) x ≤ w * g (k + i) x) → n * sum_from f k xs ≤ w * sum_from g k xs
 each_at_most f g n w k [] each = omega arith
@@ -30,7 +30,7 @@ each_at_most f g n w k (x ∷ xs) each =
     let rest = each_at_most f g n w (suc k) xs (λ i y is. let e : suc k + i ≡ k + suc i = omega arith in rw e (each (suc i) y is)) in
     rw (sum_one f k x xs, sum_one g k x xs) (omega (arith, first, rest))
 
--- ---- the own slots of an item, one slot after another
+-- The own slots of an item, one slot after another
 
 places_count : (marks : List Bool) (b e : ℕ) → length (places b marks) ≡ length (places e marks)
 unfolding places
@@ -47,11 +47,11 @@ unfolding places
 one_slot true marks = omega (arith, places_count marks 1 0)
 one_slot false marks = omega (arith, places_count marks 1 0)
 
--- those of one item for each element of a list
+-- The number of own slots that the items of a list have.
 abbrev pub owned : {A : Type 0} → (ℕ → Item) → ℕ → List A → List Slot → ℕ
 owned item k xs slots = sum_from (λ i _. per_period (marks (item i) slots)) k xs
 
--- at one slot
+-- How many items of a list own one slot.
 abbrev held : {A : Type 0} → (ℕ → Item) → ℕ → List A → Slot → ℕ
 held item k xs slot = sum_from (λ i _. cond (is_own (item i) slot) 1 0) k xs
 
@@ -71,9 +71,9 @@ owned_more item k (x ∷ xs) slot slots = omega (
   owned_more item (suc k) xs slot slots,
 )
 
--- ---- at most one item holds a slot
+-- At most one item owns a slot
 
--- no number of the list
+-- No item of the list owns the slot.
 none_held : {A : Type 0} (item : ℕ → Item) (k : ℕ) (xs : List A) (slot : Slot) → ((i : ℕ) → k ≤ i → is_own (item i) slot ≡ false) → held item k xs slot ≡ 0
 none_held item k [] slot none = refl
 none_held item k (x ∷ xs) slot none = omega (
@@ -83,7 +83,7 @@ none_held item k (x ∷ xs) slot none = omega (
   none_held item (suc k) xs slot (λ i le. none i (omega (arith, le))),
 )
 
--- only that of one number
+-- At most the item with this number owns the slot.
 one_held : {A : Type 0} (item : ℕ → Item) (number k : ℕ) (xs : List A) (slot : Slot) → ((i : ℕ) → is_own (item i) slot ≡ (i == number)) →
     held item k xs slot ≤ 1
 one_held item number k [] slot is = omega arith
@@ -133,7 +133,7 @@ module _ {A B C : Type 0} (xs : List A) (ys : List B) (zs : List C) where
       )
   one_owner Null = omega (arith, none_held Stream 0 xs Null (λ i _. refl), none_held Pcr 0 ys Null (λ i _. refl), none_held Table 0 zs Null (λ i _. refl))
 
-  -- so all own slots together are slots of the period
+  -- All own slots together are slots of the period.
   pub all_owned : (slots : List Slot) → owned Stream 0 xs slots + (owned Pcr 0 ys slots + owned Table 0 zs slots) ≤ length slots
   all_owned [] = omega (arith, owned_none Stream 0 xs, owned_none Pcr 0 ys, owned_none Table 0 zs)
   all_owned (slot ∷ slots) = omega (

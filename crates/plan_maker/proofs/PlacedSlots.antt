@@ -12,13 +12,13 @@ use Rattle.slot_plan.specs.declared.slot.Slot.{Slot}
 use Rattle.plan_maker.specs.Placements.{due_at, due_of, due_number, first_least, Placed, placed_in, advanced, own_slot, next_slot, joined, followed, outcome}
 use Rattle.plan_maker.specs.Placements.{missing_of}
 
--- ---- the first of the least
+-- The first of the least numbers
 
 pub first_least_none : (f : ℕ → ℕ) → first_least 0 f ≡ None
 unfolding first_least
 first_least_none f = refl
 
--- one number more
+-- The first of the least numbers, with one more number.
 pub first_least_more : (n : ℕ) (f : ℕ → ℕ) (due least_before : ℕ) (urgent : Option ℕ) → due ≡ f n → least_before ≡ least most_long n f →
     urgent ≡ first_least n f → (if nat_lt due least_before then Some n else urgent) ≡ first_least (n + 1) f
 unfolding first_least
@@ -34,25 +34,25 @@ first_least_below (suc n) f = step (nat_lt (f n) (least most_long n f)) (first_l
     step false None all = _
     step false (Some i) all = omega (arith, all)
 
--- when the window of a task ends, by the task's number
+-- The end of a task's window, found by the task's number.
 pub due_is : (tasks : List PlacementTask) (at i : ℕ) (d : PlacementTask) → i < length tasks → due_at at (get_or tasks i d) ≡ due_number tasks at i
 due_is tasks at i d lt = sym (ap (due_of at) (slice_get-get_or tasks i d lt))
 
--- ---- one slot
+-- One slot
 
--- the window of the task has ended before
+-- A task whose window has ended misses the slot.
 pub misses : (period at : ℕ) (tasks : List PlacementTask) (i : ℕ) (d : PlacementTask) → i < length tasks → nat_lt (get_or tasks i d).due at ≡ true →
     outcome (Err i) tasks ≡ own_slot period at tasks i (slice_get tasks i)
 misses period at tasks i d lt over = rw (slice_get-get_or tasks i d lt, over) refl
 
--- it has not
+-- A task whose window has not ended takes the slot.
 pub takes : (period at : ℕ) (tasks : List PlacementTask) (i : ℕ) (d : PlacementTask) → i < length tasks → nat_lt (get_or tasks i d).due at ≡ false →
     outcome (Ok (get_or tasks i d).slot) (slice_set tasks i (advanced period (get_or tasks i d))) ≡ own_slot period at tasks i (slice_get tasks i)
 takes period at tasks i d lt over = rw (slice_get-get_or tasks i d lt, over) refl
 
--- ---- one slot more
+-- One more slot
 
--- what stands after so many slots of a period
+-- The slots, the tasks and the task that has missed a slot, after n slots of a period.
 pub record IsPlaced (period : ℕ) (first : List PlacementTask) (n : ℕ) (before now : List Slot) (tasks : List PlacementTask) (missed : Option ℕ) : Type 0 where
   pub slots_are : now ≡ before ++ (placed_in period first n).slots
   pub tasks_are : tasks ≡ (placed_in period first n).tasks
@@ -63,7 +63,7 @@ module _ (period : ℕ) (first : List PlacementTask) where
   unfolding placed_in
   one_placed n = rw (add-one n) refl
 
-  -- after a task has missed a slot none is placed
+  -- After a task has missed a slot, no slot is placed.
   stays : (n k i : ℕ) → (placed_in period first n).missed ≡ Some i → placed_in period first (n + k) ≡ placed_in period first n
   stays n zero i missed = ap (placed_in period first) (omega arith)
   stays n (suc k) i missed =
@@ -76,7 +76,7 @@ module _ (period : ℕ) (first : List PlacementTask) where
     next_placed next is = one_placed n ∙ ap (followed period n (placed_in period first n)) (sym here.missed_is)
         ∙ ap (joined (placed_in period first n)) (ap (next_slot period n) (sym here.tasks_are) ∙ sym is)
 
-    -- a slot is placed
+    -- A slot is placed.
     pub one_more : (slot : Slot) (next : List PlacementTask) → outcome (Ok slot) next ≡ next_slot period n tasks →
         IsPlaced period first (n + 1) before (now ++ slot ∷ []) next None
     one_more slot next is =
@@ -88,7 +88,7 @@ module _ (period : ℕ) (first : List PlacementTask) where
           missed_is = ap (λ (p : Placed). p.missed) (sym all);
         }
 
-    -- a task misses it
+    -- A task misses a slot.
     pub one_missed : (i : ℕ) (next : List PlacementTask) → n < period → outcome (Err i) next ≡ next_slot period n tasks →
         IsPlaced period first period before now next (Some i)
     one_missed i next lt is =

@@ -1,4 +1,4 @@
--- Slots and certificate that make a plan.
+-- The slots and the certificate that make a plan.
 use Rattle.std.proofs.Common.{◌≡◌, ℕ, suc, ◌≤◌, true, false, List, [], ◌∷◌, length, nat_lt, None, refl, arith}
 use Rattle.std.proofs.lemmas.Bool.Decides.{nat_tests}
 use Rattle.slot_plan.specs.declared.slot.Slot.{Slot}

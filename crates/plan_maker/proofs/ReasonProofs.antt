@@ -1,4 +1,4 @@
--- Where a description has a reason, no plan serves it.
+-- If a description has a reason, no plan serves it.
 use Rattle.std.proofs.Common.{◌≡◌, ℕ, zero, suc, ◌+◌, ◌-◌, ◌*◌, ◌/◌, ◌%◌, ◌<◌, ◌≤◌, max, Bool, true, false, List, [], ◌∷◌, Option, Some, None, length, get_or}
 use Rattle.std.proofs.Common.{nat_lt, nat_le, refl, ap, ◌∙◌, inl, inr, arith, add-one}
 use Rattle.std.specs.Prelude.{slice_get}
@@ -38,7 +38,7 @@ use Rattle.plan_maker.specs.Reasons.{stream_reason, load_reason, pcr_reasons, ta
 use Rattle.plan_maker.proofs.OwnSlotCounts.{owned, each_at_most, all_owned}
 use Rattle.plan_maker.proofs.LeastShares.{recurs, least_peak, recurring_kept, stream_kept, window_kept, ceil_at_most, lead_kept}
 
--- ---- lists of reasons
+-- Lists of reasons
 
 no_parts : {A : Type 0} (part : ℕ → A → List Reason) (k : ℕ) (xs : List A) → ((i : ℕ) (x : A) → slice_get xs i ≡ Some x → part (k + i) x ≡ []) →
     numbered part k xs ≡ []
@@ -55,7 +55,7 @@ not_less a b le = grind (arith, nat_tests)
 at_most : (a b : ℕ) → a ≤ b → nat_le a b ≡ true
 at_most a b le = grind (arith, nat_tests)
 
--- ---- gaps
+-- Gaps
 
 own_before_none : (f : ℕ → Bool) → own_before f 0 ≡ 0
 unfolding own_before
@@ -68,13 +68,13 @@ few_before f (suc s) = elim (cases_Bool (f s)) [
   | inr n ↦ omega (arith, few_before f s, own_before_other f s n)
 ]
 
--- k own slots in a row take at least k slots
+-- A run of k own slots takes at least k slots.
 least_gap : (marks : List Bool) (k : ℕ) → 0 < per_period marks → k ≤ gap marks k
 least_gap marks k pos = omega (arith, gap_law marks k (gap marks k) pos (omega arith) 0, few_before (own marks) (0 + gap marks k))
 
--- ---- work
+-- Work
 
--- a period's work is at least what its packets bring, less what its slots drain
+-- The work after a period is at least the work of its packets minus the drain of its slots.
 own_here : (marks : List Bool) (s : ℕ) (b : Bool) → s < length marks → get_or marks s false ≡ b → own marks s ≡ b
 own_here marks s b lt is = let e : s % length marks ≡ s = mod-eq_of_lt lt in ap (λ (i : ℕ). get_or marks i false) e ∙ is
 
@@ -104,7 +104,7 @@ least_work rate drain start marks (suc s) le =
       )
     ]
 
--- so a buffer that a period does not fill is drained as fast as its packets come
+-- If a period does not add to the work, the buffer drains at least as fast as packets arrive.
 drains : (rate drain start : ℕ) (marks : List Bool) → work_left rate drain start marks ≤ start → per_period marks * rate ≤ length marks * drain
 drains rate drain start marks le =
     let all = least_work rate drain start marks (length marks) (omega arith) in
@@ -113,14 +113,14 @@ drains rate drain start marks le =
     scaled : (c n rate drain start left : ℕ) → start + c * (188 * rate) ≤ left + n * (188 * drain) → left ≤ start → c * rate ≤ n * drain
     scaled c n rate drain start left all le = omega (arith, all, le)
 
--- what comes at a pace that own slots keep and that a buffer drains is not faster than the drain
+-- If own slots keep a pace and the buffer drains that pace, the pace is at most the drain.
 divided : (n m c t r x : ℕ) → 1 ≤ n → m * n ≤ c * (t * r) → c * r ≤ n * x → m ≤ t * x
 divided n m c t r x some rate pace = elim (cases_lt (t * x) m) [
   | inl less ↦ absurd (let a = mul-le-mul_left t pace in let b = mul-le-mul_left n less in omega (arith, rate, a, b, some))
   | inr le ↦ le
 ]
 
--- ---- what recurs
+-- Items that recur
 
 module _ (d : Described) (p : Planned) (k : ServingConditions d p) where
   pcr_kept : (i : ℕ) (x : DescribedProgram) → slice_get d.programs i ≡ Some x → i < length d.programs → pcr_reason d i x ≡ []
@@ -136,7 +136,7 @@ module _ (d : Described) (p : Planned) (k : ServingConditions d p) where
       least_gap (marks (Table t) p.slots) (round_packets d t) (k.shape.tables_own t lt) in
       rw (not_less (table_limit d t * d.rate) (round_packets d t * 1504000) (omega (arith, le, least))) refl
 
--- ---- streams
+-- Streams
 
 module _ (d : Described) (p : Planned) (i : ℕ) (s : DescribedStream) (holds : StreamConditions d.rate (declaration s) (claim_of p i) (marks (Stream i) p.slots))
   where
@@ -146,11 +146,11 @@ module _ (d : Described) (p : Planned) (i : ℕ) (s : DescribedStream) (holds : 
     some_slots : 0 < length (marks (Stream i) p.slots)
     some_slots = omega (arith, holds.owned, per_period_le (marks (Stream i) p.slots))
 
-    -- the transport buffer is drained as fast as the own slots come
+    -- The transport buffer drains as fast as the own slots fill it.
     pace : per_period (marks (Stream i) p.slots) * d.rate ≤ length (marks (Stream i) p.slots) * s.rx
     pace = drains d.rate s.rx (claim_of p i).start (marks (Stream i) p.slots) holds.work.carries
 
-    -- the own slots are enough in the long run
+    -- The own slots are enough in the long run.
     enough : steady_packets s.allowance * length (marks (Stream i) p.slots) ≤ per_period (marks (Stream i) p.slots) *
         (steady_time s.allowance s.interval * d.rate)
     enough = omega (arith, holds.rate_serves)
@@ -160,7 +160,7 @@ module _ (d : Described) (p : Planned) (i : ℕ) (s : DescribedStream) (holds : 
         (divided (length (marks (Stream i) p.slots)) (steady_packets s.allowance) (per_period (marks (Stream i) p.slots)) (steady_time s.allowance s.interval)
         d.rate s.rx some_slots enough pace)) refl
 
-    -- so does its multiplexing buffer
+    -- The multiplexing buffer drains as fast as the own slots fill it.
     leak_kept : (j : ℕ) (o : Option MultiplexingBuffer) → ((b : MultiplexingBuffer) → o ≡ Some b →
         per_period (marks (Stream i) p.slots) * d.rate ≤ length (marks (Stream i) p.slots) * b.rbx) → leak_reason j s o ≡ []
     leak_kept j None leaks = refl
@@ -201,13 +201,13 @@ module _ (d : Described) (p : Planned) (i : ℕ) (s : DescribedStream) (holds : 
         per_period (marks (Stream i) p.slots) * d.rate ≤ length (marks (Stream i) p.slots) * b.rbx) → stream_reason d j s ≡ []
     stream_kept_whole j leaks = rw (drain_kept j, leak_kept j s.multiplexing leaks, lead_reason_kept j, main_kept j) refl
 
--- the multiplexing buffer of a stream leaks as fast as its own slots come
+-- The multiplexing buffer of a stream leaks as fast as the stream's own slots fill it.
 leak_pace : (d : Described) (p : Planned) (i : ℕ) (s : DescribedStream) → ServingConditions d p → slice_get d.streams i ≡ Some s → (b : MultiplexingBuffer) →
     s.multiplexing ≡ Some b → per_period (marks (Stream i) p.slots) * d.rate ≤ length (marks (Stream i) p.slots) * b.rbx
 leak_pace d p i s k is b some =
     drains d.rate b.rbx (multiplexing_claim p i).start (marks (Stream i) p.slots) (leak_holds d p i s b k is some).carries
 
--- ---- all items together
+-- All items together
 
 module _ (d : Described) (p : Planned) (k : ServingConditions d p) where
   streams_share : length p.slots * streams_load d d.rate ≤ parts * owned Stream 0 d.streams p.slots

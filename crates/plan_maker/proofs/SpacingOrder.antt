@@ -1,4 +1,4 @@
--- Items placed one after another, in rising order of their spacings.
+-- Items placed one after another, by rising spacing.
 use Rattle.std.specs.Prelude.{◌==◌}
 use Rattle.std.proofs.Common.{◌≡◌, ℕ, suc, ◌+◌, ◌-◌, ◌^◌, ◌<◌, ◌≤◌, true, false, List, [], ◌∷◌, ◌++◌, length, drop, get_or, ◌≢◌, max, nat_cmp, Option, Some}
 use Rattle.std.proofs.Common.{None, refl, ap, sym, ◌∙◌, arith, add-one, eq-eqb}
@@ -11,7 +11,7 @@ use Rattle.plan_maker.specs.declared.spacing.Spaced.{Spaced}
 use Rattle.plan_maker.specs.FirstNumbers.{first_of}
 use Rattle.plan_maker.specs.PlainPlan.{longest, is_free, with_item, of_spacing, by_spacing, placed}
 
--- the slots after two lists of items, where there are slots after the first
+-- If the first of two lists of items finds slots, the second list is placed after it.
 pub placed_after : (first rest : List Spaced) (slots next : List Slot) → placed first slots ≡ Some next → placed (first ++ rest) slots ≡ placed rest next
 placed_after [] rest slots next e = ap (placed rest) (some_is slots next e)
   where
@@ -28,7 +28,7 @@ placed_after (item ∷ items) rest slots next e =
     step None more e = absurd (cc)
     step (Some x) more e = more x e
 
--- and where there are none
+-- If the first of two lists of items finds no slots, the joined lists find no slots.
 pub placed_not : (first rest : List Spaced) (slots : List Slot) → placed first slots ≡ None → placed (first ++ rest) slots ≡ None
 placed_not [] rest slots e = absurd (cc)
 placed_not (item ∷ items) rest slots e =
@@ -45,7 +45,7 @@ different : (a b : ℕ) → a ≢ b → (a == b) ≡ false
 different a b other = grind (arith, nat_tests)
 
 module _ (g : ℕ) (items : List Spaced) where
-  -- the items of one spacing from number i on, where item number i is one of them
+  -- Item number i has the spacing g: it is the first of the items of spacing g from number i on.
   pub comes_next : (i : ℕ) (x : Spaced) → i < length items → x ≡ get_or items i x → x.spacing ≡ g →
       of_spacing g (drop i items) ≡ x ∷ of_spacing g (drop (i + 1) items)
   comes_next i x lt is same = at_drop_more (of_spacing g) items i x lt ∙ ap (λ (y : Spaced). of_spacing g (y ∷ drop (i + 1) items)) (sym is)
@@ -54,7 +54,7 @@ module _ (g : ℕ) (items : List Spaced) where
       taken : (rest : List Spaced) → of_spacing g (x ∷ rest) ≡ x ∷ of_spacing g rest
       taken rest = rw (eq-eqb x.spacing g same) refl
 
-  -- and where it is not
+  -- Item number i has another spacing: the items of spacing g from number i on are later items.
   pub passes_by : (i : ℕ) (x : Spaced) → i < length items → x ≡ get_or items i x → x.spacing ≢ g →
       of_spacing g (drop i items) ≡ of_spacing g (drop (i + 1) items)
   passes_by i x lt is other = at_drop_more (of_spacing g) items i x lt ∙ ap (λ (y : Spaced). of_spacing g (y ∷ drop (i + 1) items)) (sym is)
@@ -66,7 +66,7 @@ module _ (g : ℕ) (items : List Spaced) where
   pub none_left : (i : ℕ) → length items ≤ i → of_spacing g (drop i items) ≡ []
   none_left i le = ap (of_spacing g) (drop_all i items le)
 
--- the items of the spacings from 2 ^ e on
+-- The items of the spacings from 2 ^ e on.
 pub spacing_next : (e : ℕ) (items : List Spaced) → e < 17 → by_spacing e (17 - e) items ≡ of_spacing (2 ^ e) items ++ by_spacing (e + 1) (17 - (e + 1)) items
 spacing_next e items lt = let more : 17 - e ≡ suc (17 - (e + 1)) = omega arith in ap (λ (n : ℕ). by_spacing e n items) more ∙ on
   where
@@ -76,14 +76,14 @@ spacing_next e items lt = let more : 17 - e ≡ suc (17 - (e + 1)) = omega arith
 pub spacings_end : (e : ℕ) (items : List Spaced) → 17 ≤ e → by_spacing e (17 - e) items ≡ []
 spacings_end e items le = let none : 17 - e ≡ 0 = omega arith in ap (λ (n : ℕ). by_spacing e n items) none
 
--- the greatest spacing, one item further
+-- The greatest spacing, after one more item.
 pub longest_next : (items : List Spaced) (i : ℕ) (d : Spaced) (now next whole : ℕ) → i < length items → next ≡ ord_max nat_cmp now (get_or items i d).spacing →
     max now (longest (drop i items)) ≡ whole → max next (longest (drop (i + 1) items)) ≡ whole
 longest_next items i d now next whole lt e inv =
     let more : longest (drop i items) ≡ max (get_or items i d).spacing (longest (drop (i + 1) items)) = at_drop_more longest items i d lt in
     omega (arith, more, inv, e, max_is now (get_or items i d).spacing)
 
--- one item alone
+-- A single item.
 pub placed_one : (item : Spaced) (slots : List Slot) (x : ℕ) → first_of item.spacing (is_free slots item.spacing) ≡ Some x →
     placed (item ∷ []) slots ≡ Some (with_item item.slot item.spacing x slots)
 placed_one item slots x e = step (first_of item.spacing (is_free slots item.spacing)) e
@@ -113,7 +113,7 @@ never_true e = absurd (cc)
 
 module _ (g : ℕ) (items : List Spaced) (i : ℕ) (d : Spaced) (now : List Slot) (whole : Option (List Slot)) (lt : i < length items)
     (inv : placed (of_spacing g (drop i items)) now ≡ whole) where
-  -- item number i has its slots
+  -- Item number i finds its slots.
   pub place_next : (next : List Slot) → (get_or items i d).spacing ≡ g → placed (get_or items i d ∷ []) now ≡ Some next →
       placed (of_spacing g (drop (i + 1) items)) next ≡ whole
   place_next next same e =
@@ -121,14 +121,14 @@ module _ (g : ℕ) (items : List Spaced) (i : ℕ) (d : Spaced) (now : List Slot
       let list = comes_next g items i x lt (get_or_default items i d x lt) same in
       sym (placed_after (x ∷ []) (of_spacing g (drop (i + 1) items)) now next e) ∙ ap (λ (l : List Spaced). placed l now) (sym list) ∙ inv
 
-  -- it finds none
+  -- Item number i finds no slots.
   pub place_full : (get_or items i d).spacing ≡ g → placed (get_or items i d ∷ []) now ≡ None → whole ≡ None
   place_full same e =
       let x : Spaced = get_or items i d in
       let list = comes_next g items i x lt (get_or_default items i d x lt) same in
       sym inv ∙ ap (λ (l : List Spaced). placed l now) list ∙ placed_not (x ∷ []) (of_spacing g (drop (i + 1) items)) now e
 
-  -- it has another spacing
+  -- Item number i has another spacing.
   pub place_other : (get_or items i d).spacing ≢ g → placed (of_spacing g (drop (i + 1) items)) now ≡ whole
   place_other other =
       let x : Spaced = get_or items i d in
@@ -141,14 +141,14 @@ place_end g items i now whole le inv = sym inv ∙ ap (λ (l : List Spaced). pla
 
 module _ (items : List Spaced) (e power : ℕ) (now : List Slot) (whole : Option (List Slot)) (lt : e < 17) (is : power ≡ 2 ^ e)
     (inv : placed (by_spacing e (17 - e) items) now ≡ whole) where
-  -- all of one spacing have their slots
+  -- All items of one spacing have their slots.
   pub spacing_placed : (next : List Slot) → placed (of_spacing power items) now ≡ Some next → placed (by_spacing (e + 1) (17 - (e + 1)) items) next ≡ whole
   spacing_placed next f =
       let here : placed (of_spacing (2 ^ e) items) now ≡ Some next = ap (λ (g : ℕ). placed (of_spacing g items) now) (sym is) ∙ f in
       sym (placed_after (of_spacing (2 ^ e) items) (by_spacing (e + 1) (17 - (e + 1)) items) now next here)
       ∙ ap (λ (l : List Spaced). placed l now) (sym (spacing_next e items lt)) ∙ inv
 
-  -- one finds none
+  -- An item of one spacing finds no slots.
   pub spacing_full : placed (of_spacing power items) now ≡ None → whole ≡ None
   spacing_full f =
       let here : placed (of_spacing (2 ^ e) items) now ≡ None = ap (λ (g : ℕ). placed (of_spacing g items) now) (sym is) ∙ f in

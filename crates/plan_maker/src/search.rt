@@ -113,7 +113,8 @@ pub fn period_plan<A: Allocator + Clone>(
 ) -> Result<Option<Plan<A>>, AllocError>
     requires { period ≤ 65536 }
     ensures period { IfOk result (λ found. IfSome found (λ plan. length plan.slots ≤ period)) }
-    ensures certificate { IfOk result (λ found. IfSome found (λ plan. plan.certificate ≡ certificate_of description.now plan.slots)) }
+    ensures certificate { IfOk result (λ found. IfSome found (λ plan. plan.certificate
+        ≡ certificate_of description.now plan.slots)) }
 {
     let Some(slots) = period_slots(alloc.clone()?, description, period)? else {
         return Ok(None);

@@ -15,7 +15,7 @@ numbered_drop part j (suc k) (x ∷ xs) few = numbered_drop part j k xs (omega (
 abbrev tables_from : Described → ℕ → List PlanItem
 tables_from d t = numbered (λ u _. table_item d u ∷ []) t (drop t (table_kinds d))
 
--- a table more
+-- One more table adds its item.
 pub one_more : (d : Described) (t : ℕ) (items more start : List PlanItem) (item : PlanItem) → t < table_count d → item ≡ table_item d t →
     more ≡ items ++ item ∷ [] →
     items ++ numbered (λ u _. table_item d u ∷ []) t (drop t (table_kinds d)) ≡ start →

@@ -1,4 +1,4 @@
--- The buffers of streams over one plan, and over two plans in turn, that are empty at least once a second.
+-- Over one plan, and over two plans in turn, the buffers of streams are empty at least once a second.
 use Rattle.std.proofs.Common.{ℕ, max, Bool, List, arith}
 use Rattle.own_slots.specs.Period.{own}
 use Rattle.own_slots.specs.Work.{BoundsWork}
@@ -10,13 +10,13 @@ use Rattle.unit_timing.specs.Plans.{Declaration, run_packets}
 use Rattle.unit_timing.specs.Conditions.{IsProper, StreamClaim, StreamConditions, StreamSwitchConditions}
 use Rattle.unit_timing.specs.PlanLaws.{in_turn}
 use Rattle.unit_timing.specs.VideoPlans.{Leak, LeakClaim, IsProperLeak, VideoConditions, VideoSwitchConditions}
-use Rattle.unit_timing.specs.EmptyPlans.{StreamEmptied, VideoEmptied}
+use Rattle.unit_timing.specs.EmptyBuffers.{StreamEmptied, VideoEmptied}
 use Rattle.unit_timing.proofs.PacketsInSlots.{rising_run}
 use Rattle.slot_plan.specs.EmptySlots.{EmptiesEachSecond, EmptiesAcross}
 use Rattle.plan_timing.proofs.EmptySlots.{EmptiesOften, one_plan, two_plans}
 use Rattle.plan_timing.proofs.EmptyQueues.{transport_empties, multiplexing_empties}
 
--- ---- from bounds of the work
+-- Buffers with bounded work
 
 stream_emptied : (rate : ℕ) (s : Declaration) (own : ℕ → Bool) (peak : ℕ) (W : ℕ → ℕ) (units : List PesPacket) → IsProper rate s →
     BoundsWork own rate s.drain 512 peak W → EmptiesOften own rate s.drain W → StreamEmptied own rate s units
@@ -30,7 +30,7 @@ video_emptied rate s m own peak W units proper leaks work often n =
     multiplexing_empties own rate s.drain m.rbx m.mb peak W (run_packets own rate s units n) proper.some_drain leaks.some_leak leaks.no_faster
     work often (rising_run own rate s.lead n units)
 
--- ---- one plan
+-- One plan
 
 pub stream_empties : (rate : ℕ) (s : Declaration) (claim : StreamClaim) (marks : List Bool) (units : List PesPacket) → IsProper rate s →
     StreamConditions rate s claim marks → EmptiesEachSecond rate s.drain claim.start marks → StreamEmptied (own marks) rate s units
@@ -45,7 +45,7 @@ video_empties rate s m claim leak marks units proper leaks holds empties = video
     (work_law rate m.rbx m.mb leak.start leak.peak marks (omega (arith, holds.owned, per_period_le marks)) holds.multiplexing)
     (one_plan rate m.rbx leak.start marks empties)
 
--- ---- two plans in turn
+-- Two plans in turn
 
 pub stream_switch_empties : (rate : ℕ) (s : Declaration) (claim : StreamClaim) (first : List Bool) (next : StreamClaim) (second : List Bool) (periods : ℕ)
     (units : List PesPacket) → IsProper rate s → StreamConditions rate s claim first → StreamConditions rate s next second →

@@ -1,4 +1,4 @@
--- Buffers that are empty at least once a second.
+-- Buffers with bounded work are empty at least once a second.
 use Rattle.std.proofs.Common.{◌≡◌, ℕ, zero, suc, ◌+◌, ◌-◌, ◌*◌, ◌/◌, ◌<◌, ◌≤◌, max, Bool, true, false, List, [], ◌∷◌, ◌++◌, take, drop, refl, ap, ◌∙◌, sym, inl}
 use Rattle.std.proofs.Common.{inr, arith, add-one, All}
 use Rattle.std.proofs.Math.Nat.{le_trans, mul-le-mul_left, mul-le-mul_right, mul-pos, mul-div-le, lt-mul-div-succ}
@@ -21,7 +21,7 @@ use Rattle.unit_timing.specs.EmptyBuffers.{EmptySoon, IsEmptyEachSecond}
 use Rattle.unit_timing.proofs.Thinning.{payload_fullness}
 use Rattle.plan_timing.proofs.EmptySlots.{EmptiesOften}
 
--- ---- what is left at the begin of a slot: a slot's drain less than the work before it
+-- The work left at the begin of a slot: the work before the slot less the drain of one slot
 
 abbrev Left : ℕ → (ℕ → ℕ) → ℕ → ℕ → Type 0
 Left r W s prev = prev ≤ 188 * s * r + (W s - 188 * r)
@@ -49,7 +49,7 @@ left_le own rate r room peak W s t prev b le h =
     let e : s + (t - s) ≡ t = omega arith in
     rw e at (left_more own rate r room peak W (t - s) s prev b h)
 
--- the last of n bytes in a row leaves after all of them from the first one's arrival on, or a step after its own arrival
+-- The last of n successive bytes leaves after all n are drained from the first arrival on, or a step after its own arrival.
 one_last : (first prev step r : ℕ) → max first prev + step + r ≤ max (max first prev + 1 * step + r) (first + r + step)
 one_last first prev step r = omega arith
 
@@ -87,7 +87,7 @@ left_packet own rate r room peak W s prev b y h = rw (← add-one s)
           (omega (arith, packet_row rate r s prev)),
     ))
 
--- ---- a slot in which a queue becomes empty
+-- Slots that empty a queue
 
 arrive_after : (own : ℕ → Bool) (r from : ℕ) (slots : List ℕ) → Rises own from slots → All (λ t. 188 * from * r ≤ t) (arrivals r slots)
 unfolding Rises arrivals
@@ -99,7 +99,7 @@ arrive_after own r from (s ∷ slots) rises =
     (All-weaker (λ t. 188 * s * r ≤ t) (λ t. 188 * from * r ≤ t) (λ t le. le_trans here le) (bytes_from r (188 * s) 188) (row r (188 * s) 188))
     (All-weaker (λ t. 188 * suc s * r ≤ t) (λ t. 188 * from * r ≤ t) (λ t le. le_trans next le) (arrivals r slots) (arrive_after own r (suc s) slots rises.2))
 
--- once what is left at the begin of slot s, which is no own slot, has gone, to the slot's end nothing is there
+-- If slot s is no own slot, the buffer is empty from the end of the work left at the begin of s to the end of s.
 nothing_there : (own : ℕ → Bool) (rate r room peak : ℕ) (W : ℕ → ℕ) (s x : ℕ) (slots : List ℕ) (from prev : ℕ) → BoundsWork own rate r room peak W →
     own s ≡ false → 188 * s * r + (W s - 188 * r) ≤ x → x < 188 * suc s * r → Rises own from slots → Left r W from prev →
     fullness x (arrivals r slots) (departures rate prev (arrivals r slots)) ≡ 0
@@ -132,9 +132,9 @@ nothing_there own rate r room peak W s x (t ∷ slots) from prev b other done wi
       fullness_before x ts (departures rate prev ts) (All-weaker (λ u. 188 * t * r ≤ u) (λ u. x < u) (λ u le. omega (arith, low, le)) ts all)
 ]
 
--- ---- one in each second
+-- An empty buffer in each second
 
--- each window that has one of some slots has it at a slot
+-- Each window of slots has a slot of this kind.
 record Within (empties : ℕ → Bool) (from window : ℕ) : Type 0 where
   slot : ℕ
   low : from ≤ slot
@@ -150,7 +150,7 @@ within_window empties window from served =
     ] in
     record { slot = n.slot; low = low; high = n.before; is = n.is_own }
 
--- the moment from which on the buffer is empty lies within a second, and before the end of its slot
+-- The moment at which the buffer becomes empty is within a second, and before the end of its slot.
 soon_enough : (rate r window s at x y : ℕ) → window * 1504 ≤ rate → 188 * r * at ≤ x → s < at + window → y < 188 * suc s * r → (y - x) * 8 ≤ rate * r
 soon_enough rate r window s at x y second begun high before =
     omega (arith, mul-le-mul_right r second, begun, before, mul-le-mul_left (188 * r) high)
@@ -178,12 +178,12 @@ empty_soon own rate step r room peak V W drain slots x pos b often scaled rises 
       empty = nothing_there own step r room peak V s y slots 0 0 b (often.idle s here.is) (omega arith) before rises start;
     }
 
--- a transport buffer
+-- A transport buffer is empty at least once a second.
 pub transport_empties : (own : ℕ → Bool) (rate r room peak : ℕ) (W : ℕ → ℕ) (slots : List ℕ) → 0 < r → BoundsWork own rate r room peak W →
     EmptiesOften own rate r W → Rises own 0 slots → IsEmptyEachSecond rate r (λ x. tb_fullness rate r x slots)
 transport_empties own rate r room peak W slots pos b often rises x = empty_soon own rate rate r room peak W W r slots x pos b often (λ s lt. lt) rises
 
--- ---- the multiplexing buffer
+-- The multiplexing buffer
 
 payloads_all : (P : ℕ → Type 0) (packets : List Packet) (ds : List ℕ) → All P ds → All P (of_payloads packets ds)
 unfolding of_payloads
@@ -192,7 +192,7 @@ payloads_all P (p ∷ packets) ds all =
     All-append P (drop (188 - p.size) (take 188 ds)) (of_payloads packets (drop 188 ds)) (All-drop P (188 - p.size) (take 188 ds) (All-take P 188 ds all))
     (payloads_all P packets (drop 188 ds) (All-drop P 188 ds all))
 
--- it is empty before a byte can have left TB
+-- The multiplexing buffer is empty before any byte can have left TB.
 not_yet : (rate rx rbx x : ℕ) (packets : List Packet) → x < rbx * rate → multiplexing_fullness rate rx rbx x packets ≡ 0
 not_yet rate rx rbx x packets early =
     let ts = arrivals (rx * rbx) (slots_of packets) in

@@ -1,9 +1,10 @@
--- The slots in which a buffer becomes empty, from one period to all time.
-use Rattle.std.proofs.Common.{◌≡◌, ℕ, zero, suc, ◌+◌, ◌-◌, ◌*◌, ◌%◌, ◌<◌, ◌≤◌, max, Bool, true, false, nat_lt, ltb, not, List, [], ◌∷◌, length, get_or, refl}
+-- The slots that empty a buffer, for one period and for all time.
+use Rattle.std.proofs.Common.{◌≡◌, ℕ, zero, suc, ◌+◌, ◌-◌, ◌*◌, ◌%◌, ◌<◌, ◌≤◌, max, Bool, true, false, nat_lt, ltb, not, List, [], ◌∷◌, ◌++◌, length, get_or, replicate, refl}
 use Rattle.std.proofs.Common.{ap, ◌∙◌, sym, subst, inl, inr, arith}
 use Rattle.std.proofs.lemmas.Bool.{cases_lt, cond-true, cond-false, lt-ltb, le-ltb, ltb-true, and_parts}
 use Rattle.own_slots.specs.Slots.{AtLeastPerWindow}
-use Rattle.own_slots.specs.Period.{own, position, back}
+use Rattle.own_slots.specs.Period.{own, position, back, places}
+use Rattle.own_slots.specs.Extremes.{greatest}
 use Rattle.own_slots.specs.Gaps.{gap}
 use Rattle.own_slots.specs.Work.{work_step, work_at, periodic_work}
 use Rattle.own_slots.specs.Switch.{joined, joined_work}
@@ -12,8 +13,8 @@ use Rattle.own_slots.proofs.SwitchLemmas.{joined_first, joined_second, switch_ga
 use Rattle.unit_timing.specs.PlanLaws.{in_turn}
 use Rattle.slot_plan.specs.EmptySlots.{empty_slots, EmptiesEachSecond, EmptiesAcross}
 
--- W bounds the work before each slot. There are slots in which the buffer becomes empty: none of them is its own, and each drains what
--- is left at its begin. One of them is in each window of some slots, which last at most a second
+-- W bounds the work before each slot. In some slots the buffer becomes empty: these slots are not own slots, each drains the work left at its
+-- begin, and each window of at most a second has such a slot.
 pub record EmptiesOften (own : ℕ → Bool) (rate drain : ℕ) (W : ℕ → ℕ) : Type 0 where
   pub empties : ℕ → Bool
   pub idle : (s : ℕ) → empties s ≡ true → own s ≡ false
@@ -22,7 +23,7 @@ pub record EmptiesOften (own : ℕ → Bool) (rate drain : ℕ) (W : ℕ → ℕ
   pub second : window * 1504 ≤ rate
   pub served : AtLeastPerWindow empties window 1
 
--- ---- one period
+-- One period
 
 length-empty_slots : (rate drain work : ℕ) (marks : List Bool) → length (empty_slots rate drain work marks) ≡ length marks
 unfolding empty_slots
@@ -33,7 +34,7 @@ is_other : (b : Bool) → not b ≡ true → b ≡ false
 is_other true e = cc
 is_other false e = refl
 
--- what such a slot of a period is
+-- A slot that empties the buffer in a period is no own slot, and drains the work left at its begin.
 in_period : (rate drain work : ℕ) (marks : List Bool) (p : ℕ) → get_or (empty_slots rate drain work marks) p false ≡ true →
     (get_or marks p false ≡ false) × (work_at rate drain work marks p - 188 * drain < 188 * drain)
 unfolding empty_slots work_at
@@ -43,7 +44,7 @@ in_period rate drain work (mark ∷ marks) zero is =
     (is_other mark parts.0, ltb-true (work - 188 * drain) (188 * drain) parts.1)
 in_period rate drain work (mark ∷ marks) (suc p) is = in_period rate drain (work_step rate drain work mark) marks p is
 
--- and over all time
+-- The same for every slot of all periods
 at_slot : (rate drain start : ℕ) (marks : List Bool) (s : ℕ) → own (empty_slots rate drain start marks) s ≡ true →
     (own marks s ≡ false) × (periodic_work rate drain start marks s - 188 * drain < 188 * drain)
 at_slot rate drain start marks s is =
@@ -61,9 +62,9 @@ one_plan rate drain start marks holds = record {
   served = gap_law (empty_slots rate drain start marks) 1 (gap (empty_slots rate drain start marks) 1) holds.some (omega arith);
 }
 
--- ---- two plans in turn
+-- Two plans in turn
 
--- the greatest of three times
+-- If three times are at most a second, so is the greatest.
 longest : (a b c rate : ℕ) → a * 1504 ≤ rate → b * 1504 ≤ rate → c * 1504 ≤ rate → max (max a b) c * 1504 ≤ rate
 longest a b c rate first second across = omega (arith, first, second, across)
 
@@ -114,3 +115,17 @@ two_plans rate drain start first next_start second periods one two joins = recor
 
     g : ℕ
     g = max (max (gap e1 1) (gap e2 1)) (position e2 0 + back e1 1)
+
+-- Worked values: four own slots of 24 at 3,008,000 bits a second
+
+four_of_24 : List Bool
+four_of_24 = replicate 4 true ++ replicate 20 false
+
+-- MB, drained at 1,000,000 bits a second, becomes empty in slot 12, and TB, drained at 2,000,000, in slot 6: 13 and 7 slots after the last slot of a period.
+mb_empties : gap (empty_slots 3008000 1000000 0 four_of_24) 1 ≡ 13
+unfolding four_of_24 empty_slots places greatest
+mb_empties = refl
+
+tb_empties : gap (empty_slots 3008000 2000000 0 four_of_24) 1 ≡ 7
+unfolding four_of_24 empty_slots places greatest
+tb_empties = refl

@@ -1,4 +1,4 @@
--- One plan: from its conditions to the premises of the timing laws.
+-- One plan: the conditions on the plan imply the premises of the timing laws.
 use Rattle.std.specs.Prelude.{ℕ, ◌+◌, ◌-◌, ◌*◌, ◌<◌, ◌≤◌, Bool, List, [], ◌∷◌, Some, length, slice_get, get_or, sum_by, take, map}
 use Rattle.std.proofs.Common.{◌≡◌, sym, subst, arith}
 use Rattle.std.proofs.lemmas.List.{length-map}
@@ -24,7 +24,7 @@ use Rattle.unit_timing.specs.Conditions.{IsProper, StreamClaim, ProgramClaim, ra
 use Rattle.unit_timing.specs.Conditions.{StreamConditions, ProgramConditions}
 use Rattle.unit_timing.specs.AccessUnits.{FramedConditions, framed_waiting}
 use Rattle.unit_timing.specs.VideoPlans.{LeakClaim, IsProperLeak, VideoConditions, VideoServed}
-use Rattle.unit_timing.specs.EmptyPlans.{StreamEmptied, VideoEmptied}
+use Rattle.unit_timing.specs.EmptyBuffers.{StreamEmptied, VideoEmptied}
 use Rattle.unit_timing.proofs.PlanLemmas.{stream_law, program_law}
 use Rattle.unit_timing.proofs.AccessUnitLemmas.{framed_law}
 use Rattle.unit_timing.proofs.VideoLemmas.{video_law}
@@ -58,7 +58,7 @@ use Rattle.plan_timing.proofs.Waiting.{waits_law}
 pub length_marks : (item : Item) (slots : List Slot) → length (marks item slots) ≡ length slots
 length_marks item slots = length-map slots (is_own item)
 
--- the numbers of a stream are in their ranges
+-- The numbers of a stream are in their ranges.
 stream_ranges : (d : Described) (i : ℕ) (s : DescribedStream) → IsInRange d → slice_get d.streams i ≡ Some s → IsStream s
 stream_ranges d i s ranges is =
     rw (get_or_from_slice_get d.streams i s s is) at (All-get_or IsStream d.streams i s (slice_get_within d.streams i s is) ranges.streams)
@@ -72,13 +72,13 @@ proper d i s ranges is = let r = stream_ranges d i s ranges is in record {
   some_rows = omega (arith, rows_some s r);
 }
 
--- it may be sent at most a second ahead
+-- A stream may be sent at most a second ahead.
 pub lead_short : (d : Described) (i : ℕ) (s : DescribedStream) → IsInRange d → slice_get d.streams i ≡ Some s → s.lead ≤ 90000
 lead_short d i s ranges is = (stream_ranges d i s ranges is).most_lead
 
--- ---- the slots of a stream
+-- The slots of a stream
 
--- what a plan claims of a stream, and of the slots of a program's tables
+-- The claims of a plan about a stream, and about the slots of a program's tables
 abbrev pub claim_of : Planned → ℕ → StreamClaim
 claim_of p i = let claim = stream_claim p i in record { spread = claim.spread; start = claim.start; peak = claim.peak }
 
@@ -102,14 +102,13 @@ lead_holds d p i s hold m some below =
     (time_given d.rate (declaration s) (stream_share p i).count m)
     (rw e at (holds_count (stream_lead_entry d p i s) 1 (allowance_rows s.allowance) (m - 1) (omega arith) hold))
 
--- the conditions of its main buffer: of whole units, and of access units that are removed one by one
+-- The conditions on the main buffer hold, for whole units and for access units that the decoder removes one by one.
 mains_hold : (d : Described) (p : Planned) (i : ℕ) (s : DescribedStream) → ServingConditions d p → slice_get d.streams i ≡ Some s →
     Hold (main_buffer_entry d p i s ∷ []) × Hold (frame_entries d p i s s.framing)
 mains_hold d p i s serves is = holds_both (main_buffer_entry d p i s ∷ []) (frame_entries d p i s s.framing)
     (holds_element (λ j t. main_buffer_entry d p j t ∷ frame_entries d p j t t.framing) d.streams i s serves.main_buffers is)
 
--- the conditions of its transport buffer: that it has room, and that it is empty at least once a second if there is a multiplexing
--- buffer after it
+-- The conditions on the transport buffer hold: it has room, and it is empty at least once a second if a multiplexing buffer follows.
 buffers_hold : (d : Described) (p : Planned) (i : ℕ) (s : DescribedStream) → ServingConditions d p → slice_get d.streams i ≡ Some s →
     Hold (buffer_entries TransportBuffer i d.rate s.rx tb_size (stream_claim p i).start (stream_claim p i).peak (marks (Stream i) p.slots))
     × Hold (stream_emptied_entries d p i s s.multiplexing)
@@ -140,12 +139,12 @@ stream_holds d p i s serves is =
       main_fits = rw (length_marks (Stream i) p.slots) main;
     }
 
--- the numbers of its framing are in their ranges
+-- The numbers of a stream's framing are in their ranges.
 pub framing_ranges : (d : Described) (i : ℕ) (s : DescribedStream) (f : Framing) → IsInRange d → slice_get d.streams i ≡ Some s → s.framing ≡ Some f →
     IsFraming s.interval s.size f
 framing_ranges d i s f ranges is some = All-head (IsFraming s.interval s.size) f [] (rw some at (stream_ranges d i s ranges is).framing)
 
--- those of its access units, if they are removed one by one
+-- The conditions on access units hold, if the decoder removes them one by one.
 frame_holds : (d : Described) (p : Planned) (i : ℕ) (s : DescribedStream) (f : Framing) → ServingConditions d p → slice_get d.streams i ≡ Some s →
     s.framing ≡ Some f →
     (k : ℕ) → 0 < k → k < f.frames → framed_waiting d.rate (declaration s) f (stream_share p i) k ≤ s.main
@@ -163,7 +162,7 @@ frames_hold d p i s f ranges serves is some = record {
   fits = λ k one below. rw (length_marks (Stream i) p.slots) (frame_holds d p i s f serves is some k one below);
 }
 
--- the conditions of its multiplexing buffer, if it has one: that it has room, and that it is empty at least once a second
+-- The conditions on the multiplexing buffer hold, if the stream has one: it has room, and it is empty at least once a second.
 leak_buffers_hold : (d : Described) (p : Planned) (i : ℕ) (s : DescribedStream) (b : LeakingBuffer) → ServingConditions d p → slice_get d.streams i ≡ Some s →
     s.multiplexing ≡ Some b →
     Hold (buffer_entries MultiplexingBuffer i d.rate b.rbx b.size (multiplexing_claim p i).start (multiplexing_claim p i).peak (marks (Stream i) p.slots))
@@ -179,7 +178,7 @@ leak_holds d p i s b serves is some = let claim = multiplexing_claim p i in
     holds_work MultiplexingBuffer i d.rate b.rbx b.size claim.start claim.peak (marks (Stream i) p.slots)
     (leak_buffers_hold d p i s b serves is some).0
 
--- both buffers are empty at least once a second
+-- Both buffers are empty at least once a second.
 pub emptied_holds : (d : Described) (p : Planned) (i : ℕ) (s : DescribedStream) (b : LeakingBuffer) → ServingConditions d p → slice_get d.streams i ≡ Some s →
     s.multiplexing ≡ Some b → EmptiesEachSecond d.rate s.rx (stream_claim p i).start (marks (Stream i) p.slots)
 emptied_holds d p i s b serves is some =
@@ -191,7 +190,7 @@ pub leak_emptied_holds : (d : Described) (p : Planned) (i : ℕ) (s : DescribedS
 leak_emptied_holds d p i s b serves is some =
     holds_emptied MultiplexingBuffer i d.rate b.rbx (multiplexing_claim p i).start (marks (Stream i) p.slots) (leak_buffers_hold d p i s b serves is some).1
 
--- and those of its elementary stream buffer
+-- The conditions on the elementary stream buffer hold.
 pub elementary_holds : (d : Described) (p : Planned) (i : ℕ) (s : DescribedStream) (b : LeakingBuffer) → ServingConditions d p →
     slice_get d.streams i ≡ Some s →
     s.multiplexing ≡ Some b → (m : ℕ) → 0 < m → m ≤ allowance_rows s.allowance →
@@ -205,7 +204,7 @@ elementary_holds d p i s b serves is some m one below =
     (time_given d.rate (elementary_declaration s b) (elementary_share d.rate p i).count m)
     (rw e at (holds_count (elementary_lead_entry d p i s b) 1 (allowance_rows s.allowance) (m - 1) (omega arith) all))
 
--- all of them together
+-- All conditions on the buffers of a video stream hold.
 pub video_holds : (d : Described) (p : Planned) (i : ℕ) (s : DescribedStream) (b : LeakingBuffer) → ServingConditions d p → slice_get d.streams i ≡ Some s →
     s.multiplexing ≡ Some b → VideoConditions d.rate (declaration s) (leak_of b) (claim_of p i) (leak_claim_of p i) (marks (Stream i) p.slots)
 video_holds d p i s b serves is some = let holds = stream_holds d p i s serves is in record {
@@ -218,14 +217,14 @@ video_holds d p i s b serves is some = let holds = stream_holds d p i s serves i
   elementary_fits = holds.main_fits;
 }
 
--- a multiplexing buffer in its ranges leaks, and no faster than the transport buffer is drained
+-- A multiplexing buffer in its ranges leaks, and no faster than the transport buffer drains.
 pub proper_leak : (d : Described) (i : ℕ) (s : DescribedStream) (b : LeakingBuffer) → IsInRange d → slice_get d.streams i ≡ Some s → s.multiplexing ≡ Some b →
     IsProperLeak (declaration s) (leak_of b)
 proper_leak d i s b ranges is some =
     let r = All-head (IsMultiplexingBuffer s.rx) b [] (rw some at (stream_ranges d i s ranges is).multiplexing) in
     record { some_leak = omega (arith, r.least_rbx); no_faster = r.most_rbx }
 
--- ---- the slots of a program's tables
+-- The slots of a program's tables
 
 pub program_holds : (d : Described) (p : Planned) (i : ℕ) → ServingConditions d p → i < length d.programs →
     ProgramConditions d.rate (program_claim_of p i) (marks (System i) p.slots)
@@ -237,7 +236,7 @@ program_holds d p i serves lt = let claim = program_claim p i in record {
       (holds_item (system_buffer_entries d p) d.programs i serves.system_buffers lt);
 }
 
--- ---- PCRs and sections
+-- PCRs and sections
 
 pub pcr_gap_holds : (d : Described) (p : Planned) (i : ℕ) (program : DescribedProgram) → ServingConditions d p → slice_get d.programs i ≡ Some program →
     gap (marks (Pcr i) p.slots) 1 * slot_ms_at_1bps ≤ program.pcr_limit * d.rate
@@ -249,7 +248,7 @@ pub table_gap_holds : (d : Described) (p : Planned) (t : ℕ) → ServingConditi
 table_gap_holds d p t serves lt = at_most_holds TableGap 0 t (gap (marks (Table t) p.slots) (round_packets d t) * slot_ms_at_1bps) (table_limit d t * d.rate)
     (holds_item (λ j. table_gap_entry d p j ∷ []) (table_kinds d) t serves.table_gaps lt)
 
--- a section begins within the round
+-- A section begins within the round.
 place_below : (ls : List ℕ) (j : ℕ) → j < length ls → sum_by packets_of_section (take j ls) < sum_by packets_of_section ls
 place_below ls j lt =
     let one : 1 ≤ packets_of_section (get_or ls j 0) = omega arith in
@@ -258,7 +257,7 @@ place_below ls j lt =
 pub first_packet_below : (d : Described) (t j : ℕ) → j < section_count d t → first_packet d t j < round_packets d t
 first_packet_below d t j lt = place_below (section_lengths d t) j lt
 
--- ---- the promises
+-- The promises
 
 pub plan_law : OwnedLaw → PlanLaw
 plan_law law d p ranges serving =

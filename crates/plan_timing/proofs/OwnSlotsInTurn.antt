@@ -1,4 +1,4 @@
--- The own slots of an item over two plans, by the marks of both periods; and if these are the same, those of the first plan alone.
+-- The own slots of an item over two plans, by the marks of both periods; if the marks are the same, the own slots of the first plan alone.
 use Rattle.std.specs.Prelude.{ℕ, ◌+◌, ◌-◌, ◌*◌, ◌%◌, ◌≤◌, ◌==◌, Bool, true, false, List, [], ◌∷◌, length, nat_lt, slice_index_or}
 use Rattle.std.specs.Bool.{beq}
 use Rattle.std.specs.List.{list_all, zip}
@@ -14,7 +14,7 @@ use Rattle.slot_plan.specs.SwitchConditions.{owns_same}
 use Rattle.slot_plan.specs.Schedule.{OwnedLaw, single, switched, owned}
 use Rattle.plan_timing.proofs.OnePlan.{length_marks}
 
--- a period that is repeated, and repeated again from the end of one of its repetitions
+-- A repeated period is the same from the end of each of its repetitions.
 turned : (m : List Bool) (periods s : ℕ) → periods * length m ≤ s → own m (s - periods * length m) ≡ own m s
 turned m periods s after =
     let whole : s - periods * length m + periods * length m ≡ s = omega (arith, after) in
@@ -36,7 +36,7 @@ same_mark true false e = sym e
 same_mark false true e = e
 same_mark false false e = refl
 
--- an item owns the same slots of both periods: its marks are the same
+-- If an item owns the same slots of both periods, its marks are the same.
 marked : (item : Item) (first second : List Slot) → length first ≡ length second →
     list_all (λ p. beq (is_own item p.0) (is_own item p.1)) (zip first second) ≡ true → marks item first ≡ marks item second
 marked item [] [] e all = refl
@@ -52,14 +52,14 @@ same_marks item first second same =
     marked item first second (eqb-true (length first) (length second) both.0) both.1
 
 module _ (law : OwnedLaw) (first second : List Slot) (periods : ℕ) where
-  -- the own slots over the two plans, by the marks of both periods
+  -- The own slots over the two plans are given by the marks of both periods.
   pub owned_over : (item : Item) → joined (own (marks item first)) (own (marks item second)) (periods * length (marks item first))
       ≡ owned (switched first periods second) item
   owned_over item =
       ap (λ (n : ℕ). joined (own (marks item first)) (own (marks item second)) (periods * n)) (length_marks item first)
       ∙ sym (law.in_turn first second periods item)
 
-  -- an item that owns the same slots of both periods owns over the two plans what it owns over the first alone
+  -- If an item owns the same slots of both periods, it owns the same slots over the two plans as over the first plan alone.
   pub owned_on : (item : Item) → owns_same item first second ≡ true → owned (single first) item ≡ owned (switched first periods second) item
   owned_on item same = law.alone first item ∙ sym (repeated_on (marks item first) periods)
       ∙ ap (λ (m : List Bool). joined (own (marks item first)) (own m) (periods * length (marks item first))) (same_marks item first second same)

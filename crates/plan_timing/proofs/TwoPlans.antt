@@ -1,4 +1,4 @@
--- Two plans: from the conditions on both to the premises of the timing laws.
+-- Two plans: the conditions on both imply the premises of the timing laws.
 use Rattle.std.specs.Prelude.{ℕ, zero, suc, ◌+◌, ◌-◌, ◌*◌, ◌<◌, ◌≤◌, max, Bool, true, false, List, [], ◌∷◌, Some, length, slice_get, map}
 use Rattle.std.proofs.Common.{◌≡◌, subst, inl, inr, arith}
 use Rattle.std.proofs.lemmas.Bool.{cases_Bool, and_parts}
@@ -22,7 +22,7 @@ use Rattle.unit_timing.specs.Plans.{StreamServed, ProgramServed}
 use Rattle.unit_timing.specs.Conditions.{lead_across, time_given, bytes_across, share_of, StreamSwitchConditions, ProgramSwitchConditions}
 use Rattle.unit_timing.specs.VideoPlans.{VideoSwitchConditions, VideoServed}
 use Rattle.unit_timing.specs.AccessUnits.{FramedSwitchConditions, framed_across}
-use Rattle.unit_timing.specs.EmptyPlans.{StreamEmptied, VideoEmptied}
+use Rattle.unit_timing.specs.EmptyBuffers.{StreamEmptied, VideoEmptied}
 use Rattle.unit_timing.proofs.AccessUnitLemmas.{framed_law}
 use Rattle.unit_timing.proofs.PlanLemmas.{stream_switch_law, program_switch_law}
 use Rattle.unit_timing.proofs.VideoLemmas.{video_switch_law}
@@ -67,7 +67,7 @@ lead_joins d first second i s hold m some below =
     (time_given d.rate (declaration s) ((stream_share first i).count * (stream_share second i).count) m)
     (rw e at (holds_count (lead_switch_entry d first second i s) 1 (allowance_rows s.allowance) (m - 1) (omega arith) hold))
 
--- the conditions of its main buffer: of whole units, and of access units that are removed one by one
+-- The conditions on the main buffer hold across the switch, for whole units and for access units that the decoder removes one by one.
 mains_join : (d : Described) (first second : Planned) (i : ℕ) (s : DescribedStream) → FollowingConditions d first second → slice_get d.streams i ≡ Some s →
     continues d first second i ≡ false →
     Hold (main_switch_entry d first second i s ∷ []) × Hold (frame_switch_entries d first second i s s.framing)
@@ -76,8 +76,8 @@ mains_join d first second i s follows is changed = holds_both (main_switch_entry
     (holds_element (λ j t. if_changed d first second j (main_switch_entry d first second j t ∷ frame_switch_entries d first second j t t.framing))
     d.streams i s follows.main_buffers is))
 
--- those of its transport buffer, and of its multiplexing buffer if it has one: of their work, and that they are empty at least once a
--- second
+-- The conditions on the transport and the multiplexing buffer hold across the switch: on their work, and that they are empty at least once a
+-- second.
 works_join : (d : Described) (first second : Planned) (i : ℕ) (s : DescribedStream) → FollowingConditions d first second → slice_get d.streams i ≡ Some s →
     Hold (stream_work_entry d first second i s ∷ []) × Hold (stream_emptied_switch_entries d first second i s s.multiplexing)
 works_join d first second i s follows is =
@@ -196,7 +196,7 @@ program_joins d first second i follows lt = let claim = program_claim first i in
       (holds_item (λ j. system_work_entry d first second j ∷ []) d.programs i follows.system_works lt);
 }
 
--- ---- gaps across the switch
+-- Gaps across the switch
 
 within_limit : (a b c limit : ℕ) → a * slot_ms_at_1bps ≤ limit → b * slot_ms_at_1bps ≤ limit → c * slot_ms_at_1bps ≤ limit →
     max a (max b c) * slot_ms_at_1bps ≤ limit
@@ -212,7 +212,7 @@ gaps_join first second periods k some next_some =
     switch_gap_law first second periods k (max (gap first k) (max (gap second k) (gap_across first second k))) some next_some (omega arith) (omega arith)
     (λ x low high. omega (arith, gap_below first second k x low high))
 
--- ---- the promises
+-- The promises
 
 pub switch_law : OwnedLaw → SwitchLaw
 switch_law law d first second periods ranges serving switchable =

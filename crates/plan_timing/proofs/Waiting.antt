@@ -1,4 +1,4 @@
--- No byte of a unit comes into the decoder earlier than a second before the unit's decoding time.
+-- No byte of a unit enters the decoder more than a second before the unit's decoding time.
 use Rattle.std.proofs.Common.{◌≡◌, ℕ, ◌+◌, ◌-◌, ◌*◌, ◌≤◌, Bool, List, [], ◌∷◌, ◌++◌, length, take, drop, refl, arith, All}
 use Rattle.std.proofs.Math.Nat.{mul-le-mul_right}
 use Rattle.std.proofs.lemmas.List.{take_at, drop_at, length-drop}
@@ -15,7 +15,7 @@ use Rattle.unit_timing.proofs.StayLemmas.{longest_stay_law}
 use Rattle.unit_timing.proofs.TransportBuffer.{length-bytes_from}
 use Rattle.plan_timing.specs.Waits.{pes_entered, longest_wait}
 
--- ---- when bytes come
+-- The times at which bytes enter
 
 pes_entered-cons : (r : ℕ) (p : Packet) (packets : List Packet) →
     pes_entered r (p ∷ packets) ≡ drop (188 - p.size) (bytes_from r (188 * p.slot) 188) ++ pes_entered r packets
@@ -27,7 +27,7 @@ pes_entered-cons r p packets =
       drop_at (bytes_from r (188 * p.slot) 188) (arrivals r (slots_of packets)) 188 many,
     ) refl
 
--- none comes before its packet's slot begins
+-- No byte enters before the slot of its packet begins.
 entered : (r : ℕ) (packets : List Packet) → All (λ p. p.size ≤ 188) packets → NoneLeavesEarly r packets (pes_entered r packets)
 unfolding NoneLeavesEarly
 entered r [] few = unfold of_payloads in refl
@@ -40,7 +40,7 @@ entered r (p ∷ packets) few =
     rw (pes_entered-cons r p packets, take_at one (pes_entered r packets) p.size many, drop_at one (pes_entered r packets) p.size many)
     (many, all, entered r packets (All-tail (λ p. p.size ≤ 188) p packets few))
 
--- ---- how long before their decoding times
+-- The time from the entry of bytes to their decoding
 
 no_later : (wait longer due rate r t : ℕ) → wait ≤ longer → due ≤ t * 720000 + wait * rate * r → due ≤ t * 720000 + longer * rate * r
 no_later wait longer due rate r t le at = omega (arith, at, mul-le-mul_right r (mul-le-mul_right rate le))
@@ -55,7 +55,7 @@ more_wait wait longer rate r (unit ∷ units) times le waits = (
   more_wait wait longer rate r units (drop unit.size times) le waits.1,
 )
 
--- at most the lead before, and so at most a second
+-- Bytes wait for at most the lead, so at most a second.
 pub waits_law : (own : ℕ → Bool) (rate lead r n : ℕ) (units : List PesPacket) → lead ≤ 90000 →
     WaitsAtMost longest_wait rate r units (pes_entered r (packets_in_slots own rate lead 0 units (own_slots own 0 n)))
 waits_law own rate lead r n units short =

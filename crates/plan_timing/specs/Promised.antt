@@ -6,7 +6,7 @@ use Rattle.unit_timing.specs.PesPacket.{PesPacket}
 use Rattle.unit_timing.specs.declared.framing.Framing.{Framing}
 use Rattle.unit_timing.specs.declared.multiplexing_buffer.MultiplexingBuffer.{MultiplexingBuffer}
 use Rattle.unit_timing.specs.Plans.{KeepsDeclaration, StreamServed, ProgramServed, run_packets}
-use Rattle.unit_timing.specs.EmptyPlans.{StreamEmptied, VideoEmptied}
+use Rattle.unit_timing.specs.EmptyBuffers.{StreamEmptied, VideoEmptied}
 use Rattle.unit_timing.specs.LongestStay.{WaitsAtMost}
 use Rattle.unit_timing.specs.VideoPlans.{Leak, VideoServed}
 use Rattle.unit_timing.specs.AccessUnits.{FramedPacket, KeepsFraming, packets_of}

@@ -1,4 +1,4 @@
--- Tables of programs, finding by finding.
+-- Tables of programs, finding by finding
 use Rattle.std.proofs.Common.{◌≡◌, ◌≤◌, ◌<◌, ℕ, ◌+◌, true, false, List, [], ◌∷◌, ◌++◌, length, map, drop, get_or, Some, None, refl}
 use Rattle.std.specs.Option.{option_or}
 use Rattle.psi_tables.specs.declared.pat.programs.Program.{Program}
@@ -37,7 +37,7 @@ pub entries_end : {X : Type 0} (view : X → FindingView) (version i : ℕ) (fs 
 unfolding entries with_programs
 entries_end view version i fs named over = rw (done view i fs over) refl
 
--- 3. A table that says something else
+-- 3. A table that differs
 
 pub change_later : {X : Type 0} (view : X → FindingView) (a : AssociationView) (i : ℕ) (fs : List X) (f : X) → i < length fs → f ≡ get_or fs i f →
     is_other a (pat_found (view f)) ≡ false →

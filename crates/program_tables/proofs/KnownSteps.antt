@@ -1,4 +1,4 @@
--- What tables say, finding by finding, is what the association and the maps of all findings say.
+-- The tables kept finding by finding give the association and the maps of all findings.
 use Rattle.std.proofs.Common.{◌≡◌, ◌≤◌, ◌<◌, ℕ, ◌+◌, ◌==◌, ◌||◌, zero, suc, Bool, true, false, List, [], ◌∷◌, ◌++◌, length, map, take, drop, get_or, Option}
 use Rattle.std.proofs.Common.{Some, None, refl, sym, ap, ◌∙◌, add-one, arith}
 use Rattle.std.specs.Prelude.{is_some, if◌then◌else◌}
@@ -32,7 +32,7 @@ known_both known at (x ∷ xs) ys =
     let n : (at + 1) + length xs ≡ at + suc (length xs) = omega arith in
     known_both (known_with known at x) (at + 1) xs ys ∙ ap (λ (k : ℕ). known_from (known_from (known_with known at x) (at + 1) xs) k ys) n
 
--- those that are taken, then the others
+-- Findings are taken in two parts: the first `taken` findings, then the rest.
 pub known_on : {X : Type 0} (view : X → FindingView) (taken : ℕ) (fs : List X) → taken ≤ length fs →
     known_from (known_in (take taken (map view fs))) taken (map view (drop taken fs)) ≡ known_in (map view fs)
 known_on view taken fs within =
@@ -60,7 +60,7 @@ places_known findings = places_are nothing 0 findings
 
 -- 3. The programs
 
--- by the version of the first table
+-- The programs with the version of the first table
 abbrev pub named_by : Option PatView → List FindingView → List Program
 named_by None findings = []
 named_by (Some first) findings = with_programs [] (entries first.header.version_number findings)
@@ -93,7 +93,7 @@ no_more (Some first) f fs none =
     let version : ℕ = first.header.version_number in
     ap (λ (ps : List Program). with_programs [] ps) (no_entries version (pat_found f) (entries version fs) none)
 
--- before the first table
+-- The state before the first table
 abbrev nameless : List (ℕ × ℕ) → KnownView
 nameless places = record { version = None; programs = []; places = places }
 
@@ -102,7 +102,7 @@ still_nameless : (places : List (ℕ × ℕ)) (at : ℕ) (f : FindingView) → p
 unfolding version_with programs_with
 still_nameless places at f none = rw none refl
 
--- a finding that may have the first table, with those after it
+-- The first table is in this finding or in a later finding.
 with_first : (at : ℕ) (places : List (ℕ × ℕ)) (f : FindingView) (fs : List FindingView) (o : Option PatView) → pat_found f ≡ o →
     (known_from (nameless (places_with places (program_found f) at)) (at + 1) fs).programs ≡ named_by (first_pat fs) fs →
     (known_from (known_with (nameless places) at f) (at + 1) fs).programs ≡ named_by (option_or o (first_pat fs)) (f ∷ fs)
@@ -145,7 +145,7 @@ version_before at places (f ∷ fs) =
 pub version_known : (findings : List FindingView) → is_some (known_in findings).version ≡ is_some (first_pat findings)
 version_known findings = version_before 0 [] findings
 
--- 4. With more findings: the programs stay, and others come after them
+-- 4. With more findings the programs stay, and further programs are added after them
 
 pub record Grown (before after : List Program) : Type 0 where
   pub others : List Program

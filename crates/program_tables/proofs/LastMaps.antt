@@ -1,4 +1,4 @@
--- Tables of one program, finding by finding.
+-- Tables of one program, finding by finding
 use Rattle.std.proofs.Common.{◌≡◌, ◌≤◌, ◌<◌, ℕ, ◌+◌, List, length, map, drop, get_or, Option, Some, None, option_map, refl, sym}
 use Rattle.std.specs.Option.{option_or}
 use Rattle.psi_tables.specs.ProgramMap.{PmtView}
@@ -32,7 +32,7 @@ pub or_none : {Z : Type 0} (o : Option Z) → o ≡ option_or o None
 or_none None = refl
 or_none (Some z) = refl
 
--- a finding that has no section of the program's PID has no table of it
+-- A finding without a section on the program's PID has no table of the program.
 pub not_found : (p : Program) (f : FindingView) → section_on p.pid f ≡ None → pmt_found p f ≡ None
 unfolding pmt_found
 not_found p f none = rw none refl

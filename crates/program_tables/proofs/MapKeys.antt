@@ -1,4 +1,4 @@
--- Keys of programs, and what is kept by them.
+-- Keys of programs, and the values kept for them
 use Rattle.std.proofs.Common.{◌≡◌, ◌<◌, ℕ, ◌+◌, ◌*◌, ◌==◌, nat_eq, nat_lt, cond, Bool, true, false, List, [], ◌∷◌, Option, Some, None, refl, sym, ap, ap₂}
 use Rattle.std.proofs.Common.{subst, ◌∙◌, arith}
 use Rattle.std.specs.Prelude.{is_some, option_and_then}
@@ -54,9 +54,9 @@ same_program p q low below e =
     ap₂ (λ (number pid : ℕ). (let r : Program = record { program_number = number; pid = pid } in r))
     (same_rest p.pid p.program_number q.pid q.program_number low below e) (same_pid p.pid p.program_number q.pid q.program_number low below e)
 
--- 3. The table that a finding has, by the program that it is of
+-- 3. The table of a finding, by its program
 
--- the program that is found is the one with this key
+-- Whether the program, if found, has this key
 abbrev pub is_key : ℕ → Option Program → Bool
 is_key key None = false
 is_key key (Some q) = map_key q == key
@@ -114,7 +114,7 @@ by_parts p (Some pid) (Some pmt) below = by_number p pid pmt (nat_lt pmt.header.
 pub by_key : (p : Program) (f : FindingView) → p.program_number < 65_536 → pmt_found p f ≡ cond (is_key (map_key p) (program_found f)) (any_map f) None
 by_key p f below = of_pid p f ∙ by_parts p f.pid (any_map f) below
 
--- a finding of which a program is found has a table, and the number of the program has 16 bits
+-- If a program is found for a finding, the finding has a table, and the program number has 16 bits.
 pub record HasMap (q : Program) (found : Option PmtView) : Type 0 where
   pub pmt : PmtView
   pub is : found ≡ Some pmt

@@ -1,4 +1,4 @@
--- The packets that are noted are those where maps change.
+-- The noted packets are the packets at which maps change.
 use Rattle.std.proofs.Common.{◌≡◌, ◌<◌, ◌≤◌, ℕ, ◌+◌, ◌==◌, nat_eq, cond, Bool, true, false, List, [], ◌∷◌, length, map, drop, get_or, Option, Some, None, refl}
 use Rattle.std.proofs.Common.{sym, ap, ◌∙◌}
 use Rattle.std.specs.Prelude.{is_some, option_and_then}

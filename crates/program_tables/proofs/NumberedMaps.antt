@@ -1,4 +1,4 @@
--- The table of a program among the tables of all programs.
+-- The table of a program among the tables of all programs
 use Rattle.std.proofs.Common.{◌≡◌, ℕ, ◌==◌, ◌&&◌, cond, Bool, true, false, List, Option, Some, None, refl, inl, inr}
 use Rattle.std.specs.Prelude.{option_and_then, Result, Ok, Err}
 use Rattle.std.proofs.lemmas.Bool.{cases_Bool}

@@ -4,5 +4,5 @@ use Rattle.psi_tables.specs.declared.pat.programs.Program.{Program}
 use Rattle.program_tables.specs.Association.{is_named}
 
 -- the list is true exactly at the program_numbers that are named
-unfoldable pub TellsNamed : List Bool → List Program → Type 0
-TellsNamed numbers programs = (number : ℕ) → number < 65536 → slice_index_or numbers number false ≡ is_named number programs
+unfoldable pub MarksNamed : List Bool → List Program → Type 0
+MarksNamed numbers programs = (number : ℕ) → number < 65536 → slice_index_or numbers number false ≡ is_named number programs

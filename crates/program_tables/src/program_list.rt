@@ -22,13 +22,13 @@ pub struct ProgramList<A: Allocator> {
 impl<A: Allocator> Model for ProgramList<A> {
     ghost use Rattle.std.specs.Prelude.{List};
     ghost use Rattle.psi_tables.specs.declared.pat.programs.Program.{Program};
-    ghost use Rattle.program_tables.specs.ProgramLists.{TellsNamed};
+    ghost use Rattle.program_tables.specs.ProgramLists.{MarksNamed};
 
     ghost Value = { List Program };
 
     ghost view = { λ l. l.programs.items };
 
-    ghost invariant = { λ l. TellsNamed l.numbers l.programs.items };
+    ghost invariant = { λ l. MarksNamed l.numbers l.programs.items };
 }
 
 impl<A: Allocator> ProgramList<A> {

@@ -1,9 +1,9 @@
--- Each entry of the table is eight steps from 0.
+-- Entry n of the table is the register after byte n, that is after eight one-bit steps from 0.
 use Rattle.std.proofs.Common.{◌≡◌, ℕ, zero, suc, ◌+◌, ◌<◌, ◌==◌, ◌&&◌, Bool, true, false, refl, sym, ap, ◌∙◌, arith, List, [], ◌∷◌, get_or, eqb-true, length}
 use Rattle.psi_tables.specs.CheckWord.{after_bit, after_bits, bits_of, after_byte}
 use Rattle.psi_tables.specs.declared.crc.crc_table.TheConstants.{CRC_TABLE}
 
--- whether the entries are those of the bytes from n on
+-- Returns whether the entries are the table's entries for the bytes from n on.
 pub are_entries : ℕ → List ℕ → Bool
 are_entries n [] = true
 are_entries n (w ∷ ws) = (after_byte 0 n == w) && are_entries (n + 1) ws

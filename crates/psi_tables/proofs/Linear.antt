@@ -1,11 +1,11 @@
--- Bytes of the check word: exclusive or goes through them, and a register takes its own bytes by shifts alone.
+-- Bytes of the check word: a step by one byte is linear for exclusive or, and a register that takes its own bytes is only shifted.
 use Rattle.std.proofs.Common.{◌≡◌, ℕ, ◌*◌, ◌/◌, ◌%◌, ◌^◌, ◌<◌, bit_xor, refl, sym, ap, ap₂, ◌∙◌, arith, List, [], ◌∷◌, ◌++◌, lit<}
 use Rattle.std.proofs.lemmas.Nat.{xor_shr, xor_mod}
 use Rattle.std.specs.Int.Bits.{xor_assoc, xor_self, xor_zero_r}
 use Rattle.psi_tables.specs.CheckWord.{after_bit, after_bits, bits_of, after_byte, after_bytes, check_word}
 use Rattle.psi_tables.proofs.Registers.{after_bit-xor, after_bit-bound, after_own_bit}
 
--- the left parts of pairs, the right parts, and the exclusive or of the two
+-- The left parts of pairs, their right parts, and the exclusive or of both
 pub lefts : List (ℕ × ℕ) → List ℕ
 lefts [] = []
 lefts (p ∷ ps) = p.0 ∷ lefts ps
@@ -35,11 +35,11 @@ unfolding after_bits lefts
 after_bits-bound r [] h _ = h
 after_bits-bound r (p ∷ ps) h k = after_bits-bound (after_bit r p.0) ps (after_bit-bound r p.0 h k.0) k.2
 
--- bit k of an exclusive or
+-- Bit k of an exclusive or is the exclusive or of the two bits k.
 bit-xor : (x y k : ℕ) → bit_xor x y / 2 ^ k % 2 ≡ bit_xor (x / 2 ^ k % 2) (y / 2 ^ k % 2)
 bit-xor x y k = ap (λ (n : ℕ). n % 2) (xor_shr x y k) ∙ xor_mod (x / 2 ^ k) (y / 2 ^ k) 1
 
--- the bits of two bytes, in pairs
+-- The bits of two bytes, in pairs
 bit_pairs : ℕ → ℕ → List (ℕ × ℕ)
 bit_pairs x y = (x / 128 % 2, y / 128 % 2) ∷ (x / 64 % 2, y / 64 % 2) ∷ (x / 32 % 2, y / 32 % 2) ∷ (x / 16 % 2, y / 16 % 2)
     ∷ (x / 8 % 2, y / 8 % 2) ∷ (x / 4 % 2, y / 4 % 2) ∷ (x / 2 % 2, y / 2 % 2) ∷ (x % 2, y % 2) ∷ []
@@ -85,7 +85,7 @@ bits_of-xor x y =
     let e0 = xor_mod x y 1 in
     cc
 
--- exclusive or of registers and bytes goes through one byte
+-- A step by one byte is linear for exclusive or of registers and bytes.
 pub after_byte-xor : (r s x y : ℕ) → r < 2 ^ 32 → s < 2 ^ 32 → after_byte (bit_xor r s) (bit_xor x y) ≡ bit_xor (after_byte r x) (after_byte s y)
 unfolding after_byte
 after_byte-xor r s x y hr hs =
@@ -99,7 +99,7 @@ after_byte-bound r x h =
     let P : List ℕ → Type 0 = λ bs. after_bits r bs < 2 ^ 32 in
     rw (← bits_of-lefts x x) (after_bits-bound r (bit_pairs x x) h (bit_pairs-below x x))
 
--- a register takes its own highest byte by a shift alone
+-- A register that takes its own highest byte is only shifted.
 pub after_own_byte : (r h : ℕ) → r < 2 ^ 32 → r / 2 ^ 24 ≡ h → after_byte r h ≡ r * 2 ^ 8 % 2 ^ 32
 unfolding after_byte bits_of after_bits
 after_own_byte r h k e =
@@ -121,7 +121,7 @@ after_own_byte r h k e =
       after_own_bit r7 (h % 2) (omega arith),
     ) (omega arith)
 
--- a byte, by what the table has
+-- A step by one byte is a shift and an exclusive or with an entry of the table.
 pub after_byte_is : (r x : ℕ) → r < 2 ^ 32 → after_byte r x ≡ bit_xor (r * 2 ^ 8 % 2 ^ 32) (after_byte 0 (bit_xor (r / 2 ^ 24) x))
 after_byte_is r x h =
     let top : ℕ = r / 2 ^ 24 in
@@ -140,7 +140,7 @@ unfolding after_bytes
 after_bytes-bound r [] h = h
 after_bytes-bound r (x ∷ xs) h = after_bytes-bound (after_byte r x) xs (after_byte-bound r x h)
 
--- a register takes its own four bytes and is 0
+-- A register that takes its own four bytes becomes 0.
 pub after_own_bytes : (r : ℕ) → r < 2 ^ 32 → after_bytes r ((r / 2 ^ 24) ∷ (r / 2 ^ 16 % 256) ∷ (r / 2 ^ 8 % 256) ∷ (r % 256) ∷ []) ≡ 0
 unfolding after_bytes
 after_own_bytes r h =
@@ -154,7 +154,7 @@ after_own_bytes r h =
       after_own_byte r3 (r % 256) (omega arith) (omega arith),
     ) (omega arith)
 
--- after a message stands its check word: the register ends 0
+-- A message followed by its check word leaves 0 in the register.
 pub check_word-own : (xs : List ℕ)
     → check_word (xs ++ ((check_word xs / 2 ^ 24) ∷ (check_word xs / 2 ^ 16 % 256) ∷ (check_word xs / 2 ^ 8 % 256) ∷ (check_word xs % 256) ∷ [])) ≡ 0
 unfolding check_word

@@ -1,4 +1,4 @@
--- Loops of entries: what stands in their bytes, and what their reader gives.
+-- Loops of entries: the bytes of a loop, and the entries that its reader returns.
 use Rattle.std.proofs.Common.{◌≡◌, ℕ, zero, suc, ◌+◌, ◌<◌, ◌≤◌, nat_lt, Bool, true, false, cond, refl, sym, ap, ◌∙◌, subst, arith, List, [], ◌∷◌, ◌++◌, length}
 use Rattle.std.proofs.Common.{take, drop, Option, None, Some, option_map, option_and_then, is_some, append_assoc, length-append}
 use Rattle.std.specs.Prelude.{unwrap_or}
@@ -7,12 +7,12 @@ use Rattle.std.proofs.lemmas.List.{length-take-le, take-append-drop}
 use Rattle.std.proofs.Math.Seq.{take-append_seam, drop-append_seam}
 use Rattle.psi_tables.specs.Loops.{EntryView, descriptors_length, IsEntry, entry_bytes, AreEntries, entry_after, entry_at, loop_from, loop_at, entries_in}
 
--- a test that refuses, and let something pass
+-- If a value passes a test that may refuse it, the test was false.
 some_is : {A : Type 0} (b : Bool) (o : Option A) (x : A) → cond b None o ≡ Some x → (b ≡ false) × (o ≡ Some x)
 some_is true o x e = absurd cc
 some_is false o x e = (refl, e)
 
--- an entry at the front of bytes, and what follows it
+-- Bytes that begin with an entry, and the rest after it
 pub record HasEntry (k : ℕ) (bytes : List ℕ) (e : EntryView) (rest : List ℕ) : Type 0 where
   pub is : bytes ≡ entry_bytes e ++ rest
   pub entry : IsEntry k e
@@ -29,7 +29,7 @@ after_is k head rest p h e =
       entry = record { head_length = h; named = sym (length-take-le n rest fits) };
     })
 
--- an entry that was read stands there
+-- If the reader returns an entry, the bytes begin with this entry.
 pub entry_at-is : (k : ℕ) (bytes : List ℕ) (p : EntryView × List ℕ) → entry_at k bytes ≡ Some p → HasEntry k bytes p.0 p.1
 unfolding entry_at
 entry_at-is k bytes p e =
@@ -43,7 +43,7 @@ after_read e rest h =
     let fits : nat_lt (length (e.descriptors ++ rest)) (length e.descriptors) ≡ false = le-ltb _ _ (omega (arith, length-append e.descriptors rest)) in
     rw (h, fits, take-append_seam e.descriptors rest, drop-append_seam e.descriptors rest) refl
 
--- an entry that stands there is read
+-- If bytes begin with an entry, the reader returns this entry.
 pub entry_at-read : (k : ℕ) (e : EntryView) (rest : List ℕ) → IsEntry k e → entry_at k (entry_bytes e ++ rest) ≡ Some (e, rest)
 unfolding entry_at entry_bytes
 entry_at-read k e rest h =
@@ -62,7 +62,7 @@ same_then : {A B : Type 0} (o : Option A) (f g : A → Option B) → ((x : A) �
 same_then None f g h = refl
 same_then (Some x) f g h = h x refl
 
--- more entries than there can be make no difference
+-- A greater bound on the number of entries makes no difference.
 pub loop_from-more : (k : ℕ) (bytes : List ℕ) (n m : ℕ) → 0 < k → length bytes ≤ n → length bytes ≤ m → loop_from k bytes n ≡ loop_from k bytes m
 unfolding loop_from
 loop_from-more k [] n m some hn hm = refl
@@ -74,7 +74,7 @@ loop_from-more k (b ∷ bytes) (suc n) (suc m) some hn hm =
     let shorter : length p.1 + k ≤ length (b ∷ bytes) = HasEntry-shorter k (b ∷ bytes) p.0 p.1 (entry_at-is k (b ∷ bytes) p e) in
     ap (λ (o : Option (List EntryView)). option_map (λ es. p.0 ∷ es) o) (loop_from-more k p.1 n m some (omega arith) (omega arith)))
 
--- a loop is its first entry and the loop after it
+-- A loop is its first entry and the loop after it.
 pub loop_at-step : (k : ℕ) (bytes : List ℕ) (p : EntryView × List ℕ) → 0 < k → entry_at k bytes ≡ Some p →
     loop_at k bytes ≡ option_map (λ es. p.0 ∷ es) (loop_at k p.1)
 unfolding loop_at loop_from
@@ -88,7 +88,7 @@ loop_at-step k (b ∷ bytes) p some e =
     ap (λ (o : Option (EntryView × List ℕ)). option_and_then (λ p. option_map (λ es. p.0 ∷ es) (loop_from k p.1 (length bytes))) o) e
     ∙ ap (λ (o : Option (List EntryView)). option_map (λ es. p.0 ∷ es) o) fuel
 
--- where no entry fits, a loop is not whole
+-- If no entry fits, the loop is not whole.
 pub loop_at-stop : (k : ℕ) (bytes : List ℕ) → 0 < length bytes → entry_at k bytes ≡ None → loop_at k bytes ≡ None
 unfolding loop_at loop_from
 loop_at-stop k [] some e = absurd (omega arith)
@@ -99,7 +99,7 @@ pub loop_at-end : (k : ℕ) → loop_at k [] ≡ Some []
 unfolding loop_at loop_from
 loop_at-end k = refl
 
--- entries that stand there are read
+-- If bytes consist of entries, the reader returns these entries.
 pub loop_at-read : (k : ℕ) (bytes : List ℕ) (es : List EntryView) → 0 < k → AreEntries k bytes es → loop_at k bytes ≡ Some es
 loop_at-read k bytes [] some h = ap (λ (bs : List ℕ). loop_at k bs) h ∙ loop_at-end k
 loop_at-read k bytes (e ∷ es) some h =
@@ -114,7 +114,7 @@ map_is : {A B : Type 0} (f : A → B) (o : Option A) (y : B) → option_map f o 
 map_is f None y e = absurd cc
 map_is f (Some x) y e = (x, refl, cc)
 
--- entries that were read stand there
+-- If the reader returns entries, the bytes consist of these entries.
 pub loop_from-is : (k : ℕ) (bytes : List ℕ) (n : ℕ) (es : List EntryView) → loop_from k bytes n ≡ Some es → AreEntries k bytes es
 unfolding loop_from
 loop_from-is k [] n es e = let is : [] ≡ es = cc in subst (λ (es : List EntryView). AreEntries k [] es) is refl
@@ -129,17 +129,17 @@ pub loop_at-is : (k : ℕ) (bytes : List ℕ) (es : List EntryView) → loop_at 
 unfolding loop_at
 loop_at-is k bytes es e = loop_from-is k bytes (length bytes) es e
 
--- a loop after a loop
+-- Two loops of entries joined are a loop of all their entries.
 pub AreEntries-append : (k : ℕ) (a b : List ℕ) (es fs : List EntryView) → AreEntries k a es → AreEntries k b fs → AreEntries k (a ++ b) (es ++ fs)
 AreEntries-append k a b [] fs h g = subst (λ (x : List ℕ). AreEntries k (x ++ b) fs) (sym h) g
 AreEntries-append k a b (e ∷ es) fs h g =
     (h.0 ++ b, ap (λ (x : List ℕ). x ++ b) h.1 ∙ append_assoc (entry_bytes e) h.0 b, h.2, AreEntries-append k h.0 b es fs h.3 g)
 
--- a whole loop has entries
+-- A whole loop has entries.
 pub whole_is : (k : ℕ) (bytes : List ℕ) → is_some (loop_at k bytes) ≡ true → loop_at k bytes ≡ Some (entries_in k bytes)
 whole_is k bytes h = elim (loop_at k bytes) as (λ o. is_some o ≡ true → o ≡ Some (unwrap_or o [])) [ None ↦ λ e. absurd cc | Some es ↦ λ _. refl ] h
 
--- what a step of the reader tells of the whole loop
+-- After the first entry, the loop is whole if and only if the rest is whole, and its entries are the first entry and the rest's.
 pub whole-step : (k : ℕ) (bytes : List ℕ) (p : EntryView × List ℕ) → 0 < k → entry_at k bytes ≡ Some p → is_some (loop_at k bytes) ≡ is_some (loop_at k p.1)
 whole-step k bytes p some e = ap (λ (o : Option (List EntryView)). is_some o) (loop_at-step k bytes p some e) ∙ is_some-map (loop_at k p.1) where
   is_some-map : (o : Option (List EntryView)) → is_some (option_map (λ es. p.0 ∷ es) o) ≡ is_some o
@@ -154,12 +154,12 @@ pub entries-step : (k : ℕ) (bytes : List ℕ) (p : EntryView × List ℕ) → 
     entries_in k bytes ≡ p.0 ∷ entries_in k p.1
 entries-step k bytes p some e h = entries_of_step p.0 (loop_at k bytes) (loop_at k p.1) (loop_at-step k bytes p some e) h
 
--- a loop of no bytes is whole
+-- A loop of no bytes is whole.
 pub whole_none : (k : ℕ) (bytes : List ℕ) → length bytes ≡ 0 → is_some (loop_at k bytes) ≡ true
 whole_none k [] h = ap (λ (o : Option (List EntryView)). is_some o) (loop_at-end k)
 whole_none k (b ∷ bytes) h = absurd (omega arith)
 
--- where no entry fits at the front, a whole loop has none
+-- If no entry fits at the front, a whole loop has no entries.
 pub entries-end : (k : ℕ) (bytes : List ℕ) → entry_at k bytes ≡ None → is_some (loop_at k bytes) ≡ true → entries_in k bytes ≡ []
 entries-end k [] e h = ap (λ (o : Option (List EntryView)). unwrap_or o []) (loop_at-end k)
 entries-end k (b ∷ bytes) e h = absurd (cc (ap (λ (o : Option (List EntryView)). is_some o) (loop_at-stop k (b ∷ bytes) (omega arith) e)))

@@ -1,4 +1,4 @@
--- The program association table: what is read stands there, and what is written is read again.
+-- The program association table: what the reader returns is in the bytes, and a written table reads back as the same table.
 use Rattle.std.proofs.Common.{◌≡◌, ℕ, suc, ◌+◌, ◌*◌, ◌/◌, ◌%◌, ◌^◌, ◌<◌, ◌≤◌, ◌==◌, Bool, true, false, cond, refl, sym, ap, ap₂, ◌∙◌, subst, arith, List, []}
 use Rattle.std.proofs.Common.{◌∷◌, ◌++◌, length, Result, Ok, Err, flat_map, eq-eqb, eqb-true, lit<}
 use Rattle.bit_fields.specs.Fields.{number, fields, IsBytes}
@@ -83,7 +83,7 @@ body_is header body p e = let q = test_of (length body % 4 == 0) _ p e in (eqb-t
   test_of true x y e = (refl, ok_is x y e)
   test_of false x y e = absurd cc
 
--- a PAT that was read is one
+-- If the reader returns a PAT, the section is this PAT.
 pub pat_is : (s : SectionView) (p : PatView) → IsBytes s.body → pat_at s ≡ Ok p → IsPat s p
 unfolding pat_at
 pat_is s p h e =
@@ -107,7 +107,7 @@ read_by s p header programs =
       ok : PatView → Result PatView SectionError
       ok v = Ok v
 
--- a PAT that stands there is read
+-- If a section is a PAT, the reader returns this PAT.
 pub pat_again : (s : SectionView) (p : PatView) → IsBytes s.body → IsPat s p → pat_at s ≡ Ok p
 pat_again s p h k =
     read_by s p (record { table_id = k.table_id; long = k.long; section_length = k.section_length }) (programs_again p.programs s.body h k.programs)
@@ -138,7 +138,7 @@ unfolding programs_bytes program_bytes
 length_programs_bytes [] = refl
 length_programs_bytes (p ∷ ps) = let more : length (flat_map program_bytes ps) ≡ 4 * length ps = length_programs_bytes ps in omega arith
 
--- what is written of a PAT is a PAT that says the same, can be written as a section, and is read again
+-- A written PAT is a section that has the same PAT, can be written, and reads back as this PAT.
 pub record Again (p : PatView) : Type 0 where
   pub table : IsPat (pat_section p) p
   pub writable : IsWritable (pat_section p)

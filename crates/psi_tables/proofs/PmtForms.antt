@@ -1,4 +1,4 @@
--- The program map table: what is read stands there, and what is written is read again.
+-- The program map table: what the reader returns is in the bytes, and a written table reads back as the same table.
 use Rattle.std.proofs.Common.{◌≡◌, ℕ, ◌+◌, ◌*◌, ◌/◌, ◌%◌, ◌^◌, ◌<◌, ◌≤◌, refl, sym, ap, ◌∙◌, subst, arith, List, [], ◌∷◌, ◌++◌, length, Option, None, Some}
 use Rattle.std.proofs.Common.{Result, Ok, flat_map, slice_index, length-append, lit<}
 use Rattle.bit_fields.specs.Fields.{number, fields, IsBytes}
@@ -19,13 +19,13 @@ use Rattle.psi_tables.proofs.LoopParts.{HasEntry, entry_at-is, entry_at-read, lo
 use Rattle.psi_tables.proofs.StreamEncodings.{written_read}
 use Rattle.psi_tables.proofs.StreamForms.{four, streams_found, StreamsRead, streams_read, streams_at-read, streams_at-is}
 
--- the front of a body: four bytes and the program's descriptors
+-- The front of a body: four bytes and the program's descriptors
 front_found : (a b c d : ℕ) (descriptors : List ℕ) → a < 256 → b < 256 → c < 256 → d < 256 → descriptors_length (a ∷ b ∷ c ∷ d ∷ []) ≡ length descriptors
     → number (a ∷ b ∷ c ∷ d ∷ []) ≡ fields ((3, a / 32) ∷ (13, a % 32 * 256 + b) ∷ (4, c / 16) ∷ (12, length descriptors) ∷ [])
 unfolding descriptors_length
 front_found a b c d descriptors ha hb hc hd named = let len : c % 16 * 256 + d ≡ length descriptors = named in omega arith
 
--- a body of this front, these descriptors and these streams
+-- A body that consists of this front, these descriptors and these streams is a PMT.
 table_found : (s : SectionView) (header : LongHeader) (a b c d : ℕ) (descriptors rest : List ℕ) (ss : List StreamView) → HasHeader 0x02 1021 s header
     → s.body ≡ (a ∷ b ∷ c ∷ d ∷ descriptors) ++ rest → a < 256 → b < 256 → c < 256 → d < 256 → descriptors_length (a ∷ b ∷ c ∷ d ∷ []) ≡ length descriptors →
     AreStreams rest ss
@@ -51,7 +51,7 @@ table_found s header a b c d descriptors rest ss k is ha hb hc hd named streams 
       streams = streams;
     }
 
--- what follows a table's header
+-- The parts of a table after its header
 pub record After (header : LongHeader) (o : Option (EntryView × List ℕ)) (p : PmtView) : Type 0 where
   pub front : EntryView × List ℕ
   pub there : o ≡ Some front
@@ -92,7 +92,7 @@ streams_there bytes ss h k =
     subst (λ (xs : List StreamView). AreStreams bytes xs) k.streams
     (streams_found bytes (entries_in 5 bytes) h (loop_at-is 5 bytes (entries_in 5 bytes) (whole_is 5 bytes k.whole)))
 
--- a PMT that was read is one
+-- If the reader returns a PMT, the section is this PMT.
 pub pmt_is : (s : SectionView) (p : PmtView) → IsBytes s.body → pmt_at s ≡ Ok p → IsPmt s p
 unfolding pmt_at
 pmt_is s p h e =
@@ -154,7 +154,7 @@ again_by s p a b c d rest reserved reserved' header is ha hb hc hd spelled hr hp
     read_by s p (a ∷ b ∷ c ∷ d ∷ []) rest header (front_bytes s.body rest p.program_info a b c d is) (front_entry a b c d p.program_info (omega arith))
     (omega arith) streams
 
--- a PMT that stands there is read
+-- If a section is a PMT, the reader returns this PMT.
 pub pmt_again : (s : SectionView) (p : PmtView) → IsBytes s.body → IsPmt s p → pmt_at s ≡ Ok p
 pmt_again s p h k =
     let v = four k.head k.head_length in
@@ -190,7 +190,7 @@ unfolding streams_bytes
 streams_written [] h = refl
 streams_written (s ∷ ss) h = (stream_bytes s, flat_map stream_bytes ss, refl, stream_written s h.0, streams_written ss h.1)
 
--- what is written of a PMT is a PMT that says the same, can be written as a section, and is read again
+-- A written PMT is a section that has the same PMT, can be written, and reads back as this PMT.
 pub record Again (p : PmtView) : Type 0 where
   pub table : IsPmt (pmt_section p) p
   pub writable : IsWritable (pmt_section p)

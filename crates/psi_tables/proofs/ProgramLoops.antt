@@ -1,4 +1,4 @@
--- Loops of four bytes an entry.
+-- Loops of entries of four bytes.
 use Rattle.std.proofs.Common.{◌≡◌, ℕ, ◌+◌, ◌*◌, ◌/◌, ◌%◌, ◌^◌, ◌<◌, refl, ap, arith, List, [], ◌∷◌, ◌++◌, length}
 use Rattle.psi_tables.specs.ProgramAssociation.{program_of, programs_in, program_bytes}
 use Rattle.psi_tables.specs.declared.pat.programs.Program.{Program}
@@ -11,7 +11,7 @@ length-programs_in (a ∷ b ∷ []) = refl
 length-programs_in (a ∷ b ∷ c ∷ []) = refl
 length-programs_in (a ∷ b ∷ c ∷ d ∷ rest) = let more : length (programs_in rest) ≡ length rest / 4 = length-programs_in rest in omega arith
 
--- an entry after whole entries
+-- One entry after whole entries adds one program.
 pub programs_in-push : (bytes : List ℕ) (p : Program) → length bytes % 4 ≡ 0 → p.program_number < 2 ^ 16 → p.pid < 2 ^ 13 →
     programs_in (bytes ++ program_bytes p) ≡ programs_in bytes ++ p ∷ []
 unfolding programs_in program_bytes program_of

@@ -1,4 +1,4 @@
--- Sections: longer bytes, what is written, and the syntax.
+-- Sections: longer bytes, written bytes, and the two forms of the syntax.
 use Rattle.std.proofs.Common.{◌≡◌, ℕ, ◌+◌, ◌-◌, ◌*◌, ◌/◌, ◌%◌, ◌^◌, ◌<◌, ◌≤◌, ◌==◌, nat_lt, Bool, true, false, cond, refl, sym, ap, ◌∙◌, arith, List, [], ◌∷◌}
 use Rattle.std.proofs.Common.{◌++◌, length, take, None, Some, Result, Ok, Err, length-append, eq-eqb}
 use Rattle.std.proofs.lemmas.Bool.{ltb-false, le-ltb}
@@ -16,7 +16,7 @@ use Rattle.psi_tables.specs.declared.error.SectionError.TheVariants.{Short, Leng
 use Rattle.psi_tables.specs.declared.section.LongHeader.{LongHeader}
 use Rattle.psi_tables.specs.declared.section.SectionStart.{SectionStart}
 
--- two tests that refuse, of which the second may pass where more is at hand
+-- Two tests that may refuse; the second may pass if more bytes are present.
 sized_form : {A : Type 0} (bad short short' : Bool) (d e : SectionError) (r r' : Result A SectionError)
     → (cond bad (Err d) (cond short (Err e) r) ≡ Err e → ⊥) → (short ≡ false → (short' ≡ false) × (r' ≡ r))
     → cond bad (Err d) (cond short' (Err e) r') ≡ cond bad (Err d) (cond short (Err e) r)
@@ -24,7 +24,7 @@ sized_form true short short' d e r r' h k = refl
 sized_form false true short' d e r r' h k = absurd (h refl)
 sized_form false false short' d e r r' h k = let q = k refl in guarded short' e r' q.0 ∙ q.1
 
--- longer bytes after the first three
+-- Longer bytes after the first three give the same section, unless they were too short before.
 sized_longer : (start : SectionStart) (bytes more : List ℕ) → (sized_at start bytes ≡ Err Short → ⊥) → sized_at start (bytes ++ more) ≡ sized_at start bytes
 unfolding sized_at
 sized_longer start bytes more h =
@@ -36,7 +36,7 @@ sized_longer start bytes more h =
       ap (λ (t : List ℕ). whole_at start t >>= λ section. Ok (section, n)) (take-append-le n bytes more fits),
     ))
 
--- longer bytes read the same section, unless it was Short
+-- Longer bytes give the same section, unless the result was Short.
 pub section_longer : (bytes more : List ℕ) → (section_at bytes ≡ Err Short → ⊥) → section_at (bytes ++ more) ≡ section_at bytes
 unfolding section_at section_start_at
 section_longer [] more h = absurd (h refl)
@@ -44,7 +44,7 @@ section_longer (a ∷ []) more h = absurd (h refl)
 section_longer (a ∷ b ∷ []) more h = absurd (h refl)
 section_longer (a ∷ b ∷ c ∷ bytes) more h = sized_longer _ (a ∷ b ∷ c ∷ bytes) more h
 
--- a whole section after its first three bytes
+-- A whole section is read from its bytes, whatever bytes follow it.
 sized_again : (start : SectionStart) (section rest : List ℕ) (s : SectionView) → is_bad_length start.is_long start.section_length ≡ false →
     length section ≡ 3 + start.section_length
     → whole_at start section ≡ Ok s → sized_at start (section ++ rest) ≡ Ok (s, length section)
@@ -59,7 +59,7 @@ sized_again start section rest s good len e =
     ∙ ap (λ (r : Result SectionView SectionError). r >>= λ section. Ok (section, n)) e
     ∙ ap (λ (m : ℕ). Ok (s, m)) (sym len)
 
--- lists of few bytes
+-- Lists of few bytes
 pub five : (xs : List ℕ) → 5 ≤ length xs → (a : ℕ) × (b : ℕ) × (c : ℕ) × (d : ℕ) × (e : ℕ) × (rest : List ℕ) × (xs ≡ a ∷ b ∷ c ∷ d ∷ e ∷ rest)
 five [] h = absurd (omega arith)
 five (a ∷ []) h = absurd (omega arith)
@@ -72,7 +72,7 @@ pub bit-bound : (b : Bool) → bit b < 2
 bit-bound true = omega arith
 bit-bound false = omega arith
 
--- a length that is not refused
+-- A length within its bound is not refused.
 good_short : (n : ℕ) → n ≤ 4093 → is_bad_length false n ≡ false
 unfolding is_bad_length
 good_short n h = rw (le-ltb 4093 n h) refl
@@ -81,14 +81,14 @@ good_long : (n : ℕ) → 9 ≤ n → n ≤ 4093 → is_bad_length true n ≡ fa
 unfolding is_bad_length
 good_long n k h = rw (le-ltb 4093 n h) (le-ltb n 9 k)
 
--- a whole section of the short form
+-- A whole section of the short form is read.
 pub whole_short : (start : SectionStart) (a b c : ℕ) (body : List ℕ) → start.is_long ≡ false
     → whole_at start (a ∷ b ∷ c ∷ body) ≡ Ok
     (record { header = record { table_id = start.table_id; private_indicator = start.private_indicator; long = None }; body = body })
 unfolding whole_at short_section
 whole_short start a b c body e = rw e refl
 
--- the short form in bytes
+-- Bytes of the short form are read as this section.
 pub short_again : (a b c : ℕ) (s : SectionView) (reserved : ℕ) (rest : List ℕ) → a < 256 → b < 256 → c < 256 → s.header.long ≡ None
     → number (a ∷ b ∷ c ∷ []) ≡ fields ((8, s.header.table_id) ∷ (1, 0) ∷ (1, bit s.header.private_indicator) ∷ (2, reserved) ∷ (12, length s.body) ∷ [])
     → s.header.table_id < 2 ^ 8 → reserved < 2 ^ 2 → length s.body ≤ 4093
@@ -106,11 +106,11 @@ short_again a b c s reserved rest ha hb hc none spelled htid hres hlen =
     (record { header = record { table_id = s.header.table_id; private_indicator = s.header.private_indicator; long = s.header.long }; body = s.body }) = cc in
     sized_again start (a ∷ b ∷ c ∷ s.body) rest s good (omega arith) (whole_short start a b c s.body form ∙ ap (λ (v : SectionView). Ok v) whole)
 
--- two numbers with 40 bits after them
+-- Two numbers that are joined with 40 bits after each are equal part by part.
 parts_40 : (x y u v : ℕ) → y < 2 ^ 40 → v < 2 ^ 40 → x * 2 ^ 40 + y ≡ u * 2 ^ 40 + v → (x ≡ u) × (y ≡ v)
 parts_40 x y u v hy hv e = (omega arith, omega arith)
 
--- the five bytes after the length, by their fields
+-- The five bytes after the length, by their fields
 header_again : (d e f g h : ℕ) (l : LongHeader) (reserved : ℕ) → d < 256 → e < 256 → f < 256 → g < 256 → h < 256
     → number (d ∷ e ∷ f ∷ g ∷ h ∷ []) ≡ fields
     ((16, l.table_id_extension) ∷ (2, reserved) ∷ (5, l.version_number) ∷ (1, bit l.current_next) ∷ (8, l.section_number) ∷ (8, l.last_section_number) ∷ [])
@@ -133,7 +133,7 @@ header_again d e f g h l reserved hd he hf hg hh spelled hx hr hv hs hl =
     } = cc in
     whole
 
--- a whole section of the long form
+-- A whole section of the long form with a right check word is read.
 pub whole_long : (start : SectionStart) (a b c d e f g h : ℕ) (body crc : List ℕ) → start.is_long ≡ true → length crc ≡ 4
     → check_word (a ∷ b ∷ c ∷ d ∷ e ∷ f ∷ g ∷ h ∷ (body ++ crc)) ≡ 0
     → whole_at start (a ∷ b ∷ c ∷ d ∷ e ∷ f ∷ g ∷ h ∷ (body ++ crc))
@@ -150,7 +150,7 @@ whole_long start a b c d e f g h body crc form len checked =
     ∙ take-append_seam body crc in
     rw (form, test, cut) refl
 
--- the long form in bytes
+-- Bytes of the long form are read as this section.
 pub long_again : (a b c d e f g h : ℕ) (s : SectionView) (l : LongHeader) (crc : List ℕ) (reserved reserved' : ℕ) (rest : List ℕ)
     → a < 256 → b < 256 → c < 256 → d < 256 → e < 256 → f < 256 → g < 256 → h < 256 → s.header.long ≡ Some l → length crc ≡ 4
     → number (a ∷ b ∷ c ∷ d ∷ e ∷ f ∷ g ∷ h ∷ []) ≡ fields

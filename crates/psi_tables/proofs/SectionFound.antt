@@ -1,4 +1,4 @@
--- Sections that were read: what stands in their bytes.
+-- If the reader returns a section, it is in the bytes.
 use Rattle.std.proofs.Common.{◌≡◌, ℕ, suc, ◌+◌, ◌-◌, ◌*◌, ◌/◌, ◌%◌, ◌<◌, ◌≤◌, ◌==◌, nat_lt, Bool, true, false, cond, refl, sym, ap, ◌∙◌, subst, arith, List, []}
 use Rattle.std.proofs.Common.{◌∷◌, ◌++◌, length, take, drop, Option, None, Some, Result, Ok, Err, inl, inr, eqb-true}
 use Rattle.std.proofs.lemmas.Bool.{ltb-false, le-ltb, lt-ltb, cases_lt, false≢true}
@@ -18,11 +18,11 @@ use Rattle.psi_tables.specs.declared.section.LongHeader.{LongHeader}
 use Rattle.psi_tables.specs.declared.section.SectionStart.{SectionStart}
 use Rattle.psi_tables.proofs.SectionForms.{five, whole_short, whole_long, short_again, long_again}
 
--- bytes of a length are cut into a front and a rest
+-- Bytes are cut at a length into a front and a rest.
 take-three : (a b c : ℕ) (rest : List ℕ) (n : ℕ) → take (3 + n) (a ∷ b ∷ c ∷ rest) ≡ a ∷ b ∷ c ∷ take n rest
 take-three a b c rest n = let e : 3 + n ≡ suc (suc (suc n)) = omega arith in rw e refl
 
--- what the short form says of its bytes
+-- Bytes of the short form are this section.
 short_found : (a b c : ℕ) (body : List ℕ) → a < 256 → b < 256 → c < 256 → flag b 128 ≡ false → length body ≡ b % 16 * 256 + c → length body ≤ 4093
     → IsShortSection (a ∷ b ∷ c ∷ body) (record { header = record { table_id = a; private_indicator = flag b 64; long = None }; body = body })
 short_found a b c body ha hb hc form len most =
@@ -39,7 +39,7 @@ short_found a b c body ha hb hc form len most =
       section_length = most;
     }
 
--- what the long form says of its bytes
+-- Bytes of the long form are this section.
 long_found : (a b c d e f g h : ℕ) (body crc : List ℕ) → a < 256 → b < 256 → c < 256 → d < 256 → e < 256 → f < 256 → g < 256 → h < 256
     → flag b 128 ≡ true → 9 + length body ≡ b % 16 * 256 + c → 9 + length body ≤ 4093 → length crc ≡ 4 →
     check_word (a ∷ b ∷ c ∷ d ∷ e ∷ f ∷ g ∷ h ∷ (body ++ crc)) ≡ 0
@@ -71,7 +71,7 @@ long_found a b c d e f g h body crc ha hb hc hd he hf hg hh form len most hcrc c
       last_section_number = hh;
     }
 
--- what a section that was read is
+-- The properties of a section that the reader returned
 pub record Found (start : SectionStart) (bytes : List ℕ) (p : SectionView × ℕ) : Type 0 where
   pub good : is_bad_length start.is_long start.section_length ≡ false
   pub fits : 3 + start.section_length ≤ length bytes
@@ -115,13 +115,13 @@ checked_is : (t : Bool) (x y : SectionView) → cond t (Ok x) (Err CheckWord) �
 checked_is true x y e = refl
 checked_is false x y e = absurd cc
 
--- a section of the long form that was read has a right check word
+-- If the reader returns a section of the long form, its check word is right.
 long_checked : (start : SectionStart) (bytes : List ℕ) (s : SectionView) → start.is_long ≡ true → whole_at start bytes ≡ Ok s → check_word bytes ≡ 0
 unfolding whole_at
 long_checked start bytes s form e =
     eqb-true (check_word bytes) 0 (checked_is (check_word bytes == 0) (long_section start (drop 3 bytes)) s (sym (cond_true start.is_long _ _ form) ∙ e))
 
--- a section of the long form that was read is one
+-- If the reader returns a section of the long form, the bytes are this section.
 long_is_of : (a b c d e f g h : ℕ) (body crc : List ℕ) (s : SectionView) → IsBytes (a ∷ b ∷ c ∷ d ∷ e ∷ f ∷ g ∷ h ∷ (body ++ crc)) → flag b 128 ≡ true
     → 9 + length body ≡ b % 16 * 256 + c → b % 16 * 256 + c ≤ 4093 → length crc ≡ 4
     → whole_at (record { table_id = a; is_long = flag b 128; private_indicator = flag b 64; section_length = b % 16 * 256 + c })
@@ -178,7 +178,7 @@ short_is a b c t s h form most len r =
     ok_is _ _ (sym (whole_short start a b c t form) ∙ r) in
     subst (λ (v : SectionView). IsSection (a ∷ b ∷ c ∷ t) v) says (short_found a b c t (h 0) (h 1) (h 2) form len (omega arith))
 
--- a section in either form that was read is one
+-- If the reader returns a section of either form, the bytes are this section.
 form_is : (l : Bool) (a b c : ℕ) (t : List ℕ) (s : SectionView) → IsBytes (a ∷ b ∷ c ∷ t) → flag b 128 ≡ l →
     is_bad_length (flag b 128) (b % 16 * 256 + c) ≡ false → length t ≡ b % 16 * 256 + c
     → whole_at (record { table_id = a; is_long = flag b 128; private_indicator = flag b 64; section_length = b % 16 * 256 + c }) (a ∷ b ∷ c ∷ t) ≡ Ok s
@@ -186,7 +186,7 @@ form_is : (l : Bool) (a b c : ℕ) (t : List ℕ) (s : SectionView) → IsBytes 
 form_is true a b c t s h form good len r = long_is a b c t s h form (ap (λ (l : Bool). is_bad_length l (b % 16 * 256 + c)) (sym form) ∙ good) len r
 form_is false a b c t s h form good len r = short_is a b c t s h form (most_is (flag b 128) (b % 16 * 256 + c) good) len r
 
--- what was read is a section
+-- The bytes that the reader took are the section that it returned.
 pub record IsRead (bytes : List ℕ) (p : SectionView × ℕ) : Type 0 where
   pub fits : p.1 ≤ length bytes
   pub section : IsSection (take p.1 bytes) p.0
@@ -278,7 +278,7 @@ again_by (Some l) section rest s bytes e h =
     (ap check_word (sym is) ∙ h.checked) h.table_id h.two_bits h.section_length h.table_id_extension h.two_bits_after h.version_number h.section_number
     h.last_section_number)
 
--- a section that stands at the front is read
+-- If bytes begin with a section, the reader returns this section.
 pub section_again : (section rest : List ℕ) (s : SectionView) → IsBytes section → IsSection section s → section_at (section ++ rest) ≡ Ok (s, length section)
 section_again section rest s bytes h = again_by s.header.long section rest s bytes refl h
 
@@ -286,6 +286,6 @@ form_fits : (l : Option LongHeader) (section : List ℕ) (s : SectionView) → H
 form_fits None section s h = tt
 form_fits (Some l) section s h = h.version_number
 
--- what a section says can be written
+-- The fields of a section fit, so they can be written.
 pub section_fits : (section : List ℕ) (s : SectionView) → IsSection section s → HeaderFits s.header
 section_fits section s h = form_fits s.header.long section s h

@@ -1,4 +1,4 @@
--- Sections that are written: they are sections, and are read again.
+-- Written bytes are a section, and the section reads back as the same section.
 use Rattle.std.proofs.Common.{◌≡◌, ℕ, ◌+◌, ◌*◌, ◌/◌, ◌%◌, ◌^◌, ◌<◌, ◌≤◌, Bool, true, false, refl, arith, List, [], ◌∷◌, ◌++◌, length, Option, None, Some, Ok}
 use Rattle.std.proofs.Common.{lit<}
 use Rattle.bit_fields.specs.Fields.{number, fields, bit}
@@ -12,7 +12,7 @@ use Rattle.psi_tables.specs.Encoding.{LongFits, NumbersFit, IsWritable}
 use Rattle.psi_tables.proofs.Linear.{check_word-own}
 use Rattle.psi_tables.proofs.SectionForms.{bit-bound, short_again, long_again}
 
--- what a writable section is written as, by its form
+-- The written bytes of a writable section are this section, and read back as it, for each form.
 pub record Again (bytes : List ℕ) (s : SectionView) : Type 0 where
   pub section : IsSection bytes s
   pub read : (rest : List ℕ) → section_at (bytes ++ rest) ≡ Ok (s, length bytes)
@@ -95,7 +95,7 @@ unfolding front_bytes with_crc
 written_by None tid p body htid fits len = written_short tid p body htid len
 written_by (Some h) tid p body htid fits len = written_long tid p h body htid fits len
 
--- a section that can be written is written as a section that says the same, and is read again as it
+-- If a section can be written, its bytes are this section and read back as it.
 pub written : (s : SectionView) → IsWritable s → Again (section_bytes s) s
 unfolding section_bytes header_bytes
 written s w = written_by s.header.long s.header.table_id s.header.private_indicator s.body w.table_id w.numbers w.room

@@ -1,4 +1,4 @@
--- Streams as they are written: their bytes are whole entries, and are read again.
+-- Written streams: their bytes are whole entries, and read back as the same streams.
 use Rattle.std.proofs.Common.{◌≡◌, ℕ, ◌+◌, ◌*◌, ◌/◌, ◌%◌, ◌^◌, ◌<◌, true, refl, sym, ap, ap₂, ◌∙◌, arith, List, [], ◌∷◌, ◌++◌, length, Option, Some, is_some}
 use Rattle.std.proofs.Common.{map, flat_map, append-nil, length-append}
 use Rattle.std.specs.Prelude.{unwrap_or}
@@ -11,7 +11,7 @@ pub length_stream_bytes : (s : StreamView) → length (stream_bytes s) ≡ 5 + l
 unfolding stream_bytes stream_entry entry_bytes pid_bytes info_length_bytes
 length_stream_bytes s = omega arith
 
--- streams are written in as many bytes as they were read from
+-- Streams are written in as many bytes as they were read from.
 length_same : (bytes : List ℕ) (es : List EntryView) → AreEntries 5 bytes es → length (flat_map stream_bytes (map stream_of es)) ≡ length bytes
 unfolding stream_of entry_bytes
 length_same bytes [] h = ap (length {A = ℕ}) (sym h)
@@ -32,7 +32,7 @@ pub length-streams_bytes : (bytes : List ℕ) → is_some (loop_at 5 bytes) ≡ 
 unfolding streams_bytes streams_in
 length-streams_bytes bytes h = length_same bytes (entries_in 5 bytes) (loop_at-is 5 bytes (entries_in 5 bytes) (whole_is 5 bytes h))
 
--- a PID and a number of descriptor bytes that have room in an entry
+-- A PID and a number of descriptor bytes that fit the fields of an entry
 pub record EntryFits (s : StreamView) : Type 0 where
   pub elementary_pid : s.elementary_pid < 2 ^ 13
   pub info_length : length s.descriptors < 2 ^ 12
@@ -51,7 +51,7 @@ stream_of-entry s h =
     let whole : stream_of (stream_entry s) ≡ record { stream_type = s.stream_type; elementary_pid = s.elementary_pid; descriptors = s.descriptors } = cc in
     whole
 
--- a stream after a whole loop
+-- One stream after a whole loop adds one stream.
 pub record Pushed (bytes : List ℕ) (s : StreamView) : Type 0 where
   pub whole : is_some (loop_at 5 (bytes ++ stream_bytes s)) ≡ true
   pub streams : streams_in (bytes ++ stream_bytes s) ≡ streams_in bytes ++ s ∷ []
@@ -75,7 +75,7 @@ pushed bytes s fits h =
           ∙ ap (λ (x : StreamView). map stream_of es ++ x ∷ []) (stream_of-entry s fits);
     }
 
--- streams one after the other, as they are written
+-- The written bytes of streams are the entries of these streams.
 written_are : (ss : List StreamView) → StreamsFit ss → AreEntries 5 (flat_map stream_bytes ss) (map stream_entry ss)
 unfolding stream_bytes
 written_are [] h = refl
@@ -85,7 +85,7 @@ streams_again : (ss : List StreamView) → StreamsFit ss → map stream_of (map 
 streams_again [] h = refl
 streams_again (s ∷ ss) h = ap₂ (λ (x : StreamView) (xs : List StreamView). x ∷ xs) (stream_of-entry s (StreamFits-entry s h.0)) (streams_again ss h.1)
 
--- written streams are a whole loop and are read again
+-- Written streams are a whole loop, and read back as the same streams.
 pub record WrittenRead (ss : List StreamView) : Type 0 where
   pub whole : is_some (loop_at 5 (streams_bytes ss)) ≡ true
   pub streams : streams_in (streams_bytes ss) ≡ ss
@@ -99,7 +99,7 @@ written_read ss h =
       streams = ap (λ (o : Option (List EntryView)). map stream_of (unwrap_or o [])) read ∙ streams_again ss h;
     }
 
--- where a loop has a stream at its front, it is as long as that stream and the rest
+-- A loop is as long as its first stream and the rest.
 pub length_streams_step : (all : List StreamView) (s : StreamView) (ss : List StreamView) → all ≡ s ∷ ss → length (streams_bytes all) ≡ 5 + length s.descriptors
     + length (streams_bytes ss)
 unfolding streams_bytes
@@ -107,7 +107,7 @@ length_streams_step all s ss e =
     ap (λ (xs : List StreamView). length (flat_map stream_bytes xs)) e ∙ length-append (stream_bytes s) (flat_map stream_bytes ss)
     ∙ ap (λ (n : ℕ). n + length (flat_map stream_bytes ss)) (length_stream_bytes s)
 
--- the number of bytes of a body
+-- The number of bytes of a body
 pub length_pmt_body : (p : PmtView) → length (pmt_body p) ≡ 4 + length p.program_info + length (streams_bytes p.streams)
 unfolding pmt_body pid_bytes info_length_bytes
 length_pmt_body p = omega (arith, length-append p.program_info (streams_bytes p.streams))

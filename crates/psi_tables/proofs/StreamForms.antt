@@ -1,4 +1,4 @@
--- The streams of a program map table: what is read stands there, and what stands there is read.
+-- The streams of a program map table: the reader returns exactly the streams in the bytes.
 use Rattle.std.proofs.Common.{◌≡◌, ℕ, ◌+◌, ◌*◌, ◌/◌, ◌%◌, ◌^◌, ◌<◌, Bool, true, false, cond, refl, sym, ap, ap₂, ◌∙◌, subst, arith, List, [], ◌∷◌, ◌++◌, length}
 use Rattle.std.proofs.Common.{Option, Some, Ok, Err, is_some, map}
 use Rattle.std.specs.Prelude.{unwrap_or}
@@ -22,7 +22,7 @@ five : (xs : List ℕ) → length xs ≡ 5 → (a : ℕ) × (b : ℕ) × (c : �
 five [] h = absurd (omega arith)
 five (a ∷ xs) h = let v = four xs (omega arith) in (a, v.0, v.1, v.2, v.3, ap (λ (x : List ℕ). a ∷ x) v.4)
 
--- an entry of five bytes and its descriptors is a stream
+-- An entry of five bytes and its descriptors is a stream.
 stream_found : (a b c d e : ℕ) (descriptors : List ℕ) → a < 256 → b < 256 → c < 256 → d < 256 → e < 256
     → descriptors_length (a ∷ b ∷ c ∷ d ∷ e ∷ []) ≡ length descriptors
     → IsStream (a ∷ b ∷ c ∷ d ∷ e ∷ descriptors) (stream_of (record { head = a ∷ b ∷ c ∷ d ∷ e ∷ []; descriptors = descriptors }))
@@ -54,7 +54,7 @@ entry_found e h k =
     subst (λ (x : EntryView). IsStream (x.head ++ x.descriptors) (stream_of x)) is
     (stream_found v.0 v.1 v.2 v.3 v.4 e.descriptors (bytes 0) (bytes 1) (bytes 2) (bytes 3) (bytes 4) (ap descriptors_length (sym v.5) ∙ k.named))
 
--- entries that stand there are streams
+-- Bytes that consist of entries are the streams of these entries.
 pub streams_found : (bytes : List ℕ) (es : List EntryView) → IsBytes bytes → AreEntries 5 bytes es → AreStreams bytes (map stream_of es)
 streams_found bytes [] h k = k
 streams_found bytes (e ∷ es) h k =
@@ -66,7 +66,7 @@ streams_found bytes (e ∷ es) h k =
       streams_found k.0 es (IsBytes-append_right (entry_bytes e) k.0 parts) k.3,
     )
 
--- what a stream that stands there is as an entry
+-- The bytes of a stream, as an entry
 pub record IsEntryOf (bytes : List ℕ) (s : StreamView) (e : EntryView) : Type 0 where
   pub is : bytes ≡ entry_bytes e
   pub entry : IsEntry 5 e
@@ -99,7 +99,7 @@ entry_again entry s h k =
           k.elementary_pid k.four_bits k.info_length),
     )
 
--- streams that stand there are entries
+-- Bytes that consist of streams are the entries of these streams.
 pub record Entries (bytes : List ℕ) (ss : List StreamView) (es : List EntryView) : Type 0 where
   pub entries : AreEntries 5 bytes es
   pub streams : map stream_of es ≡ ss

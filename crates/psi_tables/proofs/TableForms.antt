@@ -9,7 +9,7 @@ use Rattle.psi_tables.specs.declared.error.SectionError.{SectionError}
 use Rattle.psi_tables.specs.declared.error.SectionError.TheVariants.{Length, Syntax}
 use Rattle.psi_tables.specs.declared.section.LongHeader.{LongHeader}
 
--- a section of the table's id and form, of a length that the table allows
+-- A section with the table's id and form, and a length that the table allows
 pub record HasHeader (id greatest : ℕ) (s : SectionView) (h : LongHeader) : Type 0 where
   pub table_id : s.header.table_id ≡ id
   pub long : s.header.long ≡ Some h
@@ -30,7 +30,7 @@ form_is greatest (Some l) n h e =
     let q = refused_is (nat_lt greatest (9 + n)) (Ok l) Length h e in
     (ap (λ (x : LongHeader). Some x) (ok_is l h q.1), ltb-false greatest (9 + n) q.0)
 
--- a header that was read stands there
+-- If the reader returns a header, the section has this header.
 pub table_header_at-is : (table_id greatest : ℕ) (s : SectionView) (h : LongHeader) → table_header_at table_id greatest s ≡ Ok h →
     HasHeader table_id greatest s h
 unfolding table_header_at
@@ -43,7 +43,7 @@ form_read : (greatest n : ℕ) (h : LongHeader) → 9 + n ≤ greatest → form_
 unfolding form_at
 form_read greatest n h fits = rw (le-ltb greatest (9 + n) fits) refl
 
--- a header that stands there is read
+-- If a section has a header, the reader returns this header.
 pub table_header_at-read : (table_id greatest : ℕ) (s : SectionView) (h : LongHeader) → HasHeader table_id greatest s h →
     table_header_at table_id greatest s ≡ Ok h
 unfolding table_header_at

@@ -1,4 +1,4 @@
--- The beginning of a record is no record, and its bytes one after another are read as the record at its last one.
+-- The beginning of a record is no record. Its bytes, read one after another, give the record at the last byte.
 use Rattle.std.proofs.Common.{◌≡◌, ℕ, ◌+◌, ◌<◌, ◌≤◌, List, [], ◌∷◌, ◌++◌, length, take, drop, Option, Some, None, Result, Ok, Err, refl, sym, ap, ◌∙◌, arith}
 use Rattle.std.proofs.Common.{append_assoc, inl, inr}
 use Rattle.std.proofs.lemmas.Bool.{cases_lt}
@@ -32,7 +32,7 @@ size_front head more h =
 
 -- 2. A whole record
 
--- it is read as its entry, and ends with its last byte
+-- A whole record is read as its entry and ends with its last byte.
 pub whole_is : (entry : ℕ × AccessUnit) → FitsRecord entry.1 → record_at (record_bytes entry.0 entry.1) ≡ Ok (Some entry)
 whole_is entry fits =
     ap record_at (sym (append-nil (record_bytes entry.0 entry.1))) ∙ (records_are_read entry.0 entry.1 [] fits).record_is
@@ -60,7 +60,7 @@ record_size entry = omega (
   length-bytes_high_first 8 entry.1.pts,
 )
 
--- 3. Its beginning
+-- 3. The beginning of a record
 
 cut_of : (all xs : List ℕ) (size : ℕ) → 0 < length xs → length xs < length all → length all ≡ 21 + size → size ≤ max_unit_size →
     21 + size_at all ≤ length all → drop (21 + size_at all) all ≡ [] → (5 ≤ length xs → size_at all ≡ size_at xs) → record_at xs ≡ Err Cut
@@ -82,7 +82,7 @@ beginning_is_cut entry fits xs y ys is some =
     (record_long all entry (whole_is entry fits)) (nothing_after entry fits)
     (λ many. ap (λ (zs : List ℕ). size_at zs) (sym is) ∙ size_front xs (y ∷ ys) many)
 
--- 4. The state after them
+-- 4. The state after these bytes
 
 pub part_stays : (xs : List ℕ) → record_at xs ≡ Err Cut → with_bytes xs ≡ (Within xs, Ok None)
 unfolding by_record

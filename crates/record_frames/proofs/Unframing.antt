@@ -1,4 +1,4 @@
--- What is read of frames one byte after another, and piece by piece.
+-- Frames are read byte by byte and piece by piece.
 use Rattle.std.proofs.Common.{◌≡◌, ◌⊎◌, ◌<◌, ◌≤◌, ◌-◌, ◌^◌, ◌||◌, Bool, true, false, ℕ, ◌+◌, List, [], ◌∷◌, ◌++◌, length, take, drop, map, get_or, Option, Some}
 use Rattle.std.proofs.Common.{None, Result, Ok, Err, refl, sym, ap, ◌∙◌, subst, add-one, inl, inr, arith, append_assoc, append-nil, length-append}
 use Rattle.std.specs.Prelude.{if◌then◌else◌, ⊤, min, slice_index, OnOk}
@@ -10,87 +10,89 @@ use Rattle.std.proofs.lemmas.List.{drop_all, map-append, take-append-drop}
 use Rattle.counted_io.specs.Device.{CountsOne, Failed}
 use Rattle.pes_packet.specs.AccessUnits.{AccessUnit}
 use Rattle.devices.specs.Devices.{Device, Port, Takes, between}
-use Rattle.devices.specs.Lines.{Reports, Tells}
+use Rattle.devices.specs.Lines.{Reports, ReportsAll}
 use Rattle.devices.specs.Outcomes.{halt_line}
 use Rattle.devices.specs.declared.halt.Halt.{Halt}
 use Rattle.devices.specs.declared.halt.Halt.TheVariants.{Read, Write, Memory}
-use Rattle.devices.proofs.Telling.{told_all, told_more, told_none}
+use Rattle.devices.proofs.ReportedTexts.{reported_all, reported_more, reported_none}
 use Rattle.unit_records.specs.OpenRecords.{IsOpen}
 use Rattle.record_frames.specs.declared.feed.FrameFeed.{FrameFeed}
 use Rattle.record_frames.specs.declared.frame.OpenFrame.{OpenFrame}
 use Rattle.record_frames.specs.declared.fault.FrameFault.{FrameFault}
 use Rattle.record_frames.specs.Frames.{FrameAnswer, FrameState, Outside, at_mark, entries_read, frame_step, kept}
-use Rattle.record_frames.specs.OpenFrames.{StandsFor, state_of}
+use Rattle.record_frames.specs.OpenFrames.{HasState, state_of}
 use Rattle.record_frames.specs.Passing.{EndsFrames, IsHalted, IsOut, LetsOut, PassedOn, PassesFrames, PassesPieces, ReportsEnd, ReportsLast, StopsFrames}
 use Rattle.record_frames.specs.Passing.{StopsPieces, TakesPiece, TakesSome, cut_line, cut_lines, ends_half, last_lines}
 use Rattle.record_frames.specs.Readings.{Reading, Unframes, UnframesByte, after, answer_bytes, answer_drops, bytes_of, counted, drops_in, first, reading_of}
-use Rattle.record_frames.specs.Readings.{record_of, records_in, step, told_with}
+use Rattle.record_frames.specs.Readings.{record_of, records_in, step, reported_with}
 
 -- 1. A byte
 
 same_reading : (s t : FrameState) (n m : ℕ) (b c : Bool) → s ≡ t → n ≡ m → b ≡ c →
-    ◌≡◌ {A = Reading} (record { state = s; count = n; told = b }) (record { state = t; count = m; told = c })
+    ◌≡◌ {A = Reading} (record { state = s; count = n; reported = b }) (record { state = t; count = m; reported = c })
 same_reading s t n m b c e f g = rw (e, f, g) refl
 
-pub byte_taken : (old new : FrameFeed) (byte : ℕ) (answer : FrameAnswer) → StandsFor (frame_step (state_of old.frame) byte).0 new.frame →
+pub byte_taken : (old new : FrameFeed) (byte : ℕ) (answer : FrameAnswer) → HasState (frame_step (state_of old.frame) byte).0 new.frame →
     (frame_step (state_of old.frame) byte).1 ≡ answer →
-    new.count ≡ counted old.count answer → new.told ≡ told_with old.told answer → new.records.items ≡ old.records.items ++ answer_bytes answer →
+    new.count ≡ counted old.count answer → new.reported ≡ reported_with old.reported answer → new.records.items ≡ old.records.items ++ answer_bytes answer →
     new.drops.items ≡ old.drops.items ++ answer_drops old.count answer → UnframesByte old new byte
-byte_taken old new byte answer stands is count told records drops = record {
-  is_open = stands.open_record;
-  reading = same_reading _ _ _ _ _ _ stands.state (count ∙ ap (λ (a : FrameAnswer). counted old.count a) (sym is))
-      (told ∙ ap (λ (a : FrameAnswer). told_with old.told a) (sym is));
+byte_taken old new byte answer has_state is count reported records drops = record {
+  is_open = has_state.open_record;
+  reading = same_reading _ _ _ _ _ _ has_state.state (count ∙ ap (λ (a : FrameAnswer). counted old.count a) (sym is))
+      (reported ∙ ap (λ (a : FrameAnswer). reported_with old.reported a) (sym is));
   records = records ∙ ap (λ (a : FrameAnswer). old.records.items ++ answer_bytes a) (sym is);
   drops = drops ∙ ap (λ (a : FrameAnswer). old.drops.items ++ answer_drops old.count a) (sym is);
 }
 
-pub none_taken : (old new : FrameFeed) (byte : ℕ) → StandsFor (frame_step (state_of old.frame) byte).0 new.frame →
+pub none_taken : (old new : FrameFeed) (byte : ℕ) → HasState (frame_step (state_of old.frame) byte).0 new.frame →
     (frame_step (state_of old.frame) byte).1 ≡ Ok None →
-    new.count ≡ old.count → new.told ≡ old.told → new.records.items ≡ old.records.items → new.drops.items ≡ old.drops.items → UnframesByte old new byte
-unfolding counted told_with answer_bytes answer_drops
-none_taken old new byte stands is count told records drops =
-    byte_taken old new byte (Ok None) stands is count told (records ∙ sym (append-nil old.records.items)) (drops ∙ sym (append-nil old.drops.items))
+    new.count ≡ old.count → new.reported ≡ old.reported → new.records.items ≡ old.records.items → new.drops.items ≡ old.drops.items → UnframesByte old new byte
+unfolding counted reported_with answer_bytes answer_drops
+none_taken old new byte has_state is count reported records drops =
+    byte_taken old new byte (Ok None) has_state is count reported (records ∙ sym (append-nil old.records.items)) (drops ∙ sym (append-nil old.drops.items))
 
-pub one_taken : (old new : FrameFeed) (byte : ℕ) (entry : ℕ × AccessUnit) → StandsFor (frame_step (state_of old.frame) byte).0 new.frame →
-    (frame_step (state_of old.frame) byte).1 ≡ Ok (Some entry) → new.count ≡ counted old.count (Ok (Some entry)) → new.told ≡ old.told →
+pub one_taken : (old new : FrameFeed) (byte : ℕ) (entry : ℕ × AccessUnit) → HasState (frame_step (state_of old.frame) byte).0 new.frame →
+    (frame_step (state_of old.frame) byte).1 ≡ Ok (Some entry) → new.count ≡ counted old.count (Ok (Some entry)) → new.reported ≡ old.reported →
     new.records.items ≡ old.records.items ++ record_of entry → new.drops.items ≡ old.drops.items → UnframesByte old new byte
-unfolding told_with answer_bytes answer_drops
-one_taken old new byte entry stands is count told records drops =
-    byte_taken old new byte (Ok (Some entry)) stands is count told records (drops ∙ sym (append-nil old.drops.items))
+unfolding reported_with answer_bytes answer_drops
+one_taken old new byte entry has_state is count reported records drops =
+    byte_taken old new byte (Ok (Some entry)) has_state is count reported records (drops ∙ sym (append-nil old.drops.items))
 
-pub one_dropped : (old new : FrameFeed) (byte : ℕ) (fault : FrameFault) → StandsFor (frame_step (state_of old.frame) byte).0 new.frame →
-    (frame_step (state_of old.frame) byte).1 ≡ Err fault → new.count ≡ old.count → new.told ≡ true →
+pub one_dropped : (old new : FrameFeed) (byte : ℕ) (fault : FrameFault) → HasState (frame_step (state_of old.frame) byte).0 new.frame →
+    (frame_step (state_of old.frame) byte).1 ≡ Err fault → new.count ≡ old.count → new.reported ≡ true →
     new.records.items ≡ old.records.items → new.drops.items ≡ old.drops.items ++ (old.count ∷ []) → UnframesByte old new byte
-unfolding counted told_with answer_bytes answer_drops
-one_dropped old new byte fault stands is count told records drops =
-    byte_taken old new byte (Err fault) stands is count told (records ∙ sym (append-nil old.records.items)) drops
+unfolding counted reported_with answer_bytes answer_drops
+one_dropped old new byte fault has_state is count reported records drops =
+    byte_taken old new byte (Err fault) has_state is count reported (records ∙ sym (append-nil old.records.items)) drops
 
--- where a call passes the record on, or notes that bytes are dropped
+-- A call passes the record on, or notes that bytes are dropped.
 pub passes_on : {V : Type 0} (result : Result V Halt) (old new : FrameFeed) (frame : OpenFrame) (byte : ℕ) (entry : ℕ × AccessUnit) →
-    StandsFor (frame_step (state_of old.frame) byte).0 frame →
+    HasState (frame_step (state_of old.frame) byte).0 frame →
     (frame_step (state_of old.frame) byte).1 ≡ Ok (Some entry) → OnOk result (new.frame ≡ frame) → OnOk result (new.count ≡ min (old.count + 1) (2 ^ 64 - 1)) →
-    OnOk result (new.told ≡ old.told) →
+    OnOk result (new.reported ≡ old.reported) →
     OnOk result (new.records.items ≡ old.records.items ++ record_of entry) → OnOk result (new.drops.items ≡ old.drops.items) →
     OnOk result (UnframesByte old new byte)
 unfolding counted
-passes_on (Ok x) old new frame byte entry stands is same count told records drops =
-    one_taken old new byte entry (subst (λ (f : OpenFrame). StandsFor (frame_step (state_of old.frame) byte).0 f) (sym same) stands) is count told records drops
-passes_on (Err halt) old new frame byte entry stands is same count told records drops = tt
+passes_on (Ok x) old new frame byte entry has_state is same count reported records drops =
+    one_taken old new byte entry (subst (λ (f : OpenFrame). HasState (frame_step (state_of old.frame) byte).0 f) (sym same) has_state) is count reported records
+    drops
+passes_on (Err halt) old new frame byte entry has_state is same count reported records drops = tt
 
 pub notes_drop : {V : Type 0} (result : Result V Halt) (old new : FrameFeed) (frame : OpenFrame) (byte : ℕ) (fault : FrameFault) →
-    StandsFor (frame_step (state_of old.frame) byte).0 frame →
+    HasState (frame_step (state_of old.frame) byte).0 frame →
     (frame_step (state_of old.frame) byte).1 ≡ Err fault → OnOk result (new.frame ≡ frame) → OnOk result (new.count ≡ old.count) →
-    OnOk result (new.told ≡ true) →
+    OnOk result (new.reported ≡ true) →
     OnOk result (new.records.items ≡ old.records.items) → OnOk result (new.drops.items ≡ old.drops.items ++ (old.count ∷ [])) →
     OnOk result (UnframesByte old new byte)
-notes_drop (Ok x) old new frame byte fault stands is same count told records drops =
-    one_dropped old new byte fault (subst (λ (f : OpenFrame). StandsFor (frame_step (state_of old.frame) byte).0 f) (sym same) stands) is count told records
+notes_drop (Ok x) old new frame byte fault has_state is same count reported records drops =
+    one_dropped old new byte fault (subst (λ (f : OpenFrame). HasState (frame_step (state_of old.frame) byte).0 f) (sym same) has_state) is count reported
+    records
     drops
-notes_drop (Err halt) old new frame byte fault stands is same count told records drops = tt
+notes_drop (Err halt) old new frame byte fault has_state is same count reported records drops = tt
 
 -- 2. Bytes, one after another
 
--- of these bytes those before one are taken
+-- The first i of these bytes are taken
 pub record Midway (old now : FrameFeed) (bytes : List ℕ) (i : ℕ) : Type 0 where
   pub is_open : IsOpen now.frame.begun
   pub reading : after (reading_of old) bytes ≡ after (reading_of now) (drop i bytes)
@@ -156,7 +158,7 @@ drops_more r (x ∷ xs) ys =
     ap (λ (l : List ℕ). answer_drops r.count (frame_step r.state x).1 ++ l) (drops_more (step r x) xs ys)
     ∙ sym (append_assoc (answer_drops r.count (frame_step r.state x).1) (drops_in (step r x) xs) (drops_in (after (step r x) xs) ys))
 
--- the bytes of the records that are read
+-- The bytes of two lists of records are the bytes of the first list, then the bytes of the second.
 flat_append : (xs ys : List (ℕ × AccessUnit)) → bytes_of (xs ++ ys) ≡ bytes_of xs ++ bytes_of ys
 flat_append [] ys = refl
 flat_append (x ∷ xs) ys = ap (λ (l : List ℕ). record_of x ++ l) (flat_append xs ys) ∙ sym (append_assoc (record_of x) (bytes_of xs) (bytes_of ys))
@@ -184,7 +186,7 @@ failed_after a b c e (inr h) = inr (h.0 ∙ e, sym e ∙ h.1)
 failed_later : (a b c : ℕ) → b ≡ a → Failed b c → Failed a c
 failed_later a b c e f = subst (λ (n : ℕ). Failed n c) e f
 
--- a number of pieces were read, of a byte at least, and all that they have is out
+-- A number of pieces were read, each of at least one byte, and all their output is written.
 pub record Come (input output faults : Device) (feed : FrameFeed) (pieces : ℕ) : Type 0 where
   pub came : List ℕ
   pub passed : PassedOn input output faults came
@@ -196,7 +198,7 @@ pub none_came : (input output faults : Port) (feed : FrameFeed) → reading_of f
 unfolding after records_in drops_in
 none_came input output faults feed is = record {
   came = [];
-  passed = record { read = Consumes-nil input.bytes; unfailed = refl; written = Appends-nil output.bytes; clean = refl; tells = told_none faults };
+  passed = record { read = Consumes-nil input.bytes; unfailed = refl; written = Appends-nil output.bytes; clean = refl; reports_all = reported_none faults };
   reading = is;
   long = omega arith;
 }
@@ -212,7 +214,7 @@ piece_more i0 i1 i2 o0 o1 o2 f0 f1 f2 old mid new pieces m nothing none t out =
     let drops : mid.drops.items ≡ drops_in (after first came) piece =
     t.taken.drops ∙ ap (λ (l : List ℕ). l ++ drops_in (reading_of old) piece) none ∙ ap (λ (r : Reading). drops_in r piece) m.reading in
     let written = subst (λ (l : List ℕ). Takes (between o1 o2) l) records out.written in
-    let tells = subst (λ (l : List ℕ). Tells f1 f2 (cut_lines l)) drops out.tells in
+    let reports_all = subst (λ (l : List ℕ). ReportsAll f1 f2 (cut_lines l)) drops out.reports_all in
     record {
       came = came ++ piece;
       passed = record {
@@ -221,9 +223,9 @@ piece_more i0 i1 i2 o0 o1 o2 f0 f1 f2 old mid new pieces m nothing none t out =
         written = subst (λ (l : List ℕ). Appends o0.bytes o2.bytes l) (sym (records_more first came piece))
             (Appends-trans o0.bytes o1.bytes o2.bytes (records_in first came) (records_in (after first came) piece) m.passed.written written);
         clean = out.clean ∙ m.passed.clean;
-        tells = subst (λ (l : List (List ℕ)). Tells f0 f2 l)
+        reports_all = subst (λ (l : List (List ℕ)). ReportsAll f0 f2 l)
             (sym (map-append cut_line (drops_in first came) (drops_in (after first came) piece)) ∙ ap cut_lines (sym (drops_more first came piece)))
-            (told_all f0 f1 f2 (cut_lines (drops_in first came)) (cut_lines (drops_in (after first came) piece)) m.passed.tells tells);
+            (reported_all f0 f1 f2 (cut_lines (drops_in first came)) (cut_lines (drops_in (after first came) piece)) m.passed.reports_all reports_all);
       };
       reading = out.reading ∙ t.taken.reading ∙ ap (λ (r : Reading). after r piece) m.reading ∙ sym (after_more first came piece);
       long = omega (arith, m.long, t.some, length-append came piece);
@@ -236,7 +238,7 @@ takes_some old new input false is t = absurd cc
 pub takes_none : (old new : FrameFeed) (input : Device) (more : Bool) → more ≡ false → TakesPiece old input new (Ok more) → TakesPiece old input new (Ok false)
 takes_none old new input more is t = subst (λ (b : Bool). TakesPiece old input new (Ok b)) is t
 
--- the input ended
+-- The input ended.
 pub pieces_end : (i0 i1 i2 : Port) (output faults : Device) (old new : FrameFeed) (pieces : ℕ) → Come (between i0 i1) output faults old pieces →
     TakesPiece old (between i1 i2) new (Ok false) →
     PassesPieces (between i0 i2) output faults (Ok tt) new
@@ -248,13 +250,13 @@ pieces_end i0 i1 i2 output faults old new pieces m (reads, clean, ends, same) = 
     unfailed = clean ∙ m.passed.unfailed;
     written = m.passed.written;
     clean = m.passed.clean;
-    tells = m.passed.tells;
+    reports_all = m.passed.reports_all;
   },
   ends,
   ap (λ (f : FrameFeed). reading_of f) same ∙ m.reading,
 )
 
--- a reader failed, or no memory was left
+-- A reader failed, or no memory was left.
 pub piece_stops : (i0 i1 i2 : Port) (output faults : Device) (old new : FrameFeed) (pieces : ℕ) (halt : Halt) → Come (between i0 i1) output faults old pieces →
     TakesPiece old (between i1 i2) new (Err halt) → StopsPieces (between i0 i2) output halt
 piece_stops i0 i1 i2 output faults old new pieces Read m (keeps, counts) = record {
@@ -277,7 +279,7 @@ piece_stops i0 i1 i2 output faults old new pieces Memory m (piece, reads) = reco
   why = tt;
 }
 
--- the writer failed
+-- The writer failed.
 pub out_stops : (i0 i1 i2 o0 o1 o2 : Port) (faults f : Device) (old mid new : FrameFeed) (pieces : ℕ) (halt : Halt) →
     Come (between i0 i1) (between o0 o1) faults old pieces →
     old.records.items ≡ [] → TakesSome old (between i1 i2) mid → LetsOut mid new (between o1 o2) f (Err halt) → StopsPieces (between i0 i2) (between o0 o2) halt
@@ -300,7 +302,7 @@ out_stops i0 i1 i2 o0 o1 o2 faults f old mid new pieces Write m nothing t (stopp
       why = failed_later o0.failed o1.failed o2.failed m.passed.clean failed;
     }
 
--- more bytes came than are counted
+-- More bytes arrived than the program counts.
 pub long_enough : (input output faults : Device) (feed : FrameFeed) (pieces : ℕ) → Come input output faults feed pieces → 2 ^ 64 - 1 ≤ pieces →
     StopsPieces input output Read
 long_enough input output faults feed pieces m many = record {
@@ -327,14 +329,14 @@ frames_end input output f0 f1 f2 feed status (came, passed, ends, reading) last 
       unfailed = passed.unfailed;
       written = subst (λ (l : List ℕ). Takes output l) (records_are first came) passed.written;
       clean = passed.clean;
-      tells = told_all f0 f1 f2 (cut_lines (drops_in first came)) (last_lines (after first came)) passed.tells same.tells;
+      reports_all = reported_all f0 f1 f2 (cut_lines (drops_in first came)) (last_lines (after first came)) passed.reports_all same.reports_all;
       status_is = same.status_is;
     })
 
-pub frames_stop : (input output : Device) (before told after_all : Port) (halt : Halt) (status : ℕ) → StopsPieces input output halt →
-    Reports (between told after_all) (halt_line halt) → status ≡ 3 →
+pub frames_stop : (input output : Device) (before reported after_all : Port) (halt : Halt) (status : ℕ) → StopsPieces input output halt →
+    Reports (between reported after_all) (halt_line halt) → status ≡ 3 →
     PassesFrames input output (between before after_all) status
-frames_stop input output before told after_all halt status s r is = inr (record {
+frames_stop input output before reported after_all halt status s r is = inr (record {
   halt = halt;
   came = s.came;
   sent = s.sent;
@@ -343,7 +345,7 @@ frames_stop input output before told after_all halt status s r is = inr (record 
   written = s.written;
   beginning = sym (records_are first s.came) ∙ s.beginning;
   why = s.why;
-  told = told;
+  reported = reported;
   reports = r;
   status_is = is;
 })
@@ -354,7 +356,7 @@ pub frames_done : (input output : Device) (f0 f1 f2 : Port) (feed : FrameFeed) (
 frames_done input output f0 f1 f2 feed (Ok x) status p r = frames_end input output f0 f1 f2 feed status p r
 frames_done input output f0 f1 f2 feed (Err halt) status p (r, is) = frames_stop input output f0 f1 f2 halt status p r is
 
--- no memory for the room of a piece
+-- There is no memory for a piece.
 pub no_piece : (input output faults after_all : Port) (status : ℕ) → Reports (between faults after_all) (halt_line Memory) → status ≡ 3 →
     PassesFrames (between input input) (between output output) (between faults after_all) status
 unfolding records_in
@@ -362,50 +364,52 @@ no_piece input output faults after_all status r is =
     frames_stop (between input input) (between output output) faults faults after_all Memory status
     (record { came = []; sent = []; rest = []; read = Consumes-nil input.bytes; written = Appends-nil output.bytes; beginning = refl; why = tt }) r is
 
--- the last line
-pub half_told : (r : Reading) (before after_all : Port) (status : ℕ) → ends_half r ≡ true → Reports (between before after_all) (cut_line r.count) → status ≡ 1 →
+-- A last line is written if the input ends within a record.
+pub half_reported : (r : Reading) (before after_all : Port) (status : ℕ) → ends_half r ≡ true → Reports (between before after_all) (cut_line r.count) →
+    status ≡ 1 →
     ReportsLast r (between before after_all) status
-half_told r before after_all status half t is = record {
-  tells = rw half (told_more before before after_all [] (cut_line r.count) (told_none before) t);
-  status_is = is ∙ one r.told (ends_half r) half;
+half_reported r before after_all status half t is = record {
+  reports_all = rw half (reported_more before before after_all [] (cut_line r.count) (reported_none before) t);
+  status_is = is ∙ one r.reported (ends_half r) half;
 }
   where
-    one : (told h : Bool) → h ≡ true → ◌≡◌ {A = ℕ} 1 (if told || h then 1 else 0)
+    one : (reported h : Bool) → h ≡ true → ◌≡◌ {A = ℕ} 1 (if reported || h then 1 else 0)
     one true h e = refl
     one false h e = rw e refl
 
-pub not_half : (r : Reading) (port : Port) (status : ℕ) → ends_half r ≡ false → status ≡ (if r.told then 1 else 0) → ReportsLast r (between port port) status
+pub not_half : (r : Reading) (port : Port) (status : ℕ) → ends_half r ≡ false → status ≡ (if r.reported then 1 else 0) →
+    ReportsLast r (between port port) status
 not_half r port status half is = record {
-  tells = rw half (told_none port);
-  status_is = is ∙ same r.told (ends_half r) half;
+  reports_all = rw half (reported_none port);
+  status_is = is ∙ same r.reported (ends_half r) half;
 }
   where
-    same : (told h : Bool) → h ≡ false → ◌≡◌ {A = ℕ} (if told then 1 else 0) (if told || h then 1 else 0)
+    same : (reported h : Bool) → h ≡ false → ◌≡◌ {A = ℕ} (if reported then 1 else 0) (if reported || h then 1 else 0)
     same true h e = refl
     same false h e = rw e refl
 
--- lines for the places where bytes are dropped, one after another
-pub record TellsDrops (old now : Port) (drops : List ℕ) (i : ℕ) : Type 0 where
+-- The lines for the places of dropped bytes, written one after another
+pub record ReportsDrops (old now : Port) (drops : List ℕ) (i : ℕ) : Type 0 where
   pub texts : List (List ℕ)
-  pub tells : Tells old now texts
+  pub reports_all : ReportsAll old now texts
   pub left : texts ++ cut_lines (drop i drops) ≡ cut_lines drops
 
-pub no_drop : (port : Port) (drops : List ℕ) → TellsDrops port port drops 0
-no_drop port drops = record { texts = []; tells = told_none port; left = refl }
+pub no_drop : (port : Port) (drops : List ℕ) → ReportsDrops port port drops 0
+no_drop port drops = record { texts = []; reports_all = reported_none port; left = refl }
 
-pub drop_more : (old mid new : Port) (drops : List ℕ) (i : ℕ) → i < length drops → TellsDrops old mid drops i →
+pub drop_more : (old mid new : Port) (drops : List ℕ) (i : ℕ) → i < length drops → ReportsDrops old mid drops i →
     Reports (between mid new) (cut_line (slice_index drops i)) →
-    TellsDrops old new drops (i + 1)
+    ReportsDrops old new drops (i + 1)
 drop_more old mid new drops i below m r =
     let line = cut_line (slice_index drops i) in
     record {
       texts = m.texts ++ (line ∷ []);
-      tells = told_more old mid new m.texts line m.tells r;
+      reports_all = reported_more old mid new m.texts line m.reports_all r;
       left = append_assoc m.texts (line ∷ []) (cut_lines (drop (i + 1) drops)) ∙ ap (λ (l : List ℕ). m.texts ++ cut_lines l) (sym (next_is drops i below))
           ∙ m.left;
     }
 
-pub drops_told : (old now : Port) (drops : List ℕ) (i : ℕ) → length drops ≤ i → TellsDrops old now drops i → Tells old now (cut_lines drops)
-drops_told old now drops i past m =
-    subst (λ (l : List (List ℕ)). Tells old now l)
-    (sym (append-nil m.texts) ∙ ap (λ (l : List ℕ). m.texts ++ cut_lines l) (sym (drop_all i drops past)) ∙ m.left) m.tells
+pub drops_reported : (old now : Port) (drops : List ℕ) (i : ℕ) → length drops ≤ i → ReportsDrops old now drops i → ReportsAll old now (cut_lines drops)
+drops_reported old now drops i past m =
+    subst (λ (l : List (List ℕ)). ReportsAll old now l)
+    (sym (append-nil m.texts) ∙ ap (λ (l : List ℕ). m.texts ++ cut_lines l) (sym (drop_all i drops past)) ∙ m.left) m.reports_all

@@ -1,4 +1,4 @@
--- Frames one after another, each of them whole or cut.
+-- Frames one after another, each whole or cut
 use Rattle.std.proofs.Common.{◌≡◌, ◌==◌, ◌⊎◌, Bool, true, false, ℕ, ◌+◌, ◌<◌, List, [], ◌∷◌, ◌++◌, length, Option, Some, None, Result, Ok, Err, refl, sym, ap}
 use Rattle.std.proofs.Common.{subst, ◌∙◌, arith, append_assoc, inl, inr}
 use Rattle.std.proofs.lemmas.Bool.{cases_Bool, eqb-true}
@@ -14,7 +14,7 @@ use Rattle.record_frames.proofs.HalfRecords.{beginning_is_cut, part_stays, whole
 
 -- 1. Lists
 
--- the state after bytes
+-- The state after these bytes
 state_after : FrameState → List ℕ → FrameState
 state_after s [] = s
 state_after s (b ∷ bs) = state_after (frame_step s b).0 bs
@@ -78,7 +78,7 @@ byte_read come more x = elim (cases_Bool (x == 192)) [
   ]
 ]
 
--- what a byte is written as: one byte, or two of which the first is read without an answer
+-- How a byte is written: as one byte, or as an escape and a second byte
 abbrev pub IsWritten : ℕ → Type 0
 IsWritten x = (stuffed_byte x ≡ x ∷ []) ⊎ ((c : ℕ) × (stuffed_byte x ≡ 219 ∷ c ∷ []))
 
@@ -113,14 +113,14 @@ whole_read entry fits come (x ∷ y ∷ ys) more is some =
 
 -- 4. A half record
 
--- bytes that are missing something of a byte and of those after it: they end within what it is written as, or after it
+-- A cut row of bytes is empty, or it begins with the first byte of the whole row.
 within_byte : (w : ℕ) (p : List ℕ) (z : ℕ) (zs more : List ℕ) → p ++ (z ∷ zs) ≡ w ∷ more → (p ≡ []) ⊎ ((q : List ℕ) × (p ≡ w ∷ q) × (q ++ (z ∷ zs) ≡ more))
 within_byte w [] z zs more e = inl refl
 within_byte w (v ∷ p) z zs more e =
     let same = same_first v w (p ++ (z ∷ zs)) more _ refl e in
     inr (p, ap (λ (u : ℕ). u ∷ p) same.0, same.1)
 
--- after a whole byte that is not the record's last
+-- If no entry is read after a whole byte that is not the last byte of the record, no entry is read from this byte on.
 after_byte : (entry : ℕ × AccessUnit) → FitsRecord entry.1 → (come : List ℕ) (x y : ℕ) (ys p : List ℕ) → come ++ (x ∷ y ∷ ys) ≡ record_bytes entry.0 entry.1 →
     entries_read (Within (come ++ x ∷ [])) p ≡ [] → entries_read (Within come) (stuffed_byte x ++ p) ≡ []
 unfolding kept
@@ -140,7 +140,7 @@ nothing_alone : (s : FrameState) → entries_read s [] ≡ []
 unfolding entries_read
 nothing_alone s = refl
 
--- by the next byte of the record: they end within what it is written as, or after it
+-- Bytes that are cut within the next written byte of the record, or after it, give no entry.
 half_byte : (come : List ℕ) (x : ℕ) (more p : List ℕ) (z : ℕ) (zs : List ℕ) → p ++ (z ∷ zs) ≡ stuffed_byte x ++ more →
     ((q : List ℕ) → q ++ (z ∷ zs) ≡ more → entries_read (Within come) (stuffed_byte x ++ q) ≡ []) → entries_read (Within come) p ≡ []
 half_byte come x more p z zs e next = elim (is_written x) [

@@ -21,7 +21,7 @@ abbrev pub state_of : OpenFrame → FrameState
 state_of frame = state_by frame.place (come_of frame.begun)
 
 -- the reader has this state, and the record that it reads is open
-pub record StandsFor (s : FrameState) (frame : OpenFrame) : Type 0 where
+pub record HasState (s : FrameState) (frame : OpenFrame) : Type 0 where
   pub state : state_of frame ≡ s
   pub open_record : IsOpen frame.begun
 
@@ -34,6 +34,6 @@ fault_of Memory = NoMemory
 
 -- the state and the answer of a call, as the definition has them; without memory the record is dropped
 abbrev pub Steps : FrameState × FrameAnswer → OpenFrame → Result (Option (ℕ × AccessUnit)) FrameFault → Type 0
-Steps after new (Ok entry) = StandsFor after.0 new × (after.1 ≡ Ok entry)
-Steps after new (Err Dropped) = StandsFor after.0 new × (after.1 ≡ Err Dropped)
-Steps after new (Err NoMemory) = StandsFor Lost new
+Steps after new (Ok entry) = HasState after.0 new × (after.1 ≡ Ok entry)
+Steps after new (Err Dropped) = HasState after.0 new × (after.1 ≡ Err Dropped)
+Steps after new (Err NoMemory) = HasState Lost new

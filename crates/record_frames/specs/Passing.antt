@@ -4,7 +4,7 @@ use Rattle.std.specs.Prelude.{Result, Ok, Err, codes, ⊤}
 use Rattle.std.specs.Io.KnownBytes.{Consumes, IsAtEnd, Keeps}
 use Rattle.counted_io.specs.Device.{CountsOne}
 use Rattle.devices.specs.Devices.{Device, Port, HasFailed, IsClean, Takes, between}
-use Rattle.devices.specs.Lines.{Reports, Stopped, Tells, line_text}
+use Rattle.devices.specs.Lines.{Reports, Stopped, ReportsAll, line_text}
 use Rattle.devices.specs.Outcomes.{halt_line}
 use Rattle.devices.specs.declared.halt.Halt.{Halt}
 use Rattle.devices.specs.declared.halt.Halt.TheVariants.{Read, Write, Memory}
@@ -58,7 +58,7 @@ pub record IsOut (old new : FrameFeed) (output faults : Device) : Type 0 where
   pub drops : new.drops.items ≡ []
   pub written : Takes output old.records.items
   pub clean : IsClean output
-  pub tells : Tells faults.before faults.after (cut_lines old.drops.items)
+  pub reports_all : ReportsAll faults.before faults.after (cut_lines old.drops.items)
 
 abbrev pub LetsOut : FrameFeed → FrameFeed → Device → Device → Result (Unit {0}) Halt → Type 0
 LetsOut old new output faults (Ok x) = IsOut old new output faults
@@ -68,8 +68,8 @@ LetsOut old new output faults (Err Memory) = ⊥
 
 -- the last line, if the input ended within a record, and the status
 pub record ReportsLast (r : Reading) (faults : Device) (status : ℕ) : Type 0 where
-  pub tells : Tells faults.before faults.after (last_lines r)
-  pub status_is : status ≡ (if r.told || ends_half r then 1 else 0)
+  pub reports_all : ReportsAll faults.before faults.after (last_lines r)
+  pub status_is : status ≡ (if r.reported || ends_half r then 1 else 0)
 
 -- how a run ended is reported
 abbrev pub ReportsEnd : Reading → Device → Result (Unit {0}) Halt → ℕ → Type 0
@@ -84,7 +84,7 @@ pub record PassedOn (input output faults : Device) (came : List ℕ) : Type 0 wh
   pub unfailed : IsClean input
   pub written : Takes output (records_in first came)
   pub clean : IsClean output
-  pub tells : Tells faults.before faults.after (cut_lines (drops_in first came))
+  pub reports_all : ReportsAll faults.before faults.after (cut_lines (drops_in first came))
 
 -- the input ended: exactly the whole records in its bytes are written, and a line for each place where bytes are dropped, also at the end
 pub record EndsFrames (input output faults : Device) (status : ℕ) : Type 0 where
@@ -94,8 +94,8 @@ pub record EndsFrames (input output faults : Device) (status : ℕ) : Type 0 whe
   pub unfailed : IsClean input
   pub written : Takes output (bytes_of (entries_read Outside came))
   pub clean : IsClean output
-  pub tells : Tells faults.before faults.after (cut_lines (drops_in first came) ++ last_lines (after first came))
-  pub status_is : status ≡ (if (after first came).told || ends_half (after first came) then 1 else 0)
+  pub reports_all : ReportsAll faults.before faults.after (cut_lines (drops_in first came) ++ last_lines (after first came))
+  pub status_is : status ≡ (if (after first came).reported || ends_half (after first came) then 1 else 0)
 
 -- why it ended early
 abbrev pub IsHalted : Halt → List ℕ → Device → Device → Type 0
@@ -113,8 +113,8 @@ pub record StopsFrames (input output faults : Device) (status : ℕ) : Type 0 wh
   pub written : Takes output sent
   pub beginning : bytes_of (entries_read Outside came) ≡ sent ++ rest
   pub why : IsHalted halt came input output
-  pub told : Port
-  pub reports : Reports (between told faults.after) (halt_line halt)
+  pub reported : Port
+  pub reports : Reports (between reported faults.after) (halt_line halt)
   pub status_is : status ≡ 3
 
 abbrev pub PassesFrames : Device → Device → Device → ℕ → Type 0

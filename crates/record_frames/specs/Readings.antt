@@ -19,10 +19,10 @@ bytes_of entries = flat_map record_of entries
 pub record Reading : Type 0 where
   pub state : FrameState
   pub count : ℕ
-  pub told : Bool
+  pub reported : Bool
 
 abbrev pub first : Reading
-first = record { state = Outside; count = 0; told = Bool.false }
+first = record { state = Outside; count = 0; reported = Bool.false }
 
 -- the record that an answer passes on, and after how many records it drops bytes
 unfoldable pub answer_bytes : FrameAnswer → List ℕ
@@ -39,16 +39,16 @@ counted n (Ok None) = n
 counted n (Ok (Some entry)) = min (n + 1) (2 ^ 64 - 1)
 counted n (Err fault) = n
 
-unfoldable pub told_with : Bool → FrameAnswer → Bool
-told_with told (Ok entry) = told
-told_with told (Err fault) = true
+unfoldable pub reported_with : Bool → FrameAnswer → Bool
+reported_with reported (Ok entry) = reported
+reported_with reported (Err fault) = true
 
 -- after a byte, and after bytes
 abbrev pub step : Reading → ℕ → Reading
 step r b = record {
   state = (frame_step r.state b).0;
   count = counted r.count (frame_step r.state b).1;
-  told = told_with r.told (frame_step r.state b).1;
+  reported = reported_with r.reported (frame_step r.state b).1;
 }
 
 unfoldable pub after : Reading → List ℕ → Reading
@@ -66,7 +66,7 @@ drops_in r (b ∷ bs) = answer_drops r.count (frame_step r.state b).1 ++ drops_i
 
 -- a reader in memory, and what it took
 abbrev pub reading_of : FrameFeed → Reading
-reading_of feed = record { state = state_of feed.frame; count = feed.count; told = feed.told }
+reading_of feed = record { state = state_of feed.frame; count = feed.count; reported = feed.reported }
 
 pub record Unframes (old new : FrameFeed) (bytes : List ℕ) : Type 0 where
   pub is_open : IsOpen new.frame.begun

@@ -2,7 +2,7 @@
 
 ghost use Rattle.std.specs.Prelude.{◌≡◌, ◌+◌, ◌-◌, ◌^◌, ◌++◌, ◌∷◌, [], min, true, OnOk, IfErr};
 ghost use Rattle.devices.specs.Devices.{writes};
-ghost use Rattle.devices.specs.Lines.{Reports, Tells, WritesLine};
+ghost use Rattle.devices.specs.Lines.{Reports, ReportsAll, WritesLine};
 ghost use Rattle.unit_records.specs.OpenRecords.{IsOpen};
 ghost use Rattle.record_frames.specs.Passing.{cut_line, cut_lines, ends_half};
 ghost use Rattle.record_frames.specs.Readings.{Unframes, UnframesByte, first, reading_of, record_of};
@@ -20,7 +20,7 @@ use unit_records::{Unit, record_head};
 pub struct FrameFeed {
     frame: OpenFrame,
     count: u64,
-    told: bool,
+    reported: bool,
     records: Vec<u8>,
     drops: Vec<u64>,
 }
@@ -44,7 +44,7 @@ impl FrameFeed {
         FrameFeed {
             frame: OpenFrame::new(alloc),
             count: 0,
-            told: false,
+            reported: false,
             records: Vec::new(alloc),
             drops: Vec::new(alloc),
         }
@@ -54,8 +54,9 @@ impl FrameFeed {
     fn pass_on(&mut self, stream: u8, unit: &Unit) -> Result<(), Halt>
         ensures frame { OnOk result (self.new.frame ≡ self.old.frame) }
         ensures count { OnOk result (self.new.count ≡ min (self.old.count + 1) (2 ^ 64 - 1)) }
-        ensures told { OnOk result (self.new.told ≡ self.old.told) }
-        ensures records { OnOk result (self.new.records.items ≡ self.old.records.items ++ record_of (stream, unit.now)) }
+        ensures reported { OnOk result (self.new.reported ≡ self.old.reported) }
+        ensures records { OnOk result (self.new.records.items
+            ≡ self.old.records.items ++ record_of (stream, unit.now)) }
         ensures drops { OnOk result (self.new.drops.items ≡ self.old.drops.items) }
         ensures memory { IfErr result (λ halt. halt ≡ Halt.Memory) }
     {
@@ -70,7 +71,7 @@ impl FrameFeed {
     fn note_drop(&mut self) -> Result<(), Halt>
         ensures frame { OnOk result (self.new.frame ≡ self.old.frame) }
         ensures count { OnOk result (self.new.count ≡ self.old.count) }
-        ensures told { OnOk result (self.new.told ≡ true) }
+        ensures reported { OnOk result (self.new.reported ≡ true) }
         ensures records { OnOk result (self.new.records.items ≡ self.old.records.items) }
         ensures drops { OnOk result (self.new.drops.items ≡ self.old.drops.items ++ self.old.count ∷ []) }
         ensures memory { IfErr result (λ halt. halt ≡ Halt.Memory) }
@@ -78,7 +79,7 @@ impl FrameFeed {
         if self.drops.push(self.count).is_err() {
             return Err(Halt::Memory);
         }
-        self.told = true;
+        self.reported = true;
         Ok(())
     }
 
@@ -119,11 +120,11 @@ impl FrameFeed {
     }
 
     /// Reports where bytes were dropped.
-    pub(crate) fn tell<E: Sink>(&self, faults: &mut E)
-        ensures { Tells (writes E.Sink faults.old faults.new).before (writes E.Sink faults.old faults.new).after
+    pub(crate) fn report<E: Sink>(&self, faults: &mut E)
+        ensures { ReportsAll (writes E.Sink faults.old faults.new).before (writes E.Sink faults.old faults.new).after
             (cut_lines self.now.drops.items) }
     {
-        tell_drops(faults, self.drops.as_slice());
+        report_drops(faults, self.drops.as_slice());
     }
 
     /// Discards the bytes and drops that wait.
@@ -145,10 +146,10 @@ impl FrameFeed {
     }
 
     /// Returns whether bytes were dropped.
-    pub(crate) fn has_told(&self) -> bool
-        ensures { result ≡ self.now.told }
+    pub(crate) fn has_reported(&self) -> bool
+        ensures { result ≡ self.now.reported }
     {
-        self.told
+        self.reported
     }
 
     /// Returns whether a record has begun that is not whole.
@@ -162,17 +163,17 @@ impl FrameFeed {
 }
 
 // Reports where bytes were dropped, each time by a line.
-fn tell_drops<E: Sink>(faults: &mut E, drops: &[u64])
-    ensures { Tells (writes E.Sink faults.old faults.new).before (writes E.Sink faults.old faults.new).after
+fn report_drops<E: Sink>(faults: &mut E, drops: &[u64])
+    ensures { ReportsAll (writes E.Sink faults.old faults.new).before (writes E.Sink faults.old faults.new).after
         (cut_lines drops.now) }
 {
     for count in drops {
-        tell_drop(faults, *count);
+        report_drop(faults, *count);
     }
 }
 
 /// Reports that bytes are dropped after this number of records.
-pub(crate) fn tell_drop<E: Sink>(faults: &mut E, count: u64)
+pub(crate) fn report_drop<E: Sink>(faults: &mut E, count: u64)
     ensures { Reports (writes E.Sink faults.old faults.new) (cut_line count) }
 {
     report_line(faults, "cut", &[u128::from(count)]);

@@ -3,7 +3,7 @@
 ghost use Rattle.std.specs.Prelude.{◌≡◌, ◌++◌, ◌∷◌, [], true, false, None, Ok, Err};
 ghost use Rattle.unit_records.specs.OpenRecords.{IsOpen, come_of};
 ghost use Rattle.record_frames.specs.Frames.{Outside, Within, Escaped, at_byte, at_mark, frame_step, with_bytes};
-ghost use Rattle.record_frames.specs.OpenFrames.{StandsFor, Steps, state_of};
+ghost use Rattle.record_frames.specs.OpenFrames.{HasState, Steps, state_of};
 ghost use Rattle.record_frames.specs.declared.fault.FrameFault.TheVariants.{Dropped};
 
 use crate::fault::{FrameFault, fault_of};
@@ -35,7 +35,7 @@ pub struct OpenFrame {
 impl OpenFrame {
     /// Returns a reader before its first byte.
     pub fn new(alloc: Global) -> OpenFrame
-        ensures { StandsFor Outside result }
+        ensures { HasState Outside result }
     {
         OpenFrame {
             alloc,

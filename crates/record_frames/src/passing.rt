@@ -6,7 +6,7 @@ ghost use Rattle.unit_records.specs.OpenRecords.{IsOpen};
 ghost use Rattle.record_frames.specs.Passing as spec;
 ghost use Rattle.record_frames.specs.Readings.{first, reading_of};
 
-use crate::feed::{FrameFeed, tell_drop};
+use crate::feed::{FrameFeed, report_drop};
 use counted_io::{Sink, Source};
 use devices::{Halt, report_halt};
 use std::alloc::Global;
@@ -48,7 +48,7 @@ fn let_out<W: Sink, E: Sink>(
         Ok(()) => {}
         Err(halt) => return Err(halt),
     }
-    feed.tell(faults);
+    feed.report(faults);
     feed.clear();
     Ok(())
 }
@@ -90,10 +90,10 @@ fn report_last<E: Sink>(feed: &FrameFeed, faults: &mut E) -> u8
     ensures { spec.ReportsLast (reading_of feed.now) (writes E.Sink faults.old faults.new) result }
 {
     if feed.ends_half() {
-        tell_drop(faults, feed.count());
+        report_drop(faults, feed.count());
         return 1;
     }
-    if feed.has_told() { 1 } else { 0 }
+    if feed.has_reported() { 1 } else { 0 }
 }
 
 // Reports how a run ended, and returns the status.

@@ -1,4 +1,4 @@
--- Events, finding by finding.
+-- Events, finding by finding
 use Rattle.std.proofs.Common.{◌≡◌, ◌≤◌, ◌<◌, ℕ, ◌+◌, List, length, map, drop, get_or, refl}
 use Rattle.pid_findings.specs.Views.{FindingView}
 use Rattle.program_tables.proofs.Slices.{more, done}

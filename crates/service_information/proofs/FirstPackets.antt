@@ -1,4 +1,4 @@
--- The first finding that a test passes, finding by finding.
+-- The first finding that a test passes, finding by finding
 use Rattle.std.proofs.Common.{◌≡◌, ◌≤◌, ◌<◌, ℕ, ◌+◌, Bool, true, false, List, ◌∷◌, length, map, drop, get_or, Some, None, refl}
 use Rattle.pid_findings.specs.Views.{FindingView}
 use Rattle.program_tables.proofs.Slices.{more, done}

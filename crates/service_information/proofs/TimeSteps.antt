@@ -1,4 +1,4 @@
--- The time of a stream, finding by finding.
+-- The time of a stream, finding by finding
 use Rattle.std.proofs.Common.{◌≡◌, ◌≤◌, ◌<◌, ℕ, ◌+◌, List, length, map, drop, get_or, None, refl}
 use Rattle.std.specs.Option.{option_or}
 use Rattle.pid_findings.specs.Views.{FindingView}

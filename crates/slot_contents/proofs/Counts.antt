@@ -1,4 +1,4 @@
--- Payloads on a PID: their numbers, their counters, and what comes back of them.
+-- Payloads on a PID: their numbers, their counters, and how they are read again.
 use Rattle.std.proofs.Common.{◌≡◌, ℕ, zero, suc, ◌+◌, ◌<◌, ◌==◌, Bool, false, cond, List, [], ◌∷◌, ◌++◌, length, map, Option, ◌%◌, refl, ap, ap₂, sym, subst}
 use Rattle.std.proofs.Common.{◌∙◌, arith, inl, inr, eq-eqb}
 use Rattle.std.proofs.lemmas.Bool.{cases_Bool, eqb-true, false≢true}
@@ -14,7 +14,7 @@ use Rattle.ts_packet.specs.Packets.{payload_view}
 use Rattle.ts_packet.proofs.PlainWritten.{start_again}
 use Rattle.slot_contents.proofs.Runs.{run_pid_list}
 
--- slot by slot: the count before slot s is the number with which it goes on
+-- Slot by slot: the number of payloads before a slot is the number of its payload.
 number_one : (pid s number next : ℕ) (c : Content) (rest : ℕ → Type 0) → HasNumber pid c number → next ≡ number + length (payload_in pid s c) → rest next →
     NumberedBy pid c number rest
 number_one pid s number next (PayloadContent other n start payload) rest is more then = (
@@ -42,40 +42,40 @@ payload_count_law pid n content count counted has =
     subst (Numbered pid content 0 n) counted.none (numbered_on pid n content count 0 n (omega arith) counted has)
 
 pub null_other : (pid : ℕ) → (pid == 8191) ≡ false → (8191 == pid) ≡ false
-null_other pid told = elim (cases_Bool (8191 == pid)) [
-  | inl y ↦ absurd (false≢true (sym told ∙ eq-eqb pid 8191 (sym (eqb-true 8191 pid y))))
+null_other pid reported = elim (cases_Bool (8191 == pid)) [
+  | inl y ↦ absurd (false≢true (sym reported ∙ eq-eqb pid 8191 (sym (eqb-true 8191 pid y))))
   | inr k ↦ k
 ]
 
--- one slot's part of the PID list
+-- The entries of one slot on the PID
 carried_one : (pid s number : ℕ) (c : Content) (after : ℕ → Type 0) (es : List Entry) (ps : List Payload) → (pid == 8191) ≡ false →
     NumberedBy pid c number after
     → ((k : ℕ) → after k → es ≡ payload_entries pid k ps)
     → cond (is_of_pid pid (view_of c)) (entry_at s c ∷ es) es ≡ payload_entries pid number (payload_in pid s c ++ ps)
 unfolding payload_entries view_of packet_of
-carried_one pid s number (PayloadContent other n start payload) after es ps told (hit, miss) rest = elim (cases_Bool (other == pid)) [
+carried_one pid s number (PayloadContent other n start payload) after es ps reported (hit, miss) rest = elim (cases_Bool (other == pid)) [
   | inl y ↦ let f : other ≡ pid = eqb-true other pid y in let g =
       (hit y).0 in rw (y, f, g)
       (ap (λ (l : List Entry). payload_entry pid number (record { index = s; start = start; bytes = payload }) ∷ l) (rest (number + 1) (hit y).1))
   | inr k ↦ rw k (rest number (miss k))
 ]
-carried_one pid s number (PcrContent other pcr) after es ps told (other_pid, then) rest = rw other_pid (rest number then)
-carried_one pid s number NullContent after es ps told then rest =
-    let other : (8191 == pid) ≡ false = null_other pid told in
+carried_one pid s number (PcrContent other pcr) after es ps reported (other_pid, then) rest = rw other_pid (rest number then)
+carried_one pid s number NullContent after es ps reported then rest =
+    let other : (8191 == pid) ≡ false = null_other pid reported in
     rw other (rest number then)
 
 carried_on : (pid : ℕ) (content : ℕ → Content) (s n number : ℕ) → (pid == 8191) ≡ false → Numbered pid content s n number
     → entries_in pid content s n ≡ payload_entries pid number (payloads_in pid content s n)
 unfolding entries_in payloads_in Numbered payload_entries
-carried_on pid content s zero number told is = refl
-carried_on pid content s (suc n) number told is =
-    carried_one pid s number (content s) (Numbered pid content (suc s) n) (entries_in pid content (suc s) n) (payloads_in pid content (suc s) n) told is
-    (λ k then. carried_on pid content (suc s) n k told then)
+carried_on pid content s zero number reported is = refl
+carried_on pid content s (suc n) number reported is =
+    carried_one pid s number (content s) (Numbered pid content (suc s) n) (entries_in pid content (suc s) n) (payloads_in pid content (suc s) n) reported is
+    (λ k then. carried_on pid content (suc s) n k reported then)
 
 pub run_payload_entries : RunPayloadEntriesLaw
-run_payload_entries pid n content fits told is = run_pid_list pid n content fits ∙ carried_on pid content 0 n 0 told is
+run_payload_entries pid n content fits reported is = run_pid_list pid n content fits ∙ carried_on pid content 0 n 0 reported is
 
--- what begins with a payload is seen in its packet
+-- The start of a payload is seen in its packet.
 pub payload_again : (index : ℕ) (start : Start) (pid counter : ℕ) (bytes : List ℕ) →
     ◌≡◌ {A = Payload} (record { index = index; start = start_in (payload_view pid start counter bytes); bytes = bytes })
     (record { index = index; start = start; bytes = bytes })
@@ -93,8 +93,8 @@ carried_bytes pid number [] = refl
 carried_bytes pid number (p ∷ ps) = ap (λ (l : List (List ℕ)). p.bytes ∷ l) (carried_bytes pid (number + 1) ps)
 
 pub run_joined : RunJoinedLaw
-run_joined pid n content fits told is =
-    ap (λ (es : List Entry). concat (map (λ (entry : Entry). payload_of entry.packet) es)) (run_payload_entries pid n content fits told is)
+run_joined pid n content fits reported is =
+    ap (λ (es : List Entry). concat (map (λ (entry : Entry). payload_of entry.packet) es)) (run_payload_entries pid n content fits reported is)
     ∙ ap concat (carried_bytes pid 0 (payloads_in pid content 0 n))
 
 by_number : (pid : ℕ) (content : ℕ → Content) (own : ℕ → Bool) (carries : ℕ → Option Piece) (s m n : ℕ) → s + m ≡ n

@@ -1,4 +1,4 @@
--- What is in the bytes of a run of slots, by what each slot carries.
+-- The bytes of a run of slots, from the content of each slot.
 use Rattle.std.proofs.Common.{◌≡◌, ℕ, zero, suc, ◌+◌, ◌*◌, ◌%◌, ◌||◌, Bool, List, [], ◌∷◌, length, map, filter, refl, ap, ◌∙◌, arith, inl, inr}
 use Rattle.std.proofs.lemmas.List.{length-append}
 use Rattle.std.proofs.lemmas.Bool.{cases_Bool}
@@ -25,12 +25,12 @@ run_length content s (suc n) fits =
     let rest : length (run_bytes content (suc s) n) ≡ 188 * n = run_length content (suc s) n fits in
     omega (arith, length-append (packet_of (content s)) (run_bytes content (suc s) n))
 
--- the packets of the next n slots from slot s on
+-- The packets of the next n slots from slot s on
 unfoldable pub all_entries : (ℕ → Content) → ℕ → ℕ → List Entry
 all_entries content s zero = []
 all_entries content s (suc n) = entry_at s (content s) ∷ all_entries content (suc s) n
 
--- the packets of chunks, the first of which has this index
+-- The packets of chunks, the first with this index
 entries_from : ℕ → List (List ℕ) → List Entry
 entries_from index chunks = filter_map (λ p. entry_of p.0 p.1 (packet_at p.1)) (enumerate_from index chunks)
 
@@ -50,12 +50,12 @@ entries_run content s (suc n) fits =
     ∙ ap (λ (k : ℕ). entry_at s (content s) ∷ entries_from k (cut_packets (run_bytes content (suc s) n))) next
     ∙ ap (λ (es : List Entry). entry_at s (content s) ∷ es) (entries_run content (suc s) n fits)
 
--- all packets of a run
+-- All packets of a run
 pub run_entries : (content : ℕ → Content) (n : ℕ) → Fits content → entries_of (run_bytes content 0 n) ≡ all_entries content 0 n
 unfolding entries_from
 run_entries content n fits = entries_run content 0 n fits
 
--- those of a PID
+-- The packets of a PID
 listed_entries : (pid : ℕ) (content : ℕ → Content) (s n : ℕ) →
     filter (λ entry. is_of_pid pid entry.packet) (all_entries content s n) ≡ entries_in pid content s n
 unfolding all_entries entries_in
@@ -68,7 +68,7 @@ pub run_pid_list : RunListLaw
 run_pid_list pid n content fits =
     ap (filter (λ (entry : Entry). is_of_pid pid entry.packet)) (run_entries content n fits) ∙ listed_entries pid content 0 n
 
--- packets that a test picks in an item's own slots have these slots' indices
+-- Packets that a test picks in the own slots of an item have the indices of these slots.
 indices_of : (is : Entry → Bool) (content : ℕ → Content) (own : ℕ → Bool) (s n : ℕ) → ((t : ℕ) → is (entry_at t (content t)) ≡ own t)
     → map (λ entry. entry.index) (filter is (all_entries content s n)) ≡ own_slots own s n
 unfolding all_entries own_slots

@@ -1,4 +1,4 @@
--- A small service and its plan, with what the conditions give for it and for changes of it.
+-- A small service and its plan, for examples of conditions.
 use Rattle.std.specs.Prelude.{ℕ, true, List, [], ◌∷◌, ◌++◌, None, Some, codes}
 use Rattle.unit_timing.specs.declared.allowance.Allowance.TheVariants.{Groups}
 use Rattle.description_parts.specs.Described.{Described, DescribedStream}
@@ -6,7 +6,7 @@ use Rattle.slot_plan.specs.declared.slot.Slot.{Slot}
 use Rattle.slot_plan.specs.declared.slot.Slot.TheVariants.{Stream, Pcr, Table, Null}
 use Rattle.slot_plan.specs.Planned.{Planned, Certified}
 
--- one audio stream and six tables at 1,504,000 bits a second, which is 1,000 slots a second
+-- One audio stream and six tables at 1,504,000 bits a second, which is 1,000 slots a second
 abbrev pub base_stream : DescribedStream
 base_stream = record {
   program = 1;
@@ -56,7 +56,7 @@ base = record {
 abbrev pub every_fourth : ℕ → List Slot
 every_fourth n = Stream 0 ∷ Null ∷ Null ∷ Null ∷ []
 
--- a line of 24 slots after the first
+-- A line of 24 slots after the first line
 abbrev pub line : List Slot
 line = Stream 0 ∷ Pcr 0 ∷ Null ∷ Null ∷ every_fourth 0 ++ every_fourth 0 ++ every_fourth 0 ++ every_fourth 0 ++ every_fourth 0
 

@@ -1,4 +1,4 @@
--- The conditions of a plan that serves a description, and of a second plan that may follow it, each list by itself.
+-- The conditions of a plan that serves a description, and of a second plan that may follow it, list by list.
 use Rattle.std.specs.Prelude.{◌++◌, List, None, is_none}
 use Rattle.std.proofs.Common.{◌≡◌, inl, inr}
 use Rattle.std.proofs.lemmas.Bool.{cases_Bool}
@@ -12,11 +12,11 @@ use Rattle.slot_plan.specs.SwitchConditions.{joint_entries, pcr_switches, table_
 use Rattle.slot_plan.specs.SwitchConditions.{lead_switches, main_switches, elementary_switches, IsSwitchable}
 use Rattle.slot_plan.proofs.HeldConditions.{holds_both, shaped}
 
--- no condition of a list fails
+-- No condition of a list fails.
 abbrev pub Hold : List Entry → Type 0
 Hold es = first_failing es ≡ None
 
--- those of a plan that serves
+-- The conditions of a plan that serves
 pub record ServingConditions (d : Described) (p : Planned) : Type 0 where
   pub shape : IsShaped d p
   pub pcr_gaps : Hold (pcr_gaps d p)
@@ -74,7 +74,7 @@ serves d p serving =
       elementary_leads = m.1;
     }
 
--- those of a second plan that may follow a first
+-- The conditions of a second plan that may follow a first plan
 pub record FollowingConditions (d : Described) (first second : Planned) : Type 0 where
   pub serves : ServingConditions d second
   pub pcrs : Hold (pcr_switches d first second)

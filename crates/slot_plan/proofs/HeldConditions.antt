@@ -1,4 +1,4 @@
--- From the first failing condition to the conditions themselves: where none fails, each holds.
+-- If no condition fails, each condition is true.
 use Rattle.std.specs.Prelude.{ℕ, zero, suc, ◌+◌, ◌<◌, ◌≤◌, true, List, [], ◌∷◌, ◌++◌, None, length, get_or}
 use Rattle.std.proofs.Common.{◌≡◌, refl, arith, inl, inr}
 use Rattle.std.proofs.lemmas.Bool.{cases_Bool, leb-true}
@@ -17,21 +17,21 @@ use Rattle.slot_plan.specs.Conditions.{shape_entries, length_entries, name_entri
 use Rattle.slot_plan.specs.Conditions.{claim_entries, owner_entry}
 use Rattle.slot_plan.specs.Shape.{IsShaped}
 
--- the first holds, and so do the others
+-- If no condition of a list fails, the first is true and none of the rest fails.
 pub holds_first : (e : Entry) (es : List Entry) → first_failing (e ∷ es) ≡ None → (entry_holds e ≡ true) × (first_failing es ≡ None)
 holds_first e es none = elim (cases_Bool (entry_holds e)) [
   | inl yes_holds ↦ (yes_holds, rw yes_holds at none)
   | inr fails ↦ absurd (let h = rw fails at none in cc)
 ]
 
--- conditions after conditions
+-- If no condition of two joined lists fails, none fails in either list.
 pub holds_both : (xs ys : List Entry) → first_failing (xs ++ ys) ≡ None → (first_failing xs ≡ None) × (first_failing ys ≡ None)
 holds_both [] ys none = (refl, none)
 holds_both (x ∷ xs) ys none =
     let h = holds_first x (xs ++ ys) none in let more = holds_both xs ys h.1 in
     (rw (h.0) more.0, more.1)
 
--- those of one element
+-- The conditions of one element do not fail.
 pub holds_at : {A : Type 0} (part : ℕ → A → List Entry) (k : ℕ) (xs : List A) (i : ℕ) (d : A) → first_failing (numbered part k xs) ≡ None → i < length xs →
     first_failing (part (k + i) (get_or xs i d)) ≡ None
 holds_at part k [] i d none lt = absurd (omega arith)
@@ -41,7 +41,7 @@ holds_at part k (x ∷ xs) (suc i) d none lt =
     let e : suc k + i ≡ k + suc i = omega arith in
     rw (← e) (holds_at part (suc k) xs i d ((holds_both (part k x) (numbered part (suc k) xs) none).1) (omega arith))
 
--- the same where the condition is of the number alone
+-- The conditions of one element do not fail, if they depend on its number alone.
 pub holds_number : {A : Type 0} (part : ℕ → List Entry) (k : ℕ) (xs : List A) (i : ℕ) → first_failing (numbered (λ j _. part j) k xs) ≡ None → i < length xs →
     first_failing (part (k + i)) ≡ None
 holds_number part k [] i none lt = absurd (omega arith)
@@ -55,11 +55,11 @@ pub holds_item : {A : Type 0} (part : ℕ → List Entry) (xs : List A) (i : ℕ
     first_failing (part i) ≡ None
 holds_item part xs i none lt = let e : 0 + i ≡ i = omega arith in rw e at (holds_number part 0 xs i none lt)
 
--- the two numbers compare
+-- The left number is at most the right number.
 pub at_most_holds : (condition : Condition) (part item left right : ℕ) → first_failing (at_most condition part item left right ∷ []) ≡ None → left ≤ right
 at_most_holds condition part item left right none = leb-true left right (holds_first (at_most condition part item left right) [] none).0
 
--- the shape, in plain facts
+-- The shape of the plan, as plain facts
 pub shaped : (d : Described) (p : Planned) → first_failing (shape_entries d p) ≡ None → IsShaped d p
 shaped d p none =
     let n = name_entries d p in let st = stream_owner_entries d p in let pr = program_owner_entries d p in let ta = table_owner_entries d p in let cl =

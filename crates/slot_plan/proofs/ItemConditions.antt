@@ -16,7 +16,7 @@ use Rattle.slot_plan.specs.SwitchConditions.{emptied_switch_entry}
 use Rattle.slot_plan.proofs.HeldConditions.{holds_both, holds_at, at_most_holds}
 use Rattle.slot_plan.proofs.ConditionLists.{Hold}
 
--- those of the element of that number
+-- The conditions of the element with this number are true.
 pub holds_element : {A : Type 0} (part : ℕ → A → List Entry) (xs : List A) (i : ℕ) (x : A) → Hold (numbered part 0 xs) → slice_get xs i ≡ Some x →
     Hold (part i x)
 holds_element part xs i x hold is =
@@ -24,7 +24,7 @@ holds_element part xs i x hold is =
     let here = holds_at part 0 xs i x hold (slice_get_within xs i x is) in
     rw (zero_on, get_or_from_slice_get xs i x x is) at here
 
--- of conditions on m, m + 1, .. units that on m + j
+-- If the conditions on m, m + 1, .. units are true, so is the condition on m + j units.
 pub holds_count : (f : ℕ → Entry) (m n j : ℕ) → j < n → Hold (entries_from f m n) → Hold (f (m + j) ∷ [])
 holds_count f m zero j lt hold = absurd (omega arith)
 holds_count f m (suc n) zero lt hold =
@@ -33,7 +33,7 @@ holds_count f m (suc n) (suc j) lt hold =
     let e : suc m + j ≡ m + suc j = omega arith in
     rw (← e) (holds_count f (suc m) n j (omega arith) ((holds_both (f m ∷ []) (entries_from f (suc m) n) hold).1))
 
--- the three parts of a buffer are its claims
+-- The three conditions of a buffer give its claims.
 pub holds_work : (condition : Condition) (item rate drain room start peak : ℕ) (marks : List Bool) →
     Hold (buffer_entries condition item rate drain room start peak marks) →
     HoldsWork rate drain room start peak marks
@@ -49,7 +49,7 @@ holds_work condition item rate drain room start peak marks hold =
       carries = at_most_holds condition 3 item (work_left rate drain start marks) start two.1;
     }
 
--- two parts more of one that has to be empty at least once a second
+-- The two further conditions of a buffer that has to be empty at least once a second
 pub holds_emptied : (condition : Condition) (item rate drain start : ℕ) (marks : List Bool) → Hold (emptied_entries condition item rate drain start marks) →
     EmptiesEachSecond rate drain start marks
 holds_emptied condition item rate drain start marks hold =
@@ -61,7 +61,7 @@ holds_emptied condition item rate drain start marks hold =
       often = at_most_holds condition 5 item (gap (empty_slots rate drain start marks) 1 * slot_seconds_at_1bps) rate both.1;
     }
 
--- and of two plans in turn
+-- The condition of a buffer that has to be empty at least once a second, across a switch from one plan to the next
 pub holds_emptied_switch : (item rate drain start : ℕ) (first : List Bool) (next_start : ℕ) (second : List Bool) →
     Hold (emptied_switch_entry item rate drain start first next_start second ∷ []) → EmptiesAcross rate drain start first next_start second
 holds_emptied_switch item rate drain start first next_start second hold = record {

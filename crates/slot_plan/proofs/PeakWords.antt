@@ -1,4 +1,4 @@
--- What the reader of a line's last words accepts: a peak, and a claim on a multiplexing buffer after it or none.
+-- The reader of the last words of a line accepts a peak, and after it a claim on a multiplexing buffer or nothing.
 use Rattle.std.specs.Prelude.{ℕ, ◌+◌, ◌-◌, ◌*◌, ◌/◌, ◌%◌, ◌^◌, ◌<◌, ◌≤◌, ◌==◌, ◌&&◌, true, false, List, [], ◌∷◌, ◌++◌, Option, None, Some, nat_le, nat_lt}
 use Rattle.std.specs.Prelude.{codes, decimal}
 use Rattle.std.proofs.Common.{◌≡◌, refl, subst, ◌∙◌, append_assoc, arith}
@@ -14,7 +14,7 @@ use Rattle.slot_plan.proofs.WordReaders.{Exact, some_same, word-complete, field-
 pub joined : (xs a b r s : List ℕ) → xs ≡ a ++ r → r ≡ b ++ s → xs ≡ (a ++ b) ++ s
 joined xs a b r s e f = rw (e, f, append_assoc) refl
 
--- the digits of a number are read, whatever comes after them
+-- The digits of a number are read, whatever follows them.
 digits : (ending limit n : ℕ) → limit ≤ 10 ^ 18 → n < limit → (ys : List ℕ) →
     number_before ending limit (decimal n ++ ys) ≡ more_digits ending limit n ys
 digits ending limit n small below ys = decimal_by_steps
@@ -29,7 +29,7 @@ digits ending limit n small below ys = decimal_by_steps
     rw (append_assoc, ih ((48 + m % 10) ∷ zs) (omega arith), t, v, u) refl)
     n (omega arith) ys below
 
--- a field is not read where another byte ends it
+-- A field with a different ending is not read.
 other_ending : (word : List ℕ) (ending other n : ℕ) (rest : List ℕ) → other < 48 → (other == ending) ≡ false → n < number_limit →
     field_at word ending (field word n other ++ rest) ≡ None
 other_ending word ending other n rest ends differs below =
@@ -41,7 +41,7 @@ other_ending word ending other n rest ends differs below =
         let no_digit : nat_le 48 other && nat_le other 57 ≡ false = grind (arith, nat_tests) in
         rw (append_assoc, digits ending number_limit n (omega arith) below (other ∷ rest), no_digit, differs) refl
 
--- the claim on a multiplexing buffer
+-- The claim on a multiplexing buffer
 multiplexing_words : MultiplexingEntry → List ℕ
 multiplexing_words m = field (codes "mstart ") m.start 32 ++ field (codes "mpeak ") m.peak 10
 
@@ -68,7 +68,7 @@ multiplexing-sound xs m rest is =
     let s = field (codes "mstart ") w.0.0 32 in let t = field (codes "mpeak ") v.0.0 10 in
     subst P (some_same _ _ v.2) (grind (arith, nat_tests), joined xs s t w.0.1 v.0.1 a.1 b.1)
 
--- the numbers of the last words are in range
+-- The numbers of the last words are in range.
 abbrev pub IsPeaks : ℕ × Option MultiplexingEntry → Type 0
 IsPeaks p = (p.0 < number_limit) × (is_small_multiplexing p.1 ≡ true)
 

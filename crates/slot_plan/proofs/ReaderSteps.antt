@@ -1,4 +1,4 @@
--- Reading a list goes on from what was read.
+-- The reader of a list continues after the elements that are already read.
 use Rattle.std.specs.Prelude.{ℕ, suc, ◌+◌, ◌-◌, ◌<◌, List, [], ◌∷◌, ◌++◌, Option, None, Some, Result, Ok, Err, option_map}
 use Rattle.std.proofs.Common.{◌≡◌, refl, ap, sym, ◌∙◌, append_assoc, add-one, arith, true, false}
 use Rattle.std.proofs.lemmas.List.{append-nil}
@@ -8,7 +8,7 @@ use Rattle.slot_plan.specs.declared.certificate.ProgramEntry.{ProgramEntry}
 use Rattle.slot_plan.specs.Text.{slot_ending}
 use Rattle.slot_plan.specs.Readers.{with_first, continued, begins_with, slot_at, slots_at, line_of_slot, stream_at, streams_at, program_at, programs_at}
 
--- a reading that begins with these elements
+-- A result that begins with these elements
 abbrev pub with_all : {X : Type 0} → List X → Result (List X × List ℕ) ℕ → Result (List X × List ℕ) ℕ
 with_all xs (Ok r) = Ok (xs ++ r.0, r.1)
 with_all xs (Err line) = Err line
@@ -21,26 +21,26 @@ pub from_none : {X : Type 0} (r : Result (List X × List ℕ) ℕ) → r ≡ wit
 from_none (Ok r) = refl
 from_none (Err line) = refl
 
--- one more element is read
+-- One more element is read.
 pub read_more : {X : Type 0} (pre : List X) (line : ℕ) (next : List ℕ → Result (List X × List ℕ) ℕ) (o : Option (X × List ℕ)) (x : X) (rest : List ℕ) →
     o ≡ Some (x, rest) → with_all pre (continued line next o) ≡ with_all (pre ++ x ∷ []) (next rest)
 read_more pre line next o x rest e = rw e (one_more pre x (next rest))
 
--- none is
+-- No element is read.
 pub read_none : {X : Type 0} (pre : List X) (line : ℕ) (next : List ℕ → Result (List X × List ℕ) ℕ) (o : Option (X × List ℕ)) →
     o ≡ None → with_all pre (continued line next o) ≡ Err line
 read_none pre line next o e = rw e refl
 
--- what a reader returned, as a slot or an entry and a list, where it returned something
-pub is_some_read : {X R : Type 0} (view : R → X × List ℕ) (o : Option R) (standing : Option (X × List ℕ)) (r : R) →
-    option_map view o ≡ standing → o ≡ Some r → standing ≡ Some (view r)
-is_some_read view o standing r e is = sym e ∙ ap (option_map view) is
+-- A reader's result, seen as a slot or an entry and a list
+pub is_some_read : {X R : Type 0} (view : R → X × List ℕ) (o : Option R) (expected : Option (X × List ℕ)) (r : R) →
+    option_map view o ≡ expected → o ≡ Some r → expected ≡ Some (view r)
+is_some_read view o expected r e is = sym e ∙ ap (option_map view) is
 
-pub is_none_read : {X R : Type 0} (view : R → X × List ℕ) (o : Option R) (standing : Option (X × List ℕ)) →
-    option_map view o ≡ standing → o ≡ None → standing ≡ None
-is_none_read view o standing e is = sym e ∙ ap (option_map view) is
+pub is_none_read : {X R : Type 0} (view : R → X × List ℕ) (o : Option R) (expected : Option (X × List ℕ)) →
+    option_map view o ≡ expected → o ≡ None → expected ≡ None
+is_none_read view o expected e is = sym e ∙ ap (option_map view) is
 
--- slot number i of n is read
+-- Slot number i of n is read.
 pub slot_more : (n i : ℕ) (xs rest : List ℕ) (pre : List Slot) (s : Slot) → i < n → slot_at (slot_ending n i) xs ≡ Some (s, rest) →
     with_all pre (slots_at n (n - i) xs) ≡ with_all (pre ++ s ∷ []) (slots_at n (n - (i + 1)) rest)
 slot_more n i xs rest pre s lt e =
@@ -48,7 +48,7 @@ slot_more n i xs rest pre s lt e =
     let b : n - suc (n - (i + 1)) ≡ i = omega arith in
     rw (a, b) (read_more pre (line_of_slot i) (slots_at n (n - (i + 1))) (slot_at (slot_ending n i) xs) s rest e)
 
--- no slot is found there
+-- No slot is found at place i.
 pub slot_none : (n i : ℕ) (xs : List ℕ) (pre : List Slot) → i < n → slot_at (slot_ending n i) xs ≡ None →
     with_all pre (slots_at n (n - i) xs) ≡ Err (line_of_slot i)
 slot_none n i xs pre lt e =
@@ -56,7 +56,7 @@ slot_none n i xs pre lt e =
     let b : n - suc (n - (i + 1)) ≡ i = omega arith in
     rw (a, b) (read_none pre (line_of_slot i) (slots_at n (n - (i + 1))) (slot_at (slot_ending n i) xs) e)
 
--- stream entry number k is read
+-- Stream entry number k is read.
 pub stream_more : (line k : ℕ) (xs rest : List ℕ) (pre : List StreamEntry) (e : StreamEntry) → k < 256 → begins_with 115 xs ≡ true →
     stream_at k xs ≡ Some (e, rest) →
     with_all pre (streams_at (256 - k) line k xs) ≡ with_all (pre ++ e ∷ []) (streams_at (256 - (k + 1)) line (k + 1) rest)
@@ -65,7 +65,7 @@ stream_more line k xs rest pre e lt begins is =
     let a : 256 - k ≡ suc (256 - suc k) = omega arith in
     rw (add-one k, a, begins) (read_more pre (line + k) (streams_at (256 - suc k) line (suc k)) (stream_at k xs) e rest is)
 
--- its line is bad
+-- The line of stream entry number k is bad.
 pub stream_none : (line k : ℕ) (xs : List ℕ) (pre : List StreamEntry) → k < 256 → begins_with 115 xs ≡ true → stream_at k xs ≡ None →
     with_all pre (streams_at (256 - k) line k xs) ≡ Err (line + k)
 unfolding streams_at
@@ -73,7 +73,7 @@ stream_none line k xs pre lt begins is =
     let a : 256 - k ≡ suc (256 - (k + 1)) = omega arith in
     rw (a, begins) (read_none pre (line + k) (streams_at (256 - (k + 1)) line (suc k)) (stream_at k xs) is)
 
--- the entries are at their end
+-- The stream entries end.
 pub streams_end : (line k : ℕ) (xs : List ℕ) (pre : List StreamEntry) → k < 256 → begins_with 115 xs ≡ false →
     with_all pre (streams_at (256 - k) line k xs) ≡ Ok (pre, xs)
 unfolding streams_at
@@ -81,7 +81,7 @@ streams_end line k xs pre lt begins =
     let a : 256 - k ≡ suc (256 - (k + 1)) = omega arith in
     rw (a, begins, append-nil) refl
 
--- program entry number k is read
+-- Program entry number k is read.
 pub program_more : (line k : ℕ) (xs rest : List ℕ) (pre : List ProgramEntry) (e : ProgramEntry) → k < 256 → begins_with 112 xs ≡ true →
     program_at k xs ≡ Some (e, rest) →
     with_all pre (programs_at (256 - k) line k xs) ≡ with_all (pre ++ e ∷ []) (programs_at (256 - (k + 1)) line (k + 1) rest)
@@ -90,7 +90,7 @@ program_more line k xs rest pre e lt begins is =
     let a : 256 - k ≡ suc (256 - suc k) = omega arith in
     rw (add-one k, a, begins) (read_more pre (line + k) (programs_at (256 - suc k) line (suc k)) (program_at k xs) e rest is)
 
--- its line is bad
+-- The line of program entry number k is bad.
 pub program_none : (line k : ℕ) (xs : List ℕ) (pre : List ProgramEntry) → k < 256 → begins_with 112 xs ≡ true → program_at k xs ≡ None →
     with_all pre (programs_at (256 - k) line k xs) ≡ Err (line + k)
 unfolding programs_at
@@ -98,7 +98,7 @@ program_none line k xs pre lt begins is =
     let a : 256 - k ≡ suc (256 - (k + 1)) = omega arith in
     rw (a, begins) (read_none pre (line + k) (programs_at (256 - (k + 1)) line (suc k)) (program_at k xs) is)
 
--- the entries are at their end
+-- The program entries end.
 pub programs_end : (line k : ℕ) (xs : List ℕ) (pre : List ProgramEntry) → k < 256 → begins_with 112 xs ≡ false →
     with_all pre (programs_at (256 - k) line k xs) ≡ Ok (pre, xs)
 unfolding programs_at
@@ -106,12 +106,12 @@ programs_end line k xs pre lt begins =
     let a : 256 - k ≡ suc (256 - (k + 1)) = omega arith in
     rw (a, begins, append-nil) refl
 
--- all streams are read
+-- All stream entries are read.
 pub streams_full : (line : ℕ) (xs : List ℕ) (pre : List StreamEntry) → with_all pre (streams_at (256 - 256) line 256 xs) ≡ Ok (pre, xs)
 unfolding streams_at
 streams_full line xs pre = rw append-nil refl
 
--- all programs are read
+-- All program entries are read.
 pub programs_full : (line : ℕ) (xs : List ℕ) (pre : List ProgramEntry) → with_all pre (programs_at (256 - 256) line 256 xs) ≡ Ok (pre, xs)
 unfolding programs_at
 programs_full line xs pre = rw append-nil refl

@@ -1,4 +1,4 @@
--- What the conditions give for the base service and its plan, and for changes of them; each by computing.
+-- The first failing condition for the base service and its plan, and for changes of them; each by computing.
 use Rattle.std.specs.Prelude.{◌≡◌, ℕ, List, [], ◌∷◌, ◌++◌, Option, None, Some, take, drop, replicate, slice_set, refl}
 use Rattle.own_slots.specs.Period.{places}
 use Rattle.own_slots.specs.Extremes.{greatest}
@@ -16,7 +16,7 @@ use Rattle.unit_timing.specs.declared.allowance.Allowance.TheVariants.{Groups, P
 use Rattle.description_parts.specs.Described.{Described, DescribedStream}
 use Rattle.slot_plan.proofs.BaseService.{base, base_stream, base_plan, base_slots, claims}
 
--- the first condition that fails
+-- The first condition that fails
 answer : Described → Planned → Option Entry
 unfolding places greatest work_at empty_slots
 answer d p = first_failing (entries d p)
@@ -46,12 +46,12 @@ lead_1597 : answer (with_stream (record base_stream { lead = 1597 })) base_plan 
 unfolding answer with_stream
 lead_1597 = refl
 
--- cut to its first 24 slots, the system buffer's work grows from period to period
+-- If the plan is cut to its first 24 slots, the work of the system buffer grows from period to period.
 cut : answer base (with_slots (take 24 base_slots)) ≡ Some (at_most SystemBuffer 3 0 249664000 0)
 unfolding answer with_slots
 cut = refl
 
--- the stream's slot 116 moved to 117
+-- The stream's slot 116 is moved to 117.
 moved_slots : List Slot
 moved_slots = slice_set (slice_set base_slots 116 Null) 117 (Stream 0)
 
@@ -63,7 +63,7 @@ moved_spread : answer base (record { slots = moved_slots; certificate = with_spr
 unfolding answer moved_slots with_spread
 moved_spread = refl
 
--- at 38,000,000 bits a second five packets in a row overflow the stream's transport buffer
+-- At 38,000,000 bits a second five packets in a row overflow the stream's transport buffer.
 burst_slots : List Slot
 burst_slots = replicate 5 (Stream 0) ++ (Pcr 0 ∷ Table 0 ∷ Table 1 ∷ Table 3 ∷ Table 2 ∷ Table 4 ∷ Table 5 ∷ []) ++ replicate 588 Null
 
@@ -72,7 +72,7 @@ burst : answer (record base { rate = 38000000 }) (record { slots = burst_slots; 
 unfolding answer burst_slots with_spread
 burst = refl
 
--- without the PCR in slot 97 the gap round the period's end is 48
+-- Without the PCR in slot 97 the PCR gap across the end of the period is 48 slots.
 late_pcr : answer base (with_slots (slice_set base_slots 97 Null)) ≡ Some (at_most PcrGap 0 0 72192000 60160000)
 unfolding answer with_slots
 late_pcr = refl
@@ -93,7 +93,7 @@ ownerless : answer base (with_slots (slice_set base_slots 9 Null)) ≡ Some (at_
 unfolding answer with_slots
 ownerless = refl
 
--- units 720 apart, and groups of them
+-- Units 720 apart, and groups of units
 close : ℕ → ℕ → ℕ → Described
 close lead group packets = with_stream (record base_stream { interval = 720; lead = lead; allowance = Groups group packets })
 
@@ -117,7 +117,7 @@ fours_ahead : answer (close 2318 4 8) base_plan ≡ None
 unfolding answer close with_stream
 fours_ahead = refl
 
--- by time: a burst of packets, and a pace
+-- An allowance by time: a burst of packets, and a pace
 paced : ℕ → ℕ → Described
 paced burst pace = with_stream (record base_stream { interval = 1; allowance = Pace burst pace })
 
@@ -133,7 +133,7 @@ burst_of_five : answer (paced 5 376000) base_plan ≡ Some (at_most StreamLead 0
 unfolding answer paced with_stream
 burst_of_five = refl
 
--- what waits in the main buffer is no more than the burst, and what the pace carries within the lead
+-- The main buffer contains at most the burst, and the packets that the pace carries within the lead.
 paced_into : ℕ → ℕ → Described
 paced_into main pace = with_stream (record base_stream { interval = 1; main = main; allowance = Pace 4 pace })
 
@@ -149,7 +149,7 @@ pace_waits : answer (paced_into 736 84600) base_plan ≡ Some (at_most MainBuffe
 unfolding answer paced_into with_stream
 pace_waits = refl
 
--- a multiplexing buffer that leaks 1,000,000 bits a second: a packet at a time is in it
+-- A multiplexing buffer that leaks 1,000,000 bits a second contains one packet at a time.
 leaking : ℕ → ℕ → Described
 leaking lead size = with_stream (record base_stream { lead = lead; multiplexing = Some (record { rbx = 1000000; size = size }) })
 
@@ -176,8 +176,8 @@ late_by_the_leak : answer (leaking 1666 188) (claiming 0 282752000 base_slots) �
 unfolding answer leaking with_stream claiming
 late_by_the_leak = refl
 
--- two access units a unit, 1,080 units of 90 kHz after one another: when the first has been removed the other's 288 bytes are there, and
--- two packets of the next unit, which may come 1,600 before it is due
+-- Units of two access units, 1,080 units of 90 kHz apart: when the first access unit has been removed, the 288 bytes of the second are in the
+-- buffer, and two packets of the next unit, which may arrive 1,600 before it is due.
 framed : ℕ → Described
 framed main = with_stream (record base_stream { main = main; framing = Some (record { frames = 2; frame = 1080; frame_size = 288 }) })
 
@@ -189,7 +189,7 @@ no_room_in_turn : answer (framed 655) base_plan ≡ Some (at_most MainBuffer 1 0
 unfolding answer framed with_stream
 no_room_in_turn = refl
 
--- each slot one place later, the last one first
+-- Each slot one place later, the last slot first
 turned : Planned
 turned = with_slots (drop 119 base_slots ++ take 119 base_slots)
 
@@ -223,7 +223,7 @@ leak_to_turned : switch_answer (leaking 1756 188) (claiming 0 282752000 base_slo
 unfolding switch_answer leaking with_stream claiming
 leak_to_turned = refl
 
--- across a switch the whole next unit may have come
+-- Across a switch the whole next unit may have arrived.
 removed_across : switch_answer (framed 883) turned base_plan ≡ None
 unfolding switch_answer framed turned with_slots with_stream
 removed_across = refl
@@ -232,12 +232,12 @@ no_room_across : switch_answer (framed 882) turned base_plan ≡ Some (at_most M
 unfolding switch_answer framed turned with_slots with_stream
 no_room_across = refl
 
--- but not if the stream's slots continue
+-- The next unit has not arrived if the stream's slots continue.
 after_itself : switch_answer (framed 656) base_plan base_plan ≡ None
 unfolding switch_answer framed with_stream
 after_itself = refl
 
--- a multiplexing buffer to which packets come as fast as it leaks is never empty
+-- A multiplexing buffer is never empty if packets enter as fast as it leaks.
 leaking_slowly : Described
 leaking_slowly = with_stream (record base_stream { lead = 2700; multiplexing = Some (record { rbx = 376000; size = 235 }) })
 

@@ -10,7 +10,7 @@ use Rattle.slot_plan.specs.declared.slot.Slot.{Slot}
 use Rattle.slot_plan.specs.declared.slot.Slot.TheVariants.{Stream, Pcr, Table, Null}
 use Rattle.slot_plan.specs.SlotPids.{slot_pid, SlotsApartLaw, SlotsBelowLaw}
 
--- the place of a slot's PID
+-- The place of a slot's PID
 place : Described → Slot → ℕ
 place d (Stream k) = table_count d + length d.programs + k
 place d (Pcr i) = table_count d + i

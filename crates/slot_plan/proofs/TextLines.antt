@@ -1,4 +1,4 @@
--- What the readers of slots and of lines accept.
+-- The texts that the readers of slots and of lines accept.
 use Rattle.std.specs.Prelude.{ℕ, ◌<◌, ◌==◌, true, List, [], ◌∷◌, ◌++◌, Some, codes, decimal}
 use Rattle.std.proofs.Common.{◌≡◌, refl, subst, ◌∙◌, append_assoc, arith, inl, inr}
 use Rattle.std.proofs.lemmas.Bool.{cases_Bool}
@@ -16,7 +16,7 @@ use Rattle.slot_plan.proofs.WordReaders.{Exact, some_same, word-complete, word-s
 use Rattle.slot_plan.proofs.WordReaders.{then-read}
 use Rattle.slot_plan.proofs.PeakWords.{joined, peaks-exact}
 
--- what comes after the number in the line of a stream entry, of a program entry
+-- The part of the line of a stream entry, or of a program entry, that follows the number
 stream_tail : StreamEntry → List ℕ
 stream_tail e = field (codes "spread ") e.spread 32 ++ (field (codes "start ") e.start 32 ++ peak_words e.peak e.multiplexing)
 
@@ -84,7 +84,7 @@ program-claims-sound xs e rest is =
       joined xs i (j ++ (k ++ l)) w.0.1 t.0.1 a.1 (joined w.0.1 j (k ++ l) v.0.1 t.0.1 b.1 (joined v.0.1 k l u.0.1 t.0.1 d.1 g.1)),
     )
 
--- the line of a stream entry
+-- The reader of a stream entry accepts exactly its line.
 pub stream-exact : (k : ℕ) → k < number_limit → Exact (stream_at k) (stream_line k) (λ e. is_small_stream e ≡ true)
 unfolding stream_tail
 stream-exact k below = record { sound = sound; complete = complete }
@@ -97,7 +97,7 @@ stream-exact k below = record { sound = sound; complete = complete }
     sound xs e rest is = let w = then-read _ _ _ is in let v = claims-sound w.0 e rest w.2 in
         (v.0, joined xs (field (codes "stream ") k 32) (stream_tail e) w.0 rest (after-sound (codes "stream ") k xs w.0 w.1) v.1)
 
--- the line of a program entry
+-- The reader of a program entry accepts exactly its line.
 pub program-exact : (k : ℕ) → k < number_limit → Exact (program_at k) (program_line k) (λ e. is_small_program e ≡ true)
 unfolding program_tail
 program-exact k below = record { sound = sound; complete = complete }
@@ -110,7 +110,7 @@ program-exact k below = record { sound = sound; complete = complete }
     sound xs e rest is = let w = then-read _ _ _ is in let v = program-claims-sound w.0 e rest w.2 in
         (v.0, joined xs (field (codes "program ") k 32) (program_tail e) w.0 rest (after-sound (codes "program ") k xs w.0 w.1) v.1)
 
--- a slot and its ending
+-- The text of a slot and its ending is read as the slot.
 slot-complete : (ending : ℕ) → ending < 48 → (s : Slot) (rest : List ℕ) → IsByteSlot s → slot_at ending ((slot_text s ++ ending ∷ []) ++ rest) ≡ Some (s, rest)
 slot-complete ending ends (Stream n) rest below = rw ((number-exact ending 256 (omega arith) ends).complete n rest below) refl
 slot-complete ending ends (Pcr n) rest below = rw ((number-exact ending 256 (omega arith) ends).complete n rest below) refl

@@ -1,4 +1,4 @@
--- What the readers of slots and of entries, one after another, accept.
+-- The texts that the readers of lists of slots and of entries accept.
 use Rattle.std.specs.Prelude.{ℕ, zero, suc, ◌+◌, ◌-◌, ◌%◌, ◌<◌, ◌≤◌, ◌==◌, ◌||◌, true, false, List, [], ◌∷◌, ◌++◌, Option, None, Some, Result, Ok, Err, All}
 use Rattle.std.specs.Prelude.{length}
 use Rattle.std.specs.List.{list_all}
@@ -19,7 +19,7 @@ use Rattle.slot_plan.proofs.TextLines.{slot-exact, stream-exact, program-exact}
 pub ending-small : (n i : ℕ) → slot_ending n i < 48
 ending-small n i = elim (cases_Bool (((suc i) % 24 == 0) || (suc i == n))) [ inl y ↦ rw y (omega arith) | inr z ↦ rw z (omega arith) ]
 
--- what was read first, where something was
+-- The first element that is read, if any
 pub first-some : {X : Type 0} (line : ℕ) (next : List ℕ → Result (List X × List ℕ) ℕ) (o : Option (X × List ℕ)) (x : X) (r : List ℕ) →
     o ≡ Some (x, r) → continued line next o ≡ with_first x (next r)
 first-some line next o x r e = rw e refl

@@ -1,4 +1,4 @@
--- A plan is read exactly where a text begins with its text.
+-- A plan is read exactly if a text begins with its text.
 use Rattle.std.specs.Prelude.{ℕ, ◌+◌, ◌-◌, ◌≤◌, ◌||◌, true, false, List, [], ◌∷◌, ◌++◌, Option, None, Some, Result, Ok, Err, length, drop, codes, nat_lt}
 use Rattle.std.specs.List.{list_all}
 use Rattle.std.proofs.Common.{◌≡◌, refl, ap, sym, subst, ◌∙◌, append_assoc, length-append, arith, inl, inr, if◌then◌else◌}
@@ -18,7 +18,7 @@ use Rattle.slot_plan.proofs.WordReaders.{word-complete, word-sound, field-exact,
 use Rattle.slot_plan.proofs.PeakWords.{joined}
 use Rattle.slot_plan.proofs.TextLists.{slots-complete, slots-sound, streams-complete, SlotsRead, streams-sound, programs-complete, programs-sound, ok_same}
 
--- the entries and the end
+-- The entries and the end of a plan
 certificate_text : Certified → List ℕ
 certificate_text c = numbered stream_line 0 c.streams ++ (numbered program_line 0 c.programs ++ codes "end\n")
 
@@ -28,7 +28,7 @@ record IsCertificate (c : Certified) : Type 0 where
   small_streams : list_all is_small_stream c.streams ≡ true
   small_programs : list_all is_small_program c.programs ≡ true
 
--- no program entry begins like a stream entry, nor does the end
+-- Neither a program entry nor the end begins like a stream entry.
 after_streams : (ps : List ProgramEntry) (rest : List ℕ) → begins_with 115 (numbered program_line 0 ps ++ (codes "end\n" ++ rest)) ≡ false
 after_streams [] rest = refl
 after_streams (p ∷ ps) rest = refl
@@ -44,7 +44,7 @@ certificate-complete line c rest is =
       programs-complete 256 (line + length c.streams) 0 c.programs (e ++ rest) is.few_programs (omega arith) is.small_programs refl,
     ) refl
 
--- what one reader after another gave
+-- The results of two readers in sequence
 then-ok : {A B : Type 0} (o : Result A ℕ) (f : A → Result B ℕ) (y : B) → (o >>> f) ≡ Ok y → (x : A) × (o ≡ Ok x) × (f x ≡ Ok y)
 then-ok (Ok x) f y e = (x, refl, e)
 then-ok (Err line) f y e = absurd (cc)
@@ -70,7 +70,7 @@ certificate-sound line xs c rest e =
       joined xs st (pt ++ codes "end\n") s.0.1 w.0 sr.text (joined s.0.1 pt (codes "end\n") p.0.1 w.0 pr.text er),
     )
 
--- the first two lines and the slots
+-- The first two lines and the slots
 slot_bound : (p : Planned) → plan_error p.slots p.certificate ≡ None → (length p.slots ≤ 99999) × IsCertificate p.certificate
 slot_bound p within = elim (cases_Bool (nat_lt 99999 (length p.slots))) [
   | inl many ↦ absurd (let h = rw many at within in cc)
@@ -109,7 +109,7 @@ period-sound xs n rest e =
           (grind (arith, nat_tests), ((field-exact (codes "period ") 10 (omega arith)).sound xs w.0.0 w.0.1 w.1).1))
     ]
 
--- the parts of a plan text, each before what follows it
+-- The parts of a plan's text, each followed by the next
 in_parts : (p : Planned) (rest : List ℕ) → plan_text p ++ rest ≡ codes "tsplan 1\n" ++ (field (codes "period ") (length p.slots) 10
     ++ (numbered (slot_word (length p.slots)) 0 p.slots ++ (certificate_text p.certificate ++ rest)))
 unfolding certificate_text
@@ -123,7 +123,7 @@ read_from : (xs u v w rest : List ℕ) (n : ℕ) (slots : List Slot) (c : Certif
     slots_at n n v ≡ Ok (slots, w) → certificate_at (3 + slot_lines n) w ≡ Ok (c, rest) → plan_at xs ≡ Ok (record { slots = slots; certificate = c }, rest)
 read_from xs u v w rest n slots c a b d e = rw (a, b, d, e) refl
 
--- the text of a plan is read, whatever comes after it
+-- The text of a plan is read as the plan, whatever follows it.
 pub plan-complete : (p : Planned) (rest : List ℕ) → IsPlan p → plan_at (plan_text p ++ rest) ≡ Ok (p, rest)
 plan-complete p rest is =
     let few = slot_bound p is.within in let n = length p.slots in
@@ -134,7 +134,7 @@ plan-complete p rest is =
     (ap (after_word (codes "tsplan 1\n")) (in_parts p rest) ∙ word-complete (codes "tsplan 1\n") (field (codes "period ") n 10 ++ (slots ++ after)))
     (period-complete n (slots ++ after) few.0) third (certificate-complete (3 + slot_lines n) p.certificate rest few.1)
 
--- where a plan is read, the text begins with its text
+-- If a plan is read, the text begins with its text.
 pub plan-sound : (xs : List ℕ) (p : Planned) (rest : List ℕ) → plan_at xs ≡ Ok (p, rest) → IsPlan p × (xs ≡ plan_text p ++ rest)
 plan-sound xs p rest e =
     let h = then-ok (or_line 1 (after_word (codes "tsplan 1\n") xs)) _ (p, rest) e in
@@ -161,7 +161,7 @@ plan-sound xs p rest e =
           (rw (← r.count) at text) ∙ sym (in_parts p rest),
         )
 
--- a front part, by its length
+-- The front of a text, by its length
 cut_front : (xs t rest : List ℕ) → xs ≡ t ++ rest →
     (length rest ≤ length xs) × (length xs - length rest ≡ length t) × (xs ≡ t ++ drop (length xs - length rest) xs)
 cut_front xs t rest e =
@@ -170,8 +170,9 @@ cut_front xs t rest e =
     let after : drop (length xs - length rest) xs ≡ rest = rw (bytes, e) (drop-append_seam t rest) in
     (omega arith, bytes, rw after e)
 
--- and how many bytes it has
-pub stands : (xs : List ℕ) (p : Planned) (rest : List ℕ) → plan_at xs ≡ Ok (p, rest) → (length rest ≤ length xs) × BeginsWithPlan xs p (length xs - length rest)
-stands xs p rest e =
+-- The size of a plan's text at the front
+pub begins_with_plan : (xs : List ℕ) (p : Planned) (rest : List ℕ) → plan_at xs ≡ Ok (p, rest) →
+    (length rest ≤ length xs) × BeginsWithPlan xs p (length xs - length rest)
+begins_with_plan xs p rest e =
     let s = plan-sound xs p rest e in let f = cut_front xs (plan_text p) rest s.1 in
     (f.0, record { is_plan = s.0; bytes_are = f.1; text_is = f.2 })

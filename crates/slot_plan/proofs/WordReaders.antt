@@ -1,4 +1,4 @@
--- What the readers of words and numbers accept: exactly the texts of what they give.
+-- The readers of words and numbers accept exactly the texts of their results.
 use Rattle.std.specs.Prelude.{ℕ, ◌+◌, ◌-◌, ◌*◌, ◌/◌, ◌%◌, ◌^◌, ◌<◌, ◌≤◌, ◌==◌, ◌&&◌, true, false, List, [], ◌∷◌, ◌++◌, Option, None, Some, nat_eq, nat_lt}
 use Rattle.std.specs.Prelude.{nat_le, length, drop, decimal}
 use Rattle.std.proofs.Common.{◌≡◌, refl, ap, sym, ◌∙◌, append_assoc, arith, inl, inr, if◌then◌else◌}
@@ -10,12 +10,12 @@ use Rattle.std.proofs.lemmas.Fmt.{decimal_by_steps, decimal_digit, decimal_step}
 use Rattle.std.proofs.Math.Seq.{drop-append_seam}
 use Rattle.slot_plan.specs.Words.{number_limit, field, after_word, more_digits, number_before, field_at, after_number, ◌>>=◌}
 
--- a reader accepts exactly the texts of what it gives, with any text after them
+-- A reader accepts exactly the texts of its results, followed by any text.
 pub record Exact {A : Type 0} (read : List ℕ → Option (A × List ℕ)) (text : A → List ℕ) (Valid : A → Type 0) : Type 0 where
   pub sound : (xs : List ℕ) (x : A) (rest : List ℕ) → read xs ≡ Some (x, rest) → Valid x × (xs ≡ text x ++ rest)
   pub complete : (x : A) (rest : List ℕ) → Valid x → read (text x ++ rest) ≡ Some (x, rest)
 
--- a word
+-- The reader of a word
 pub word-complete : (word rest : List ℕ) → after_word word (word ++ rest) ≡ Some rest
 word-complete word rest =
     let begins : starts_with nat_eq (word ++ rest) word ≡ true = (starts_is Decides-eqb (word ++ rest) word _ refl).1 rest refl in
@@ -31,7 +31,7 @@ word-sound word xs rest e = elim (cases_Bool (starts_with nat_eq xs word)) [
 pub some_same : {X : Type 0} (x y : X) → Some x ≡ Some y → x ≡ y
 some_same x y e = cc
 
--- one more digit
+-- One more digit
 digit-more : (n b : ℕ) → 0 < n → 48 ≤ b → b ≤ 57 → n * 10 + (b - 48) < 10 ^ 18 → decimal (n * 10 + (b - 48)) ≡ decimal n ++ b ∷ []
 digit-more n b some low high fits =
     let step = decimal_step (n * 10 + (b - 48)) (omega arith) (omega arith) in
@@ -39,7 +39,7 @@ digit-more n b some low high fits =
     let r : 48 + (n * 10 + (b - 48)) % 10 ≡ b = omega arith in
     rw (q, r) at step
 
--- the digits of a number, and its ending
+-- The digits of a number, and its ending
 on-sound : (ending limit n : ℕ) (xs : List ℕ) (m : ℕ) (rest : List ℕ) → limit ≤ 10 ^ 18 → n < limit → more_digits ending limit n xs ≡ Some (m, rest) →
     (m < limit) × (decimal n ++ xs ≡ decimal m ++ ending ∷ rest)
 on-sound ending limit n [] m rest small below e = absurd (cc)
@@ -63,7 +63,7 @@ on-sound ending limit n (b ∷ bs) m rest small below e = elim (cases_Bool (nat_
   ]
 ]
 
--- a number read from its first digits on
+-- A number is read from its first digits on.
 on-complete : (ending limit n : ℕ) → limit ≤ 10 ^ 18 → ending < 48 → n < limit → (rest : List ℕ) →
     number_before ending limit (decimal n ++ ending ∷ rest) ≡ more_digits ending limit n (ending ∷ rest)
 on-complete ending limit n small ends below rest = decimal_by_steps
@@ -102,7 +102,7 @@ number-exact ending limit small ends = record {
       | inr other ↦ absurd (let h = rw other at e in cc)
     ]
 
--- a reader that came after another
+-- A reader that follows another reader
 pub then-some : {A B : Type 0} (o : Option A) (f : A → Option B) (x : A) → o ≡ Some x → (o >>= f) ≡ f x
 then-some o f x e = rw e refl
 
@@ -110,7 +110,7 @@ pub then-read : {A B : Type 0} (o : Option A) (f : A → Option B) (y : B) → (
 then-read None f y e = absurd (cc)
 then-read (Some x) f y e = (x, refl, e)
 
--- a word, a number and its ending
+-- The reader of a word, a number and its ending
 pub field-exact : (word : List ℕ) (ending : ℕ) → ending < 48 → Exact (field_at word ending) (λ n. field word n ending) (λ n. n < number_limit)
 field-exact word ending ends = record { sound = sound; complete = complete }
   where
@@ -131,7 +131,7 @@ field-exact word ending ends = record { sound = sound; complete = complete }
               ∙ ap (λ t. t ++ rest) (sym (append_assoc word (decimal n) (ending ∷ []))),
         )
 
--- a word and one number
+-- The reader of a word and one number
 pub after-complete : (word : List ℕ) (k : ℕ) (rest : List ℕ) → k < number_limit → after_number word k (field word k 32 ++ rest) ≡ Some rest
 after-complete word k rest below =
     let same : (k == k) ≡ true = grind (arith, nat_tests) in

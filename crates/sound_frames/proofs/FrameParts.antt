@@ -1,4 +1,4 @@
--- The steps of a walk over the frames of a unit that come piece by piece.
+-- The steps of a walk over the frames of a unit that arrive piece by piece.
 use Rattle.std.proofs.Common.{◌≡◌, ◌∙◌, ℕ, zero, suc, ◌+◌, ◌-◌, ◌<◌, ◌==◌, true, false, List, [], ◌∷◌, ◌++◌, length, drop, refl, sym, ap, append_assoc, arith}
 use Rattle.sound_frames.specs.declared.frame_walk.FramePart.{FramePart}
 use Rattle.sound_frames.specs.FrameWalks.{WalkView, begun, count_passed, part_at, parts_from, passed, walked_from}
@@ -37,7 +37,7 @@ unfolding walked_from
 no_step_walk zero w bytes none = refl
 no_step_walk (suc n) w bytes none = absurd (omega (arith, none))
 
--- one step of it
+-- One step of the walk
 pub parts_on : (n : ℕ) (w w' w'' : WalkView) (place size ahead : ℕ) (bytes rest : List ℕ) (parts parts' whole : List FramePart) → 0 < n →
     (length bytes == 0) ≡ false → w' ≡ begun w →
     w'' ≡ passed w' bytes → size ≡ count_passed w' bytes → rest ≡ drop size bytes → ahead ≡ (begun w).ahead →

@@ -1,7 +1,7 @@
 //! Frames of sound, counted, or found as bytes come.
 //!
-//! `specs/FrameHeaders` has their headers, `specs/Frames` counts the frames of a unit, and `specs/FrameWalks` says which
-//! frames are found as the bytes of a unit come, and when each is due.
+//! `specs/FrameHeaders` has their headers, `specs/Frames` counts the frames of a unit, and `specs/FrameWalks` says
+//! which frames are found as the bytes of a unit come, and when each is due.
 #![tactic(auto)]
 
 mod ac3_frames;

@@ -1,4 +1,4 @@
--- The best of what is tried, one more at a time.
+-- The best of the choices that are tried, one more at a time
 use Rattle.std.proofs.Common.{◌≡◌, ℕ, zero, suc, ◌+◌, ◌<◌, ◌≤◌, ◌⊎◌, Bool, true, false, Option, Some, None, refl, sym, ◌∙◌, inl, inr, arith, add-one}
 use Rattle.std.specs.Prelude.{IfSome, nat_lt, if◌then◌else◌, ⊤}
 use Rattle.std.proofs.lemmas.Bool.{cases_eq, ltb-true, ltb-false}
@@ -16,9 +16,9 @@ best_next n f = refl
 pub best_more : (n : ℕ) (f : ℕ → Option Choice) → best (n + 1) f ≡ better (best n f) (f n)
 best_more n f = rw (add-one n) (best_next n f)
 
--- ---- an order
+-- An order of choices
 
--- the first ranks no lower than the second; nothing ranks lowest
+-- The first choice ranks no lower than the second; `None` ranks lowest.
 pub Precedes : Option Choice → Option Choice → Type 0
 Precedes None None = ⊤
 Precedes None (Some d) = ⊥
@@ -61,7 +61,7 @@ second_precedes (Some c) (Some d) = step (nat_lt (rank d) (rank c)) (λ no. ltb-
     step true le = omega arith
     step false le = le refl
 
--- nothing of the list ranks before the best
+-- No choice of the list ranks before the best.
 pub best_precedes : (n : ℕ) (f : ℕ → Option Choice) (i : ℕ) → i < n → Precedes (best n f) (f i)
 best_precedes zero f i lt = absurd (omega (arith, lt))
 best_precedes (suc n) f i lt = rw (best_next n f) (elim (cases_eq i n) [
@@ -79,7 +79,7 @@ unfolding Precedes
 nothing_left None p = refl
 nothing_left (Some d) p = absurd p
 
--- ---- where it was found
+-- The place where the best choice is found
 
 pub record Found (n : ℕ) (f : ℕ → Option Choice) (c : Choice) : Type 0 where
   pub at : ℕ

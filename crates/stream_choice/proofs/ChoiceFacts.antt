@@ -1,4 +1,4 @@
--- The best of all groups and leads.
+-- The best of all groups and leads
 use Rattle.std.proofs.Common.{◌≡◌, ℕ, ◌+◌, ◌-◌, ◌^◌, ◌<◌, ◌≤◌, Option, Some, None, List, length, ap, sym, subst, arith, true≢false}
 use Rattle.std.specs.Prelude.{slice_index, IfSome, IsNone}
 use Rattle.std.proofs.lemmas.List.Elements.{All-get_or}

@@ -1,4 +1,4 @@
--- Whether the main buffer holds what waits: for no access units, and for one more.
+-- Whether the main buffer holds the waiting access units: for no units, and for one more
 use Rattle.std.proofs.Common.{◌≡◌, ℕ, suc, ◌+◌, ◌&&◌, true, refl, add-one}
 use Rattle.std.specs.Prelude.{nat_le}
 use Rattle.unit_timing.specs.declared.framing.Framing.{Framing}

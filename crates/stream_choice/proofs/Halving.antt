@@ -1,4 +1,4 @@
--- Numbers that are found by halving.
+-- Numbers that are found by halving
 use Rattle.std.proofs.Common.{◌≡◌, ℕ, zero, suc, ◌+◌, ◌-◌, ◌*◌, ◌/◌, ◌^◌, ◌<◌, ◌≤◌, Bool, true, false, Option, Some, None, nat_lt, refl, sym, ◌∙◌, ap, subst}
 use Rattle.std.proofs.Common.{arith}
 use Rattle.std.specs.Prelude.{if◌then◌else◌}
@@ -13,7 +13,7 @@ some_power : (n : ℕ) → 1 ≤ 2 ^ n
 some_power zero = omega arith
 some_power (suc n) = omega (arith, some_power n, twice n)
 
--- ---- the first that passes
+-- The first number that passes
 
 pub half_passes : (n : ℕ) (f : ℕ → Bool) (p q : ℕ) → first_half n f p ≡ Some q → (f q ≡ true) × (q ≤ p)
 unfolding first_half
@@ -51,9 +51,9 @@ none_passes (suc n) f p e k lt = step (f p) refl e (λ rest k lt. none_passes n 
     step true is e rest = absurd (something p e)
     step false is e rest = at k lt is (rest e)
 
--- ---- between a number that does not pass and one that does
+-- An edge between a number that fails and a number that passes
 
--- a number that passes, where the one below it does not
+-- The number p passes, and the number below it fails.
 pub record Edge (f : ℕ → Bool) (low high p : ℕ) : Type 0 where
   pub passes : f p ≡ true
   pub fails : f (p - 1) ≡ false
@@ -104,7 +104,7 @@ edge (suc n) f low high fails passes lt few =
     step true e below above here = let wide = wide_of (low + 1) high e in half (f middle) refl (λ is. below is wide) (λ is. above is wide)
     step false e below above here = here (narrow_of (low + 1) high e)
 
--- ---- step by step, after so many of n
+-- The search step by step, of n steps
 
 half_next : (n : ℕ) (f : ℕ → Bool) (p : ℕ) → first_half (suc n) f p ≡ (if f p then Some p else first_half n f (p / 2))
 unfolding first_half

@@ -1,4 +1,4 @@
--- What is tried and kept is in range, and its buffers hold.
+-- Each choice that is tried and kept is in range, and its buffers hold.
 use Rattle.std.proofs.Common.{◌≡◌, ℕ, ◌+◌, ◌-◌, ◌*◌, ◌≤◌, ◌&&◌, min, Bool, true, false, Option, Some, None, refl, arith, nat_le, nat_lt, subst}
 use Rattle.std.specs.Prelude.{if◌then◌else◌}
 use Rattle.std.proofs.lemmas.Bool.Decides.{nat_tests}
@@ -54,7 +54,7 @@ choice_kept needs group packets delay lead c e = step (lead_share needs group pa
     step None is e = absurd (nothing c e)
     step (Some share) is e = tests share (drains needs share && holds needs (Groups group packets) lead share) (λ yes. kept share is yes) e
 
--- a lead with a share is longer than the wait
+-- A lead with a share is longer than the delay.
 pub some_lead : (needs : Needs) (group packets delay lead share : ℕ) → lead_share needs group packets delay lead ≡ Some share → 1 ≤ lead
 some_lead needs group packets delay lead share e = step (nat_lt delay lead) (λ yes. longer delay lead yes) e
   where

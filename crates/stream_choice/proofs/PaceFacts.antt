@@ -1,4 +1,4 @@
--- A pace that is found: it can be declared, and its buffers hold what comes.
+-- A pace that the search finds can be declared, and its buffers hold what arrives.
 use Rattle.std.proofs.Common.{◌≡◌, ℕ, ◌+◌, ◌-◌, ◌*◌, ◌/◌, ◌<◌, ◌≤◌, ◌&&◌, max, min, Bool, true, false, Some, nat_le, nat_lt, refl, arith, div-mul-le_self}
 use Rattle.std.proofs.Common.{mul-le-mul_right}
 use Rattle.std.specs.Int.{div_ceil}
@@ -18,7 +18,7 @@ use Rattle.stream_choice.proofs.Quotients.{at_most, some_of}
 use Rattle.stream_choice.proofs.ShareTimes.{held_by}
 use Rattle.stream_choice.proofs.Halving.{Edge, edge, half_passes}
 
--- ---- a pace that serves
+-- A pace that serves
 
 pub record Serves (needs : Needs) (burst : ℕ → ℕ) (delay max_lead pace : ℕ) : Type 0 where
   pub some_pace : 1 ≤ pace
@@ -42,9 +42,9 @@ serving needs burst delay max_lead pace e =
 pub some_share : (pace : ℕ) → 1 ≤ pace → 1 ≤ pace_share pace
 some_share pace pos = some_of pace (pace_share pace) slot_units_at_1bps pos (held_by (parts * pace) slot_units_at_1bps (omega arith))
 
--- ---- its lead
+-- The lead of the pace
 
--- the burst comes within the least lead, and that is none over the longest
+-- The burst passes within the least lead, and this lead is at most the longest.
 record InTime (delay share burst longest : ℕ) : Type 0 where
   pub some : 1 ≤ burst_lead delay share burst
   pub most : burst_lead delay share burst ≤ longest
@@ -73,7 +73,7 @@ lead_within needs burst delay max_lead pace s =
     in_time delay (pace_share pace) (burst pace) (longest_lead needs max_lead (pace_share pace)) (some_share pace s.some_pace) s.some_burst s.in_time in
     omega (arith, t.most)
 
--- ---- the main buffer
+-- The main buffer at a pace
 
 by_sizes : (needs : Needs) (lead : ℕ) → 0 < needs.interval → lead ≤ lead_by_sizes needs → waiting_units needs lead * (19 + needs.size) ≤ needs.main
 by_sizes needs lead pos le =
@@ -110,7 +110,7 @@ main_holds needs a lead max_lead share pos some one le =
     step true y n = omega (arith, by_sizes needs lead pos (y refl))
     step false y n = omega (arith, by_share needs.main lead share some one (other lead (lead_by_sizes needs) (lead_by_share needs share) max_lead le (n refl)))
 
--- ---- the choice
+-- The choice of a pace
 
 pub record IsFound (needs : Needs) (burst : ℕ → ℕ) (delay max_lead pace : ℕ) : Type 0 where
   pub serves_it : serves needs burst delay max_lead pace ≡ true

@@ -1,4 +1,4 @@
--- Bounds on quotients that are rounded up.
+-- Bounds on quotients that are rounded up
 use Rattle.std.proofs.Common.{ℕ, zero, suc, zero-mul, ◌+◌, ◌*◌, ◌<◌, ◌≤◌, arith, mul-le-mul_left}
 use Rattle.std.specs.Int.{div_ceil}
 use Rattle.unit_timing.specs.Shares.{parts}
@@ -13,11 +13,11 @@ at_most x y q pos le = within (div_ceil x y) q y (below (div_ceil_times x y pos)
     within : (a b y : ℕ) → a * y < (b + 1) * y → a ≤ b
     within a b y lt = grind (arith, common_steps)
 
--- by a greater number it is less
+-- A greater divisor gives no greater quotient.
 pub less_of : (x y z : ℕ) → 0 < y → y ≤ z → div_ceil x z ≤ div_ceil x y
 less_of x y z pos le = at_most x z (div_ceil x y) (omega (arith, pos, le)) (omega (arith, (div_ceil_times x y pos).0, mul-le-mul_left (div_ceil x y) le))
 
--- what holds some packets is not 0
+-- If a product is at least some packets, its first factor is not 0.
 pub some_of : (p s x : ℕ) → 1 ≤ p → parts * p ≤ s * x → 0 < s
 some_of p zero x pos le = absurd (none (rw (zero-mul x) at le))
   where

@@ -1,4 +1,4 @@
--- Own slots of a stream's share serve it.
+-- The own slots of a stream's share serve the stream.
 use Rattle.std.proofs.Common.{◌≡◌, ℕ, zero-mul, ◌+◌, ◌-◌, ◌*◌, ◌<◌, ◌≤◌, arith, sym, subst, mul-le-mul_left, mul-le-mul_right}
 use Rattle.std.specs.Int.{div_ceil}
 use Rattle.clock27.specs.Units.{slot_units_at_1bps}
@@ -10,24 +10,24 @@ use Rattle.stream_choice.specs.ShareLaws.{ShareLaw}
 use Rattle.stream_choice.proofs.Quotients.{some_of}
 use Rattle.stream_choice.proofs.ShareTimes.{IsFree, is_free, freer, held_by, group_held, row_held}
 
--- packets in a time, and own slots of that share
+-- The packets of some time fit into own slots of the share.
 sent : (w s x n c r : ℕ) → parts * w ≤ s * x → s * slot_units_at_1bps * n ≤ parts * (c * r) → w * n * slot_units_at_1bps ≤ c * r * x
 sent w s x n c r packets enough = omega (arith, mul-le-mul_right n packets, mul-le-mul_right x enough)
 
--- three slots
+-- Three slots fit into their time.
 slots : (w a r : ℕ) → 3 * parts ≤ w * a → a * slot_units_at_1bps ≤ parts * r → 3 * slot_units_at_1bps ≤ w * r
 slots w a r three fast = omega (arith, three, mul-le-mul_left w fast)
 
--- one distance of own slots
+-- One distance of own slots fits into its time.
 distance : (g s s' n c r : ℕ) → parts ≤ g * s → s ≤ s' → s' * slot_units_at_1bps * n ≤ parts * (c * r) → n * slot_units_at_1bps ≤ g * (c * r)
 distance g s s' n c r one le enough =
     omega (arith, mul-le-mul_right n one, mul-le-mul_right n (mul-le-mul_left g le), mul-le-mul_left g enough)
 
--- what waits in a buffer
+-- The waiting bytes of a buffer fit into their time.
 waited : (h w x r p : ℕ) → h * byte_units_at_1bps ≤ w * x → p ≤ h * r → p * byte_units_at_1bps ≤ w * x * r
 waited h w x r p one room = omega (arith, mul-le-mul_right r one, room)
 
--- all of them together
+-- All these bounds together
 together : (a w n c p x d e f g r : ℕ) → a ≤ 2 * c + n → w * n * slot_units_at_1bps ≤ c * r * f → 3 * slot_units_at_1bps ≤ e * r →
     n * slot_units_at_1bps ≤ g * (c * r) →
     p * byte_units_at_1bps ≤ d * x * r → (a + w * n + c) * slot_units_at_1bps * x + c * p * byte_units_at_1bps ≤ c * (f + (d + e + g)) * r * x
@@ -40,7 +40,7 @@ together a w n c p x d e f g r even row three one room = omega (
   mul-le-mul_left c room,
 )
 
--- packets come at the pace of the share
+-- Packets arrive at the pace of the share.
 paced : (p s k n c r : ℕ) → parts * p ≤ s * k → s * k * n ≤ parts * (c * r) → p * n ≤ c * 1 * r
 paced p s k n c r pace enough = omega (arith, mul-le-mul_right n pace, enough)
 

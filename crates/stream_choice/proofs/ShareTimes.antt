@@ -1,4 +1,4 @@
--- What a share says of the packets of groups and of units in a row.
+-- What a share says of the packets of a group, and of consecutive units
 use Rattle.std.proofs.Common.{List, length, ◌^◌, ◌≡◌, ℕ, ◌+◌, ◌-◌, ◌*◌, ◌<◌, ◌≤◌, Bool, true, false, Option, Some, None, refl, arith, nat_lt, mul-le-mul_right}
 use Rattle.std.proofs.Common.{sym, ap}
 use Rattle.std.specs.Prelude.{if◌then◌else◌, slice_index}
@@ -12,11 +12,11 @@ use Rattle.unit_timing.specs.Shares.{parts}
 use Rattle.stream_choice.specs.Shares.{packets_in_row, group_share, row_share, share_for_time, packet_distance, lead_share, least_share}
 use Rattle.stream_choice.proofs.Quotients.{less_of}
 
--- a quotient that is rounded up holds the dividend
+-- A quotient that is rounded up, times the divisor, is at least the dividend.
 pub held_by : (x y : ℕ) → 0 < y → x ≤ div_ceil x y * y
 held_by x y pos = (div_ceil_times x y pos).0
 
--- more freedom asks for less
+-- More free time needs no greater share.
 pub freer : (needs : Needs) (group packets free more : ℕ) → 0 < free → free ≤ more →
     share_for_time needs group packets more ≤ share_for_time needs group packets free
 freer needs group packets free more pos le =
@@ -76,7 +76,7 @@ is_free needs group packets delay lead share e = step (nat_lt delay lead) (λ ye
     step true lt e = last (nat_lt (delay + gap) lead) (lt refl) (λ yes. below (delay + gap) lead yes) e
     step false lt e = absurd (no_number share e)
 
--- the packets of a group in its time, and those of units in a row in theirs
+-- The packets of a group fit into the time of the group, and the packets of consecutive units into the time of these units.
 pub group_held : (needs : Needs) (group packets free : ℕ) → 0 < group * needs.interval →
     parts * packets ≤ share_for_time needs group packets free * (group * needs.interval)
 group_held needs group packets free pos =
@@ -92,7 +92,7 @@ row_held needs group packets free m pos some le =
     omega (arith, here, at_most_greatest group (λ before. row_share needs packets free (before + 1)) (m - 1) (omega (arith, some, le))) in
     omega (arith, held_by (parts * packets_in_row needs packets m) time (omega (arith, pos)), mul-le-mul_right time most)
 
--- the least of any group is no more
+-- The least share of all groups is at most the share of any group.
 pub least_of : (needs : Needs) (most : List ℕ) (delay lead share group : ℕ) → 1 ≤ group → group ≤ length most →
     lead_share needs group (slice_index most (group - 1)) delay lead ≡ Some share → least_share needs most ≤ share
 least_of needs most delay lead share group some few found =

@@ -1,4 +1,4 @@
--- Slots of a slower output: what has room at a rate has it at each higher one.
+-- Slots of a slower output: if slots have room at a rate, they have room at each higher rate.
 use Rattle.std.proofs.Common.{◌≡◌, ℕ, ◌+◌, ◌*◌, ◌/◌, ◌<◌, ◌≤◌, ◌&&◌, Bool, true, false, List, nat_le, nat_lt, refl, sym, arith, mul-le-mul_left}
 use Rattle.std.proofs.Common.{div-mul-le_self, true≢false}
 use Rattle.std.specs.Prelude.{if◌then◌else◌}
@@ -50,7 +50,7 @@ parts_less shares recurring r r' pos le =
     let others = sum_by-le-sum_by (recurring_part r') (recurring_part r) recurring (λ x. recurring_less r r' x le) in
     omega (arith, streams, others)
 
--- a slower output than one without slots enough has none either
+-- If an output has too few slots, a slower output has too few slots as well.
 pub still_full : (shares : List ℕ) (recurring : List Recurring) (r r' : ℕ) → 0 < r → r ≤ r' → has_slots shares recurring r' ≡ false →
     has_slots shares recurring r ≡ false
 still_full shares recurring r r' pos le full =

@@ -28,5 +28,10 @@ unfoldable pub frames_hold : Needs → Framing → ℕ → ℕ → ℕ → Bool
 frames_hold needs f lead share zero = true
 frames_hold needs f lead share (suc i) = frames_hold needs f lead share i && nat_le (framed_bytes needs f lead share (suc i)) needs.main
 
+-- the longest lead with which the last access unit of a unit is in the buffers for at most a second (2.4.2.6): it comes a lead before the
+-- unit's DTS, and leaves them when all others have left
+abbrev pub framed_lead : Framing → ℕ
+framed_lead f = 90_000 - (f.frames - 1) * f.frame
+
 abbrev pub keeps_framing : Needs → Framing → ℕ → ℕ → Bool
-keeps_framing needs f lead share = is_framing needs f && frames_hold needs f lead share (f.frames - 1)
+keeps_framing needs f lead share = is_framing needs f && (nat_le lead (framed_lead f) && frames_hold needs f lead share (f.frames - 1))

@@ -1,7 +1,7 @@
 //! Whether the main buffer of a stream holds what waits if access units are removed one by one (ISO/IEC 13818-1,
-//! 2.4.2.3).
+//! 2.4.2.3), and how long before its DTS a unit may then be sent.
 
-ghost use Rattle.std.specs.Prelude.{◌≡◌, ◌<◌, ◌^◌, ◌&&◌, nat_le};
+ghost use Rattle.std.specs.Prelude.{◌≡◌, ◌≤◌, ◌<◌, ◌^◌, ◌&&◌, nat_le};
 ghost use Rattle.stream_choice.specs.Frames as spec;
 
 use crate::needs::Needs;
@@ -75,12 +75,24 @@ fn frames_hold(needs: Needs, framing: Framing, lead: u32, share: u64, others: u8
     holds
 }
 
+/// Returns the longest lead, in units of 90 kHz, with which the last access unit of a unit is in the buffers for at most
+/// a second (2.4.2.6).
+pub fn framed_lead(framing: Framing) -> u32
+    ensures value { result ≡ spec.framed_lead framing }
+    ensures most { result ≤ 90000 }
+{
+    let others = u64::from(framing.frames.saturating_sub(1));
+    90_000u64.saturating_sub(others * u64::from(framing.frame)) as u32
+}
+
 /// Returns whether a stream of this lead and share may declare these access units: their numbers are in the ranges of a
-/// description, and the main buffer holds the bytes that wait, however many of a unit's access units have been removed.
+/// description, the last one is in the buffers for at most a second, and the main buffer holds the bytes that wait,
+/// however many of a unit's access units have been removed.
 pub fn keeps_framing(needs: Needs, framing: Framing, lead: u32, share: u64) -> bool
     ensures { result ≡ spec.keeps_framing needs framing lead share }
 {
     is_framing(needs, framing)
+        && lead <= framed_lead(framing)
         && frames_hold(
             needs,
             framing,

@@ -30,7 +30,7 @@ mod selection;
 mod shares;
 
 pub use choice::{Choice, preferred};
-pub use frames::keeps_framing;
+pub use frames::{framed_lead, keeps_framing};
 pub use needs::Needs;
 pub use pace_selection::{PacedUnits, choose_pace};
 pub use ranges::are_max_packets;

@@ -1,4 +1,4 @@
--- Elements of the syntax step by step.
+-- The elements of the syntax, step by step
 use Rattle.std.proofs.Common.{◌≡◌, ◌∙◌, sym, ℕ, zero, suc, ◌+◌, ◌-◌, ◌*◌, ◌%◌, ◌^◌, ◌<◌, ◌≤◌, nat_lt, Bool, true, false, inl, inr, refl, lit<, arith, List, []}
 use Rattle.std.proofs.Common.{◌∷◌, None, Some}
 use Rattle.std.specs.Prelude.{find}
@@ -38,7 +38,7 @@ unfolding after_times
 times_end zero es bytes at more is = absurd (omega (arith, more))
 times_end (suc left) es bytes at more is = rw is refl
 
--- the bit that is found to be one is there
+-- A number that is found passes the test.
 find_passes : (p : ℕ → Bool) (xs : List ℕ) (n : ℕ) → find p xs ≡ Some n → p n ≡ true
 find_passes p [] n is = absurd cc
 find_passes p (x ∷ xs) n is = elim (cases_Bool (p x)) [
@@ -64,7 +64,7 @@ pub one_place : (bytes : List ℕ) (at zeros : ℕ) → leading_zero_bits bytes 
 unfolding leading_zero_bits
 one_place bytes at zeros is = one_below bytes (at + zeros) (find_passes (λ n. is_one bytes (at + n)) (range_with_len 0 32) zeros is)
 
--- a unit of sizes of up to 2^19 bits
+-- A unit of sizes is at most 2^19 bits.
 pub unit_bound : (scale : ℕ) → 1 * 2 ^ (4 + scale % 16) % 2 ^ 64 ≤ 524288
 unit_bound scale =
     let less : 4 + scale % 16 ≤ 19 = omega arith in

@@ -1,4 +1,4 @@
--- The bytes of a NAL unit without its emulation prevention bytes, step by step: at the front, and after it.
+-- The bytes of a NAL unit without its emulation prevention bytes, step by step: at the front, and after the front
 use Rattle.std.proofs.Common.{◌≡◌, ℕ, zero, suc, ◌-◌, true, false, refl, ap₂, subst, inl, inr, rules, arith, List, [], ◌∷◌, length, take, drop, None, Some}
 use Rattle.std.proofs.lemmas.Bool.{cases_Bool}
 use Rattle.std.proofs.lemmas.Slice.Eq.{bytes_eq-Decides}
@@ -6,7 +6,7 @@ use Rattle.std.specs.List.{slice_get}
 use Rattle.std.specs.Str.{bytes_eq}
 use Rattle.stream_coding.specs.Rbsp.{rbsp_bytes}
 
--- where 00 00 03 stands at the front, and where it does not
+-- The bytes 00 00 03 at the front, and other bytes at the front
 pub all_prevented : (a b c : ℕ) → bytes_eq (a ∷ b ∷ c ∷ []) (0 ∷ 0 ∷ 3 ∷ []) ≡ true → (a ∷ b ∷ c ∷ []) ≡ (0 ∷ 0 ∷ 3 ∷ [])
 all_prevented a b c is = let d = bytes_eq-Decides (a ∷ b ∷ c ∷ []) (0 ∷ 0 ∷ 3 ∷ []) in search (rules)
 

@@ -1,4 +1,4 @@
--- Scaling lists step by step.
+-- Scaling lists, step by step
 use Rattle.std.proofs.Common.{◌≡◌, ℕ, zero, suc, ◌+◌, ◌-◌, ◌<◌, rules, false, ◌==◌, refl, arith, List, None, Some}
 use Rattle.stream_coding.specs.Rbsp.{ue}
 use Rattle.stream_coding.specs.Avc.{next_scale, scaling_list, scaling_list_at, scaling_matrix}

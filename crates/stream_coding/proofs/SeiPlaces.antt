@@ -1,4 +1,4 @@
--- The place in SEI messages step by step: after a byte of a NAL unit, after an emulation prevention byte, and at its end.
+-- The place in SEI messages, step by step: after a byte of a NAL unit, after an emulation prevention byte, and at the end of the unit
 use Rattle.std.proofs.Common.{◌≡◌, ◌∙◌, ℕ, ◌==◌, true, false, refl, ap, subst, sym, inl, inr, rules, List, [], ◌∷◌, length, take, drop}
 use Rattle.std.proofs.lemmas.Bool.{cases_Bool}
 use Rattle.std.specs.List.{fold}
@@ -23,13 +23,13 @@ pub after_end : (p : SeiPlace) (bytes rest : List ℕ) (b : ℕ) → bytes ≡ b
 unfolding place_after rbsp_bytes
 after_end p bytes rest b is ends = rw (no_bytes bytes rest b is ends) refl
 
--- 2. After one of its bytes
+-- 2. After a byte of the NAL unit
 
 one_more : (b : ℕ) (rest : List ℕ) → ends_nal (b ∷ rest) ≡ false → nal_bytes (b ∷ rest) ≡ b ∷ nal_bytes rest
 unfolding nal_bytes
 one_more b rest within = rw within refl
 
--- one byte or two are no 00 00 03
+-- One or two bytes are never 00 00 03.
 one_alone : (b : ℕ) → bytes_eq (b ∷ []) (0 ∷ 0 ∷ 3 ∷ []) ≡ false
 one_alone b = elim (cases_Bool (b == 0)) [
   | inl is ↦ rw is refl
@@ -45,7 +45,7 @@ two_alone b x = elim (cases_Bool (b == 0)) [
   | inr other ↦ rw other refl
 ]
 
--- a NAL unit that ends before has no 00 00 03 there
+-- If bytes do not begin with 00 00 03, neither does the NAL unit at their front.
 none_prevented : (b : ℕ) (rest : List ℕ) → bytes_eq (take 3 (b ∷ rest)) (0 ∷ 0 ∷ 3 ∷ []) ≡ false →
     bytes_eq (take 3 (b ∷ nal_bytes rest)) (0 ∷ 0 ∷ 3 ∷ []) ≡ false
 unfolding nal_bytes

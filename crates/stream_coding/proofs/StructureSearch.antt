@@ -1,4 +1,4 @@
--- A search step by step: at the front of the bytes, and after the first of them.
+-- A search, step by step: at the front of the bytes, and after the first byte
 use Rattle.std.proofs.Common.{◌≡◌, ℕ, refl, subst, List, [], ◌∷◌, length, None, Some}
 use Rattle.stream_coding.specs.Structures.{at_front, found_in}
 use Rattle.stream_coding.specs.declared.structures.Structure.{Structure}

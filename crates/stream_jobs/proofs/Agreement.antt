@@ -1,4 +1,4 @@
--- Streams that agree one after another.
+-- Streams that agree, one after another
 use Rattle.std.proofs.Common.{◌≡◌, ℕ, zero, suc, true, rules, Some, List, [], ◌∷◌, slice_get, sym}
 use Rattle.description_parts.specs.Described.{Described, DescribedProgram, DescribedStream}
 use Rattle.std.specs.Str.{bytes_eq}
@@ -27,7 +27,7 @@ at_program (x ∷ ps) [] are k p q here there = absurd cc
 at_program (x ∷ ps) (y ∷ qs) are zero p q here there = rw (sym (some_same x p here), sym (some_same y q there)) are.0
 at_program (x ∷ ps) (y ∷ qs) are (suc k) p q here there = at_program ps qs are.1 k p q here there
 
--- a stream that passes the test is the declared one
+-- A stream that passes the test is the declared stream.
 pub same_bytes : (xs ys : List ℕ) → bytes_eq xs ys ≡ true → xs ≡ ys
 same_bytes xs ys e = let d = bytes_eq-Decides xs ys in search (rules)
 
@@ -48,7 +48,7 @@ entry_is s t e =
       shared_with = same_bytes s.shared_with t.shared_with after_type.1;
     }
 
--- and a program
+-- A program that passes the test is the declared program.
 pub program_is : (p : DescribedProgram) (q : JobProgramView) → is_program p q ≡ true → IsProgram p q
 unfolding is_program
 program_is p q e =

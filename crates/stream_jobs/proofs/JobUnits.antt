@@ -1,4 +1,4 @@
--- The units of a job are those of its streams.
+-- The units of a job are the units of its streams.
 use Rattle.std.proofs.Common.{◌≡◌, ◌<◌, ℕ, Bool, Some, List, [], All, length, map, slice_get, get_or, ap, subst, ◌∙◌, arith}
 use Rattle.std.specs.Prelude.{option_map}
 use Rattle.std.proofs.lemmas.List.{length-map}
@@ -16,17 +16,17 @@ use Rattle.job_programs.specs.FoundUnits.{FitsQueue, IsMoved}
 none : TimedStreamView
 none = record { program = 0; pid = 0; stream_type = 0; stream_id = 0; descriptors = []; shared_with = []; units = [] }
 
--- a stream of a description is one of the input in its place, with its units, and what holds of all of these holds of it
-pub record StandsFor (d : Described) (units : List (ℕ × AccessUnit)) (P : TimedStreamView → Type 0) (k : ℕ) (s : DescribedStream) : Type 0 where
+-- The stream of the input in place k agrees with the stream s of the description, has its units and satisfies P.
+pub record IsUnitStream (d : Described) (units : List (ℕ × AccessUnit)) (P : TimedStreamView → Type 0) (k : ℕ) (s : DescribedStream) : Type 0 where
   pub stream : TimedStreamView
   pub agrees : Agrees d s stream
   pub units_are : units_of k units ≡ stream.units
   pub holds : P stream
 
-pub stands_for : (d : Described) (input : JobInputView) (units : List (ℕ × AccessUnit)) (P : TimedStreamView → Type 0) → AllAgree d input →
+pub unit_stream_of : (d : Described) (input : JobInputView) (units : List (ℕ × AccessUnit)) (P : TimedStreamView → Type 0) → AllAgree d input →
     AreMerged (map (λ t. t.units) input.streams) units →
-    All P input.streams → (k : ℕ) (s : DescribedStream) → slice_get d.streams k ≡ Some s → StandsFor d units P k s
-stands_for d input units P agree merged all k s at =
+    All P input.streams → (k : ℕ) (s : DescribedStream) → slice_get d.streams k ≡ Some s → IsUnitStream d units P k s
+unit_stream_of d input units P agree merged all k s at =
     let lt : k < length input.streams = omega (arith, slice_get_within d.streams k s at, agree.same) in
     let t = get_or input.streams k none in
     let here : slice_get input.streams k ≡ Some t = slice_get-get_or input.streams k none lt in
@@ -49,8 +49,8 @@ stream_of : (made : Bool) (findings : List FindingView) (d : Described) (input :
     All (IsMoved made findings) input.streams → All FitsQueue input.streams → AllAgree d input → AreMerged (map (λ t. t.units) input.streams) units →
     (k : ℕ) (s : DescribedStream) → slice_get d.streams k ≡ Some s → IsStream made findings d s (units_of k units)
 stream_of made findings d input units moved fits agree merged k s at =
-    let one = stands_for d input units (IsMoved made findings) agree merged moved k s at in
-    let other = stands_for d input units FitsQueue agree merged fits k s at in
+    let one = unit_stream_of d input units (IsMoved made findings) agree merged moved k s at in
+    let other = unit_stream_of d input units FitsQueue agree merged fits k s at in
     is_stream made findings d s (units_of k units) one.stream other.stream one.agrees one.units_are one.holds other.units_are other.holds
 
 pub job_units : (made : Bool) (findings : List FindingView) (d : Described) (input : JobInputView) (units : List (ℕ × AccessUnit)) →

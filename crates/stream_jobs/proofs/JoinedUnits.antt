@@ -1,4 +1,4 @@
--- The units of a job of joined inputs are those of its streams.
+-- The units of a job of joined inputs are the units of its streams.
 use Rattle.std.proofs.Common.{◌≡◌, ◌<◌, ℕ, zero, suc, Bool, Some, List, [], ◌∷◌, All, length, map, slice_get, get_or, refl, ap, subst, ◌∙◌, arith}
 use Rattle.std.specs.Prelude.{option_map}
 use Rattle.std.specs.List.{AllZip}
@@ -16,7 +16,7 @@ use Rattle.job_inputs.specs.JoinedInputs.{AreUnitsIn, IsFoundIn, IsStreamIn}
 use Rattle.job_inputs.specs.declared.joined_inputs.Origin.{Origin}
 use Rattle.job_programs.specs.FoundUnits.{FitsQueue}
 
--- of streams and where they were found, one in its place
+-- A stream in its place, with its origin
 pub at_place : (P : Origin → TimedStreamView → Type 0) (os : List Origin) (ts : List TimedStreamView) (k : ℕ) (o : Origin) (t : TimedStreamView) →
     AllZip P os ts →
     slice_get os k ≡ Some o → slice_get ts k ≡ Some t → P o t

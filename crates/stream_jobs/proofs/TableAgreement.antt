@@ -1,4 +1,4 @@
--- Private tables that are the declared ones, one after another.
+-- Private tables that equal the declared tables, one after another
 use Rattle.std.proofs.Common.{◌≡◌, ℕ, zero, suc, true, Option, Some, None, List, [], ◌∷◌, slice_get, sym, refl, ap₂}
 use Rattle.description_parts.specs.Described.{DescribedEntry, DescribedTable}
 use Rattle.std.specs.Str.{bytes_eq}
@@ -28,7 +28,7 @@ same_entry (Some x) t e =
       sym (same_bytes x.descriptors t.descriptors after_program.1),
     ) refl
 
--- a table that passes the test is the declared one
+-- A table that passes the test is the declared table.
 pub table_is : (s : DescribedTable) (t : JobTableView) → is_table s t ≡ true → IsTable s t
 unfolding is_table
 table_is s t e =

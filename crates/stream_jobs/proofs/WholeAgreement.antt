@@ -1,4 +1,4 @@
--- A description that has the programs, the tables and the streams of an input, one after another.
+-- A description that has the programs, the tables and the streams of an input, one after another
 use Rattle.std.proofs.Common.{◌≡◌, true, length, sym}
 use Rattle.std.proofs.lemmas.Bool.{and_parts, eqb-true}
 use Rattle.description_parts.specs.Described.{Described}

@@ -150,7 +150,8 @@ pub fn units(alloc: Global, input: JobInput) -> Result<Vec<(u8, Unit)>, JobError
 // Returns the rate of the options, or otherwise the least rate at which every item has slots.
 fn rate_of(alloc: Global, draft: &DescriptionDraft<'_>) -> Result<u64, JobError>
     ensures rate { IfOk result (IsAskedOrFirst draft.now.options.now.rate draft.now.options.now draft.now.input.now) }
-    ensures refused { IfErr result (IsWhyNoReasons draft.now.options.now.rate draft.now.options.now draft.now.input.now) }
+    ensures refused { IfErr result
+        (IsWhyNoReasons draft.now.options.now.rate draft.now.options.now draft.now.input.now) }
 {
     let options = draft.options;
     match options.rate {

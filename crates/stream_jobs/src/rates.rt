@@ -187,7 +187,8 @@ pub(crate) fn first_plan(
     alloc: Global,
     draft: &DescriptionDraft<'_>,
 ) -> Result<PlannedDescription, JobError>
-    ensures planned { IfOk result (λ p. spec.IsPlanned draft.now.options.now draft.now.input.now p.rate p.plan.description (string_bytes p.text)) }
+    ensures planned { IfOk result (λ p.
+        spec.IsPlanned draft.now.options.now draft.now.input.now p.rate p.plan.description (string_bytes p.text)) }
     ensures tried { IfOk result (λ p. spec.IsTried draft.now.options.now draft.now.input.now p.rate) }
     ensures refused { IfErr result (IsWhyNoPlan None draft.now.options.now draft.now.input.now) }
 {
@@ -204,7 +205,8 @@ fn asked_plan(
     draft: &DescriptionDraft<'_>,
     rate: u64,
 ) -> Result<PlannedDescription, JobError>
-    ensures planned { IfOk result (λ p. spec.IsPlanned draft.now.options.now draft.now.input.now p.rate p.plan.description (string_bytes p.text)) }
+    ensures planned { IfOk result (λ p.
+        spec.IsPlanned draft.now.options.now draft.now.input.now p.rate p.plan.description (string_bytes p.text)) }
     ensures asked { IfOk result (λ p. p.rate ≡ rate) }
     ensures refused { IfErr result (IsWhyNoPlan (Some rate) draft.now.options.now draft.now.input.now) }
 {
@@ -219,8 +221,10 @@ pub(crate) fn plan_draft(
     alloc: Global,
     draft: &DescriptionDraft<'_>,
 ) -> Result<PlannedDescription, JobError>
-    ensures planned { IfOk result (λ p. spec.IsPlanned draft.now.options.now draft.now.input.now p.rate p.plan.description (string_bytes p.text)) }
-    ensures rate { IfOk result (λ p. spec.IsRate draft.now.options.now.rate draft.now.options.now draft.now.input.now p.rate) }
+    ensures planned { IfOk result (λ p.
+        spec.IsPlanned draft.now.options.now draft.now.input.now p.rate p.plan.description (string_bytes p.text)) }
+    ensures rate { IfOk result (λ p.
+        spec.IsRate draft.now.options.now.rate draft.now.options.now draft.now.input.now p.rate) }
     ensures refused { IfErr result (IsWhyNoPlan draft.now.options.now.rate draft.now.options.now draft.now.input.now) }
 {
     let options = draft.options;

@@ -1,4 +1,4 @@
--- PIDs given one after another.
+-- PIDs that are assigned one after another.
 use Rattle.std.proofs.Common.{◌≡◌, ◌≤◌, ◌<◌, ℕ, ◌+◌, List, [], ◌∷◌, ◌++◌, length, drop, get_or, append_assoc, refl, add-one, None, Some}
 use Rattle.std.proofs.Math.Seq.{drop-cons}
 use Rattle.std.proofs.lemmas.List.{drop_all}
@@ -6,7 +6,7 @@ use Rattle.stream_programs.specs.FreePids.{least_free}
 use Rattle.stream_programs.specs.PidAssignment.{assigned_map_pid, assigned_map_pids, with_pcr_pids}
 use Rattle.stream_programs.specs.declared.pid_assignment.ProgramPids.{ProgramPids}
 
--- 1. Those of maps
+-- 1. The PIDs of maps
 
 pub more_taken : (front given taken given_then taken_then : List ℕ) (pid : ℕ) → taken ≡ front ++ given → given_then ≡ given ++ pid ∷ [] →
     taken_then ≡ taken ++ pid ∷ [] → taken_then ≡ front ++ given_then
@@ -27,7 +27,7 @@ pub all_maps : (streams maps given : List ℕ) (i : ℕ) → length maps ≤ i �
 unfolding assigned_map_pids
 all_maps streams maps given i over = rw (drop_all i maps over) refl
 
--- 2. Those of clocks
+-- 2. The PIDs of clocks
 
 pub next_clock : (used used_then maps : List ℕ) (given given_then : List ProgramPids) (i clock : ℕ) → i < length maps → least_free 256 used ≡ Some clock →
     used_then ≡ used ++ clock ∷ [] → given_then ≡ given ++ record { map_pid = get_or maps i 0; pcr_pid = clock } ∷ [] →

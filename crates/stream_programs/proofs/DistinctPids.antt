@@ -1,4 +1,4 @@
--- PIDs of which none stands twice.
+-- Lists of PIDs without a repeated PID.
 use Rattle.std.proofs.Common.{◌≡◌, ◌≤◌, ◌<◌, ℕ, suc, ◌+◌, ◌==◌, ◌||◌, nat_eq, nat_le, nat_lt, Bool, true, false, if◌then◌else◌, List, [], ◌∷◌, ◌++◌, length}
 use Rattle.std.proofs.Common.{map, append_assoc, append-nil, Option, None, Some, refl, sym, subst, ap, ◌∙◌, inl, inr, arith}
 use Rattle.std.proofs.lemmas.Bool.{and_parts, cases_Bool, not-true, or_parts, leb-false, eqb-false, ne_eqb}
@@ -46,7 +46,7 @@ one_more pids pid h free is = record {
   apart = IsDistinct-push nat_eq_equiv pids pid h.apart (other_way pid pids free);
 }
 
--- neither of two is taken
+-- A PID that is not in two joined lists is in neither list.
 neither : (pid : ℕ) (xs ys : List ℕ) → is_taken pid (xs ++ ys) ≡ false → (is_taken pid xs ≡ false) × (is_taken pid ys ≡ false)
 unfolding is_taken
 neither pid xs ys free = or_parts (list_any (λ o. o == pid) xs) (list_any (λ o. o == pid) ys) (sym (list_any-append (λ o. o == pid) xs ys) ∙ free)
@@ -134,7 +134,7 @@ clocks_keep used given (m ∷ ms) out is =
     ∙ rw (map-append (λ (p : ProgramPids). p.map_pid) given (record { map_pid = m; pcr_pid = clock } ∷ []))
     (append_assoc (map (λ (p : ProgramPids). p.map_pid) given) (m ∷ []) ms))
 
--- 4. All
+-- 4. All PIDs
 
 permuted : (xs ys : List ℕ) → AreDistinctPids (xs ++ ys) → AreDistinctPids (ys ++ xs)
 permuted xs ys h =
@@ -198,7 +198,7 @@ kept_free found program type pid none = elim (cases_Bool (has_no_pes type)) [
   ]
 ]
 
--- one more stream before the sections
+-- The PIDs are still distinct if a new stream is inserted before the sections.
 one_before : (xs ys : List ℕ) (pid : ℕ) → AreDistinctPids ((xs ++ ys) ++ pid ∷ []) → AreDistinctPids ((xs ++ pid ∷ []) ++ ys)
 one_before xs ys pid h =
     let last : AreDistinctPids (xs ++ (ys ++ pid ∷ [])) = subst (λ (ps : List ℕ). AreDistinctPids ps) (append_assoc xs ys (pid ∷ [])) h in
@@ -215,7 +215,7 @@ none_is : (o : Option ℕ) → is_none o ≡ true → o ≡ None
 none_is None h = refl
 none_is (Some x) h = absurd (let no : ⊥ = cc in no)
 
--- sections that are kept beside the streams, or not
+-- Keeping a table's PID, or skipping it, keeps the PIDs distinct.
 placed_if : (b : Bool) (found : FoundProgramsView) (s : FoundStreamView) → can_place found s.pid ≡ b → AreDistinctPids (stream_pids found) →
     AreDistinctPids
     (map (λ (t : FoundStreamView). t.pid) found.streams ++ map (λ (t : FoundStreamView). t.pid) (if b then found.tables ++ s ∷ [] else found.tables))
@@ -235,7 +235,7 @@ table_kept : (found : FoundProgramsView) (s : FoundStreamView) → AreDistinctPi
 unfolding with_table
 table_kept found s h = placed_if (can_place found s.pid) found s refl h
 
--- a stream that is shared, or not
+-- Sharing a stream does not change the PIDs.
 shared_kept : (found : FoundProgramsView) (holder : ℕ) (s : FoundStreamView) → stream_pids (with_shared found holder s) ≡ stream_pids found
 unfolding with_shared
 shared_kept found holder s = ap (λ (ps : List ℕ). ps ++ map (λ (t : FoundStreamView). t.pid) found.tables) (shared_pids s.program s.pid found.streams)

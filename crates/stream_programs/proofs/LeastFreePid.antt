@@ -5,7 +5,7 @@ use Rattle.std.proofs.lemmas.Bool.{cases_Bool}
 use Rattle.std.specs.List.{find, range_with_len}
 use Rattle.stream_programs.specs.FreePids.{is_taken, AreTaken, IsLeastFree, least_free}
 
--- 1. The first of so many PIDs that is not taken
+-- 1. The first of n PIDs that is not taken
 
 abbrev first_free : List ℕ → ℕ → ℕ → Option ℕ
 first_free taken from n = find (λ pid. not (is_taken pid taken)) (range_with_len from n)
@@ -30,7 +30,7 @@ none taken zero from all = refl
 none taken (suc n) from all = past taken from n (all from (omega arith) (omega arith))
     ∙ none taken n (from + 1) (λ p a b. all p (omega (arith, a)) (omega (arith, b)))
 
--- the first of so many
+-- The PID is the first of n PIDs that is not taken.
 record IsFirst (taken : List ℕ) (from n pid : ℕ) : Type 0 where
   after : from ≤ pid
   below : pid < from + n
@@ -58,7 +58,7 @@ first_is taken (suc n) from pid is = elim (cases_Bool (is_taken from taken)) [
       (record { after = omega arith; below = omega arith; free = free; least = λ p after below. absurd (let no : ⊥ = omega (arith, after, below) in no) })
 ]
 
--- 2. As a relation and as a function
+-- 2. The relation and the function agree
 
 pub least_is : (from : ℕ) (taken : List ℕ) (pid : ℕ) → IsLeastFree from taken pid → Some pid ≡ least_free from taken
 unfolding least_free

@@ -1,4 +1,4 @@
--- Pairs of numbers, by which programs and streams that are gathered are looked up.
+-- Pairs of numbers, which are the keys of programs and streams.
 use Rattle.std.proofs.Common.{◌≡◌, ◌<◌, ℕ, ◌+◌, ◌*◌, ◌==◌, ◌||◌, ◌&&◌, nat_eq, cond, Bool, true, false, List, [], ◌∷◌, ◌++◌, Option, Some, None, refl, sym, ap}
 use Rattle.std.proofs.Common.{ap₂, ◌∙◌}
 use Rattle.std.specs.Prelude.{is_some}
@@ -98,7 +98,7 @@ or_both : (a b c : Bool) → (a || (b || c)) ≡ ((a || b) || c)
 or_both true b c = refl
 or_both false b c = refl
 
--- a stream, whether it is that of the PID, and the streams after it
+-- The first stream, whether or not it has the PID, and the later streams.
 shares_at : (own : Bool) (number pid n p : ℕ) (s : FoundStreamView) (ss : List FoundStreamView) → (s.pid == pid) ≡ own →
     (own ≡ false → shares (shared_by number pid ss) n p ≡ (shares ss n p || (pid == p && number == n))) →
     shares (cond own (with_sharer number s ∷ ss) (s ∷ shared_by number pid ss)) n p ≡ (shares (s ∷ ss) n p || (pid == p && number == n))
@@ -112,7 +112,7 @@ shares_at false number pid n p s ss own later =
     ap (λ (b : Bool). (s.pid == p && is_shared_with n s) || b) (later refl)
     ∙ or_both (s.pid == p && is_shared_with n s) (shares ss n p) (pid == p && number == n)
 
--- a holder after a stream that is not of the PID
+-- If the first stream does not have the PID, the holder is a later stream.
 held_later : (own : Bool) (x : ℕ) (o : Option ℕ) → is_some (cond own (Some x) o) ≡ true → own ≡ false → is_some o ≡ true
 held_later true x o held other = absurd cc
 held_later false x o held other = held
@@ -195,7 +195,7 @@ first_of : (a b : Bool) → (a && b) ≡ true → a ≡ true
 first_of true b e = refl
 first_of false b e = e
 
--- a stream that a program can share has a holder
+-- A stream that a program can share has a holder.
 pub held : (found : FoundProgramsView) (other pcr_pid : ℕ) (s : FoundStreamView) → can_share found other pcr_pid s ≡ true →
     is_some (holder s.pid found.streams) ≡ true
 unfolding can_share

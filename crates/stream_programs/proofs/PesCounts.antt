@@ -1,4 +1,4 @@
--- Counts of PES packets by PID, from the last finding to the first.
+-- The number of PES packets on each PID, counted from the last finding to the first.
 use Rattle.std.proofs.Common.{◌≡◌, ◌≢◌, ℕ, ◌+◌, ◌<◌, ◌≤◌, ◌==◌, ◌&&◌, zero, suc, cond, true, false, Bool, List, [], ◌∷◌, length, map, drop, get_or, Option}
 use Rattle.std.proofs.Common.{None, Some, refl, sym, ap, ◌∙◌, arith, inl, inr}
 use Rattle.std.specs.Prelude.{slice_set, slice_index, replicate}
@@ -9,7 +9,7 @@ use Rattle.demux.specs.Laws.{has_pid}
 use Rattle.stream_programs.specs.StrayPids.{is_pes, pes_count, pes_number}
 use Rattle.stream_programs.specs.PesCounts.{AreCounts, counted_on, counted_with, pes_pid}
 
--- 1. Counts of the findings from index i on
+-- 1. The counts of the findings from index i on
 
 pub record CountsFrom {X : Type 0} (view : X → FindingView) (counts : List ℕ) (i : ℕ) (fs : List X) : Type 0 where
   pub size : length counts ≡ 65_536
@@ -32,7 +32,7 @@ pub room_left : {X : Type 0} (view : X → FindingView) (counts : List ℕ) (i n
     (pid : ℕ) → pid < 65_536 → slice_index counts pid < n
 room_left view counts i n fs c some long pid below = omega (arith, (c.each pid below).1, some, long)
 
--- a PES packet of a PID, and of no other
+-- A PES packet is counted on its own PID only.
 own : (pid : ℕ) (p : Option ℕ) (b : Bool) (other : ℕ) → Some other ≡ cond b p None → pid ≡ other → ◌≡◌ {A = ℕ} (cond (has_pid pid p && b) 1 0) 1
 own pid None true other is e = absurd cc
 own pid None false other is e = absurd cc
@@ -67,7 +67,7 @@ of_none : (pid : ℕ) (f : FindingView) → None ≡ pes_pid f → pes_number pi
 unfolding pes_number pes_pid
 of_none pid f is = nothing pid f.pid (is_pes f.what) is
 
--- one finding before
+-- Counting one more finding, towards the front.
 before : {X : Type 0} (view : X → FindingView) (i j : ℕ) (fs : List X) (f : X) → i ≡ j + 1 → j < length fs → f ≡ get_or fs j f →
     map view (drop j fs) ≡ view f ∷ map view (drop i fs)
 before view i j fs f next inside at =

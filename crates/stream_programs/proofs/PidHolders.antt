@@ -1,4 +1,4 @@
--- The program of the stream that has a PID.
+-- The program that has the stream of a PID.
 use Rattle.std.proofs.Common.{◌≡◌, ◌≤◌, ◌<◌, ℕ, ◌+◌, ◌==◌, true, false, List, length, drop, get_or, Some, None, refl, sym, add-one}
 use Rattle.std.proofs.Math.Seq.{drop-cons}
 use Rattle.std.proofs.lemmas.List.{drop_all}

@@ -51,7 +51,7 @@ pub shared_end : (number pid k : ℕ) (ss : List FoundStreamView) → length ss 
 unfolding shared_by
 shared_end number pid k ss over so_far = sym (so_far ∙ rw (take_all k ss over, drop_all k ss over) (append-nil ss))
 
--- 2. Their PIDs stay
+-- 2. The PIDs of the streams do not change
 
 one_pid : (b : Bool) (number pid : ℕ) (s : FoundStreamView) (ss : List FoundStreamView) →
     map (λ (s : FoundStreamView). s.pid) (shared_by number pid ss) ≡ map (λ (s : FoundStreamView). s.pid) ss →

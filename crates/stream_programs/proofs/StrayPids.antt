@@ -1,4 +1,4 @@
--- PES packets of no program, finding by finding.
+-- PES packets without a program, finding by finding.
 use Rattle.std.proofs.Common.{◌≡◌, ◌≤◌, ◌<◌, ℕ, ◌+◌, List, ◌++◌, length, map, drop, get_or, refl}
 use Rattle.pid_findings.specs.Views.{FindingView}
 use Rattle.stream_programs.specs.StrayPids.{stray_pid, stray_pids}

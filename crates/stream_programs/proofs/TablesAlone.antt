@@ -1,4 +1,4 @@
--- Findings of other PIDs than a table's make no difference.
+-- A table depends only on findings on its own PID.
 use Rattle.std.proofs.Common.{◌≡◌, ℕ, false, List, [], ◌∷◌, ◌++◌, Option, Some, None, option_map, refl, sym, ap, ◌∙◌, inl, inr}
 use Rattle.std.specs.Option.{option_or}
 use Rattle.std.proofs.lemmas.Bool.{cases_Bool}
@@ -67,7 +67,7 @@ of_the_map p (f ∷ fs) = elim (cases_Bool (has_pid p.pid f.pid)) [
   | inr other ↦ rw (other, no_pmt p f other) (of_the_map p fs ∙ sym (or_none (program_map p fs)))
 ]
 
--- 3. All of them
+-- 3. All programs
 
 same_maps : (named : List Program) (found : FoundProgramsView) (one other : List FindingView) → SameOnMaps named one other →
     with_programs found named one ≡ with_programs found named other

@@ -55,7 +55,8 @@ impl<A: Allocator> Model for Gathered<A> {
       left_out = g.left_out.items;
     } };
 
-    ghost invariant = { λ g. ArePairs g.sharers.entries g.owners.entries g.clocks.entries g.streams.items g.programs.items };
+    ghost invariant = { λ g. ArePairs g.sharers.entries g.owners.entries g.clocks.entries
+        g.streams.items g.programs.items };
 }
 
 impl<A: Allocator> Gathered<A> {

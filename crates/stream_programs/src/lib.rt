@@ -3,8 +3,8 @@
 //! A program that the program association table names has the streams of its last map (`specs/Streams`,
 //! `specs/Programs`, `specs/NumberPairs`). Maps and PCRs are assigned PIDs that nothing else has
 //! (`specs/PidAssignment`); PES packets of no program are counted by PID (`specs/StrayPids`). The omissions of the
-//! tables are reported. The laws say that the findings of PID 0 and of the maps' PIDs alone decide, and that no two PIDs
-//! are equal.
+//! tables are reported. The laws say that the findings of PID 0 and of the maps' PIDs alone decide, and that no two
+//! PIDs are equal.
 #![tactic(auto)]
 
 mod free_pids;

@@ -20,13 +20,13 @@ pub struct PidList<A: Allocator> {
 // A contract sees the PIDs.
 impl<A: Allocator> Model for PidList<A> {
     ghost use Rattle.std.specs.Prelude.{List, ℕ};
-    ghost use Rattle.stream_programs.specs.PidLists.{TellsTaken};
+    ghost use Rattle.stream_programs.specs.PidLists.{MarksTaken};
 
     ghost Value = { List ℕ };
 
     ghost view = { λ l. l.pids.items };
 
-    ghost invariant = { λ l. TellsTaken l.taken l.pids.items };
+    ghost invariant = { λ l. MarksTaken l.taken l.pids.items };
 }
 
 impl<A: Allocator> PidList<A> {

@@ -1,4 +1,4 @@
--- The conditions of a second plan after a first one, in their order.
+-- The conditions of a second plan after a first plan, in order.
 use Rattle.std.specs.Prelude.{◌++◌, Option, Some, None}
 use Rattle.std.proofs.Common.{◌≡◌, refl, ap, sym, ◌∙◌}
 use Rattle.description_parts.specs.Described.{Described}
@@ -8,7 +8,7 @@ use Rattle.slot_plan.specs.Conditions.{entries}
 use Rattle.slot_plan.specs.SwitchConditions.{joint_entries, switch_entries}
 use Rattle.plan_checker.proofs.FailingSearch.{then_after}
 
--- a condition of the second plan alone fails
+-- If a condition of the second plan alone fails, it is the first condition that fails.
 pub second_fails : (d : Described) (first second : Planned) (e : Entry) → Some e ≡ first_failing (entries d second) →
     Some e ≡ first_failing (switch_entries d first second)
 second_fails d first second e some = some ∙ ap first_failing (sym same)
@@ -16,7 +16,7 @@ second_fails d first second e some = some ∙ ap first_failing (sym same)
     same : switch_entries d first second ≡ entries d second
     same = rw (← some) refl
 
--- none does: those of the two together follow
+-- If all conditions of the second plan hold, the joint conditions decide.
 pub second_serves : (d : Described) (first second : Planned) (r : Option Entry) → None ≡ first_failing (entries d second) →
     r ≡ first_failing (joint_entries d first second) →
     r ≡ first_failing (switch_entries d first second)

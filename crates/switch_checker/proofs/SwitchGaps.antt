@@ -1,4 +1,4 @@
--- Gaps across a switch, walked forward.
+-- Gaps across a switch, measured forward.
 use Rattle.std.proofs.Common.{◌≡◌, ℕ, suc, ◌+◌, ◌-◌, ◌*◌, ◌<◌, ◌≤◌, Bool, List, length, ap, ◌∙◌, arith, le_antisymm}
 use Rattle.std.proofs.Math.Nat.{mul-le-mul_left}
 use Rattle.own_slots.specs.Period.{per_period, position, back}
@@ -11,11 +11,11 @@ use Rattle.slot_plan.specs.Items.{marks}
 use Rattle.slot_plan.specs.SwitchConditions.{gap_across}
 use Rattle.plan_checker.proofs.OwnMarks.{length_marks}
 
--- the gap that ends in the second plan's own slot number t
+-- The gap that ends at own slot number t of the second plan.
 abbrev pub gap_after : List Bool → List Bool → ℕ → ℕ → ℕ
 gap_after first second k t = position second t + back first (k - t)
 
--- as the condition counts it, back from the switch
+-- The same gap as the condition counts it, backward from the switch.
 abbrev gap_before : List Bool → List Bool → ℕ → ℕ → ℕ
 gap_before first second k x = position second (k - suc x) + back first (suc x)
 
@@ -36,7 +36,7 @@ walked_forward first second k = le_antisymm
     backward : (x t : ℕ) → x < k → t + suc x ≡ k → gap_before first second k x ≤ greatest k (gap_after first second k)
     backward x t lt e = omega (arith, one_gap first second k t x e, at_most_greatest k (gap_after first second k) t (omega arith))
 
--- the first plan's own slot, from the end of k periods
+-- An own slot of the first plan, counted back from the end of k periods.
 pub before_switch : (marks : List Bool) (k t : ℕ) → 0 < per_period marks → t < k →
     position marks (k * per_period marks - k + t) + back marks (k - t) ≡ k * length marks
 before_switch marks k t pos lt =
@@ -44,14 +44,14 @@ before_switch marks k t pos lt =
     let e : k * per_period marks - k + t ≡ k * per_period marks - (k - t) = omega (arith, long) in
     ap (λ (n : ℕ). position marks n + back marks (k - t)) e ∙ back_spec marks (k - t) k pos (omega arith) (omega (arith, long))
 
--- ---- at a plan's slots
+-- The slots of plans
 
--- the first plan's own slots before the switch are before it
+-- The last k own slots of the first plan are before the switch.
 pub before_end : (item : Item) (slots : List Slot) (k t : ℕ) → 0 < per_period (marks item slots) → t < k →
     position (marks item slots) (k * per_period (marks item slots) - k + t) ≤ k * length slots
 before_end item slots k t pos lt = omega (arith, before_switch (marks item slots) k t pos lt, ap (λ (n : ℕ). k * n) (length_marks item slots))
 
--- the gap that the walk measures
+-- The gap that the loop measures.
 pub gap_here : (item : Item) (first second : List Slot) (k t before after : ℕ) →
     before ≡ position (marks item first) (k * per_period (marks item first) - k + t) → after ≡ position (marks item second) t →
     0 < per_period (marks item first) → t < k → after + (k * length first - before) ≡ gap_after (marks item first) (marks item second) k t

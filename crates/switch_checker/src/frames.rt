@@ -73,7 +73,8 @@ fn framed_switches<A: Allocator>(
     requires index { i < 32 }
     requires ranges { IsStream stream.now }
     ensures { search_of search.new ≡ after (search_of search.old) (entries_from (frame_switch_entry
-        plans.now.description.now plans.now.first.now plans.now.second.now i stream.now framing) 1 (framing.frames - 1)) }
+        plans.now.description.now plans.now.first.now plans.now.second.now i stream.now framing) 1
+        (framing.frames - 1)) }
 {
     let others = framing.frames.saturating_sub(1);
     for before in 0..others {

@@ -57,7 +57,8 @@ fn lead_switch<A: Allocator>(
     requires ranges { IsStream stream.now }
     ensures { search_of search.new ≡ after (search_of search.old) (if_changed
         plans.now.description.now plans.now.first.now plans.now.second.now i
-        (entries_from (lead_switch_entry plans.now.description.now plans.now.first.now plans.now.second.now i stream.now)
+        (entries_from (lead_switch_entry plans.now.description.now plans.now.first.now
+        plans.now.second.now i stream.now)
         1 (allowance_rows stream.now.allowance))) }
 {
     if continues(plans, i) {
@@ -254,7 +255,8 @@ fn deadline(
     requires next_spread { shares.second.spread < 2 ^ 33 }
     requires positive { 0 < units }
     requires units { units ≤ allowance_rows stream.now.allowance }
-    ensures { search_of search.new ≡ after (search_of search.old) (deadline_entry condition rate drain shares i stream.now units ∷ []) }
+    ensures { search_of search.new
+        ≡ after (search_of search.old) (deadline_entry condition rate drain shares i stream.now units ∷ []) }
 {
     let packets = packets_in_row(stream, units);
     let count = shares.first.count as u128 * shares.second.count as u128;

@@ -40,7 +40,8 @@ fn work_switch(
     requires drain { drain ≤ 200000000 }
     requires start { start < 10 ^ 18 }
     ensures { search_of search.new
-        ≡ after (search_of search.old) (work_switch_entry number rate drain start (marks item slots.now) next_start ∷ []) }
+        ≡ after (search_of search.old)
+        (work_switch_entry number rate drain start (marks item slots.now) next_start ∷ []) }
 {
     let left = work_of(slots, item, rate, drain, start).left;
     at_most(

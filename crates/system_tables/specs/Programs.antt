@@ -112,11 +112,11 @@ entered arrival index pid p = if is_of index pid p then with_packet arrival inde
 abbrev pub all_of : ℕ → TableBuffer → List Excess → List TableExcess
 all_of program buffer excesses = map (λ e. record { program = program; buffer = buffer; excess = e }) excesses
 
-abbrev pub told : ℕ → List Excess → List Excess → List TableExcess
-told program transport system = all_of program Transport transport ++ all_of program System system
+abbrev pub reported : ℕ → List Excess → List Excess → List TableExcess
+reported program transport system = all_of program Transport transport ++ all_of program System system
 
 abbrev pub excesses_in : Arrival → ℕ → ℕ → ProgramState → List TableExcess
-excesses_in arrival index pid p = if is_of index pid p then told p.number (transport_in arrival index p) (system_in arrival index p) else []
+excesses_in arrival index pid p = if is_of index pid p then reported p.number (transport_in arrival index p) (system_in arrival index p) else []
 
 -- 3. The programs of the first tables, once these are known
 

@@ -173,7 +173,8 @@ impl ProgramTables {
     ) -> Result<EndedExcesses, AllocError>
         requires { index ≤ 5848000000 }
         ensures program { OnOk result (self.new ≡ spec.with_packet arrival.now index self.old) }
-        ensures transport { IfOk result (λ ended. ended.transport.items ≡ spec.transport_in arrival.now index self.old) }
+        ensures transport { IfOk result (λ ended. ended.transport.items
+            ≡ spec.transport_in arrival.now index self.old) }
         ensures system { IfOk result (λ ended. ended.system.items ≡ spec.system_in arrival.now index self.old) }
     {
         let mut ended = EndedExcesses::new(alloc);

@@ -46,7 +46,7 @@ pub(crate) fn append_ended(
     ended: &EndedExcesses,
 ) -> Result<(), AllocError>
     ensures { OnOk result (all.new.items
-        ≡ all.old.items ++ spec.told program ended.now.transport.items ended.now.system.items) }
+        ≡ all.old.items ++ spec.reported program ended.now.transport.items ended.now.system.items) }
 {
     append(all, program, TableBuffer::Transport, &ended.transport)?;
     append(all, program, TableBuffer::System, &ended.system)

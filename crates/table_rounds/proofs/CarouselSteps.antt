@@ -1,4 +1,4 @@
--- From own slot to own slot the state gives what the table carries by its slots' numbers.
+-- From own slot to own slot, the state contains the values of the table, by the numbers of its slots.
 use Rattle.std.proofs.Common.{◌≡◌, ℕ, suc, ◌+◌, ◌*◌, ◌/◌, ◌%◌, ◌<◌, ◌==◌, Bool, true, false, cond, nat_lt, List, [], ◌∷◌, length, take, map, sum_by}
 use Rattle.std.proofs.Common.{slice_index_or, Option, Some, None, is_some, refl, ap, sym, subst, ◌∙◌, arith, inl, inr, eq-eqb, lt-ltb, le-ltb}
 use Rattle.std.proofs.lemmas.Bool.{cases_lt, ne_eqb}
@@ -14,7 +14,7 @@ use Rattle.table_rounds.specs.Tables.{Table, SectionPlace, round_places, place_i
 use Rattle.table_rounds.specs.Tables.{one_if_some, payloads_before}
 use Rattle.table_rounds.specs.Carousels.{Carousel, CarouselHolds, moment_now, begun, section_advanced, advanced, counted}
 use Rattle.table_rounds.specs.Laws.{HasPlaces, IsSourceOf, FirstCarouselLaw, TableSlotLaw, OtherTableSlotLaw}
-use Rattle.table_rounds.proofs.Places.{Stands, stands, place_first}
+use Rattle.table_rounds.proofs.Places.{NumberedPlace, numbered_place, place_first}
 
 round_at : (own : ℕ → Bool) (k s : ℕ) → own s ≡ true → own_before own s % k ≡ 0 → round_before own k (suc s) ≡ s
 unfolding round_before
@@ -31,12 +31,12 @@ round_other : (own : ℕ → Bool) (k s : ℕ) → own s ≡ false → round_bef
 unfolding round_before
 round_other own k s n = rw n refl
 
--- a round that has a place has a section
+-- A round with a place has a section.
 has_section : (ls : List ℕ) → 0 < round_places ls → 0 < length ls
 has_section [] some = absurd (omega (arith, some))
 has_section (l ∷ ls) some = omega arith
 
--- before slot 0
+-- The state before slot 0
 pub first_carousel_holds : FirstCarouselLaw
 unfolding own_before payloads_before
 first_carousel_holds table some = record {
@@ -53,7 +53,7 @@ first_carousel_holds table some = record {
     zero_place : 0 % round_places table.lengths ≡ 0
     zero_place = mod-eq_of_lt some
 
--- in another slot
+-- The state after a slot that is not the table's own
 pub other_slot : OtherTableSlotLaw
 unfolding payloads_before
 other_slot table s carousel n h =
@@ -73,7 +73,8 @@ other_slot table s carousel n h =
       counter = h.counter ∙ ap (λ (i : ℕ). i % 256) (sym count);
     }
 
--- at an own slot, before its place is counted: the place, the round's moment, the section's bytes, and the payloads with that of the slot
+-- The state at an own slot before its place is counted: the place, the moment of the round, the bytes of the section, and the number of payloads,
+-- this slot's payload included
 record Ready (table : Table) (s : ℕ) (b : Carousel) : Type 0 where
   pid : b.pid ≡ table.pid
   rate : b.rate ≡ table.rate
@@ -84,7 +85,7 @@ record Ready (table : Table) (s : ℕ) (b : Carousel) : Type 0 where
   bytes : b.bytes ≡ table.bytes b.section (moment_before table (suc s))
   counter : b.counter ≡ payloads_before table (suc s) % 256
 
--- the state at the place that comes next
+-- The state at the next place
 placed : (table : Table) (s section part : ℕ) (b : Carousel) → Ready table s b → place_at table (suc s) ≡ record { section = section; part = part } →
     (0 < part → section ≡ b.section)
     → CarouselHolds table (suc s) (record b { section = section; part = part })
@@ -134,8 +135,8 @@ next_holds table s b some y r = elim (cases_lt (b.part + 1) (slice_index_or b.pa
     i : ℕ
     i = own_before table.own s
 
-    st : Stands 0 table.lengths (i % k)
-    st = stands 0 table.lengths (i % k) (mod_below i k some)
+    st : NumberedPlace 0 table.lengths (i % k)
+    st = numbered_place 0 table.lengths (i % k) (mod_below i k some)
 
     section : 0 + st.i ≡ b.section
     section = ap (λ (p : SectionPlace). p.section) (sym st.place ∙ r.place)
@@ -165,11 +166,11 @@ next_holds table s b some y r = elim (cases_lt (b.part + 1) (slice_index_or b.pa
         ∙ ap (place_in 0 table.lengths) (sym (mod-add-mod i k 1) ∙ ap (λ (n : ℕ). n % k) e ∙ mod_self k)
         ∙ place_first 0 table.lengths (has_section table.lengths some)
 
--- a state with this moment and bytes
+-- The state with this moment and these bytes
 abbrev made : Carousel → ℕ → List ℕ → Carousel
 made carousel moment bytes = record carousel { moment = moment; bytes = bytes }
 
--- at an own slot the round's moment and the section's bytes are as the table has them
+-- At an own slot the state has the moment of the round and the bytes of the section.
 begun_is : (table : Table) (s : ℕ) (source : ℕ → ℕ → List ℕ) (carousel : Carousel) → HasPlaces table → IsSourceOf table source → table.own s ≡ true →
     CarouselHolds table s carousel
     → begun source s carousel ≡ made carousel (moment_before table (suc s)) (table.bytes carousel.section (moment_before table (suc s)))
@@ -195,8 +196,8 @@ begun_is table s source carousel some is y h = elim (cases_lt 0 carousel.part) [
     i : ℕ
     i = own_before table.own s
 
-    st : Stands 0 table.lengths (i % k)
-    st = stands 0 table.lengths (i % k) (mod_below i k some)
+    st : NumberedPlace 0 table.lengths (i % k)
+    st = numbered_place 0 table.lengths (i % k) (mod_below i k some)
 
     section : 0 + st.i ≡ carousel.section
     section = ap (λ (p : SectionPlace). p.section) (sym st.place ∙ h.place)
@@ -240,7 +241,7 @@ begun_is table s source carousel some is y h = elim (cases_lt 0 carousel.part) [
           ∙ ap (moment_of table) (sym (round_at table.own k s y zero_place))
     ]
 
--- the slot's payload is counted
+-- The payload of the slot is counted.
 ready : (table : Table) (s : ℕ) (carousel : Carousel) (o : Option Piece) → table.own s ≡ true → CarouselHolds table s carousel → part_at table s ≡ o
     → Ready table s (counted (is_some o) (made carousel (moment_before table (suc s)) (table.bytes carousel.section (moment_before table (suc s)))))
 unfolding payloads_before
@@ -275,7 +276,7 @@ ready table s carousel (Some p) y h e =
           omega (arith, h.counter, more);
     }
 
--- a number and its counter modulo 256 make one packet
+-- A number, and its counter modulo 256, give the same packet.
 same_packet : (pid number counter : ℕ) (o : Option Piece) → counter ≡ number % 256 →
     packet_of (part_content pid counter o) ≡ packet_of (part_content pid number o)
 unfolding part_content packet_of

@@ -1,4 +1,4 @@
--- What is read of a table in the finished bytes.
+-- The sections of a table in the finished bytes.
 use Rattle.std.proofs.Common.{◌≡◌, ℕ, zero, suc, ◌+◌, ◌*◌, ◌%◌, ◌<◌, ◌==◌, nat_lt, Bool, true, false, cond, List, [], ◌∷◌, length, map, slice_get, Option, Some}
 use Rattle.std.proofs.Common.{None, refl, ap, sym, subst, ◌∙◌, arith, inl, inr, eq-eqb, lt-ltb, le-ltb, ◌-◌, ◌^◌, min, take, drop, replicate}
 use Rattle.std.proofs.lemmas.Bool.{cases_Bool, cases_lt, false≢true}
@@ -14,7 +14,7 @@ use Rattle.table_rounds.specs.Parts.{filled, part_of, part_content}
 use Rattle.table_rounds.specs.Tables.{Table, SectionPlace, place_at, bytes_at, part_at, one_if_some, payloads_before}
 use Rattle.table_rounds.specs.Payloads.{TableIsAlone, TableCarriedLaw, FirstPartLaw, PartFitsLaw}
 
--- what is not of a PID is no payload there, and has no number there
+-- A slot of another PID has no payload and no number on this PID.
 silent : (pid s number : ℕ) (c : Content) → is_of_pid pid (view_of c) ≡ false → (payload_in pid s c ≡ []) × HasNumber pid c number
 unfolding view_of
 silent pid s number (PayloadContent other n start payload) e = elim (cases_Bool (other == pid)) [
@@ -27,13 +27,13 @@ silent pid s number (PcrContent other pcr) e = elim (cases_Bool (other == pid)) 
 ]
 silent pid s number NullContent e = (refl, tt)
 
--- a part in a slot is a payload there, of its number
+-- A part in a slot is a payload with its number.
 spoken : (pid s number : ℕ) (o : Option Piece) → (payload_in pid s (part_content pid number o) ≡ put s o) × HasNumber pid (part_content pid number o) number
 unfolding part_content
 spoken pid s number None = (refl, tt)
 spoken pid s number (Some p) = let e : (pid == pid) ≡ true = eq-eqb pid pid refl in (rw e refl, λ y. refl)
 
--- as many payloads as parts
+-- A slot has as many payloads as parts.
 put_length : (s : ℕ) (o : Option Piece) → length (put s o) ≡ one_if_some o
 put_length s None = refl
 put_length s (Some p) = refl
@@ -106,7 +106,7 @@ first_part table s j e =
     let there : part_of bytes 0 ≡ Some (record { start = start_by true false; bytes = take 184 (drop (184 * 0) (filled bytes)) }) = rw some refl in
     (record { start = start_by true false; bytes = take 184 (drop (184 * 0) (filled bytes)) }, first ∙ there, refl)
 
--- without a start for a decoder a payload has 184 bytes
+-- A payload has 184 bytes if no decoder can start at it.
 plain_room : (b : Bool) → room_of (start_by b false) ≡ 184
 plain_room true = refl
 plain_room false = refl

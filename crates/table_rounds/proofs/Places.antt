@@ -7,7 +7,7 @@ use Rattle.table_rounds.specs.Parts.{places_of}
 use Rattle.table_rounds.specs.Tables.{round_places, place_in}
 use Rattle.table_rounds.specs.Laws.{first_place, PlaceLaw, PlaceFoundLaw}
 
--- the first place of a round
+-- The first place of a round
 pub place_first : (j : ℕ) (ls : List ℕ) → 0 < length ls → place_in j ls 0 ≡ record { section = j; part = 0 }
 unfolding place_in
 place_first j [] some = absurd (omega (arith, some))
@@ -24,8 +24,8 @@ place_after j l ls n m e =
     let g : n - places_of l ≡ m = omega arith in
     rw (f, g) refl
 
--- the place of number n: its section counts i from j on, and what comes next
-pub record Stands (j : ℕ) (ls : List ℕ) (n : ℕ) : Type 0 where
+-- The place with number n: the number of its section, counted from j on, and the next place
+pub record NumberedPlace (j : ℕ) (ls : List ℕ) (n : ℕ) : Type 0 where
   pub i : ℕ
   pub q : ℕ
   pub place : place_in j ls n ≡ record { section = j + i; part = q }
@@ -44,7 +44,7 @@ some_round : (ls : List ℕ) → 0 < length ls → 0 < round_places ls
 some_round [] some = absurd (omega (arith, some))
 some_round (l ∷ ls) some = omega (arith, round_more l ls)
 
-here : (j l : ℕ) (ls : List ℕ) (n : ℕ) → n < places_of l → Stands j (l ∷ ls) n
+here : (j l : ℕ) (ls : List ℕ) (n : ℕ) → n < places_of l → NumberedPlace j (l ∷ ls) n
 here j l ls n lt = record {
   i = 0;
   q = n;
@@ -73,7 +73,7 @@ here j l ls n lt = record {
     ends [] m none = let z : round_places (l ∷ []) ≡ places_of l + 0 = round_more l [] in omega (arith, m, z)
     ends (k ∷ ks) m none = absurd (omega (arith, none))
 
-further : (j l : ℕ) (ls : List ℕ) (n m : ℕ) → n ≡ places_of l + m → Stands (suc j) ls m → Stands j (l ∷ ls) n
+further : (j l : ℕ) (ls : List ℕ) (n m : ℕ) → n ≡ places_of l + m → NumberedPlace (suc j) ls m → NumberedPlace j (l ∷ ls) n
 further j l ls n m e s = record {
   i = suc s.i;
   q = s.q;
@@ -101,14 +101,15 @@ further j l ls n m e s = record {
     same : suc j + s.i ≡ j + suc s.i
     same = omega arith
 
-pub stands : (j : ℕ) (ls : List ℕ) (n : ℕ) → n < round_places ls → Stands j ls n
-stands j [] n lt = absurd (omega (arith, lt))
-stands j (l ∷ ls) n lt = elim (cases_lt n (places_of l)) [
+pub numbered_place : (j : ℕ) (ls : List ℕ) (n : ℕ) → n < round_places ls → NumberedPlace j ls n
+numbered_place j [] n lt = absurd (omega (arith, lt))
+numbered_place j (l ∷ ls) n lt = elim (cases_lt n (places_of l)) [
   | inl inside ↦ here j l ls n inside
-  | inr after ↦ further j l ls n (n - places_of l) (omega (arith, after)) (stands (suc j) ls (n - places_of l) (omega (arith, lt, after, round_more l ls)))
+  | inr after ↦ further j l ls n (n - places_of l) (omega (arith, after))
+      (numbered_place (suc j) ls (n - places_of l) (omega (arith, lt, after, round_more l ls)))
 ]
 
--- the places of a section in a list of places
+-- The number of places of a section, in the list of these numbers
 pub places_listed : (ls : List ℕ) (i : ℕ) → i < length ls → slice_index_or (map places_of ls) i 0 ≡ places_of (slice_index_or ls i 0)
 places_listed [] i lt = absurd (omega (arith, lt))
 places_listed (l ∷ ls) zero lt = refl
@@ -134,7 +135,7 @@ place_law lengths j q lt part =
 
 pub place_found : PlaceFoundLaw
 place_found lengths n lt =
-    let s = stands 0 lengths n lt in
+    let s = numbered_place 0 lengths n lt in
     let e : 0 + s.i ≡ s.i = omega arith in
     let f : place_in 0 lengths n ≡ record { section = s.i; part = s.q } = s.place ∙ ap (λ (i : ℕ). record { section = i; part = s.q }) e in
     let g : slice_index_or (map places_of lengths) s.i 0 ≡ places_of (slice_index_or lengths s.i 0) = places_listed lengths s.i s.section in

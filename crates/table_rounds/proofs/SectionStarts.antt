@@ -1,4 +1,4 @@
--- The packets in which sections begin.
+-- The packets that begin sections.
 use Rattle.std.proofs.Common.{◌≡◌, ℕ, zero, suc, ◌+◌, ◌*◌, ◌%◌, ◌<◌, ◌≤◌, nat_lt, nat_eq, Bool, true, false, cond, List, [], ◌∷◌, ◌++◌, length, map, take, drop}
 use Rattle.std.proofs.Common.{slice_get, Option, Some, None, refl, ap, sym, ◌∙◌, arith, inl, inr, lt-ltb}
 use Rattle.std.proofs.lemmas.Bool.{cases_Bool, cases_eq, eqb-true, false≢true}
@@ -16,7 +16,7 @@ use Rattle.table_rounds.specs.Payloads.{BeginsLaw}
 use Rattle.table_rounds.proofs.Places.{place_law}
 use Rattle.table_rounds.proofs.CarriedBytes.{table_carried}
 
--- an own slot that is a section's first place
+-- An own slot at the first place of a section
 starts_own : (own : ℕ → Bool) (k place s : ℕ) → starts own k place s ≡ true → (own s ≡ true) × (own_before own s % k ≡ place)
 starts_own own k place s e = elim (cases_Bool (own s)) [
   | inl y ↦
@@ -34,7 +34,7 @@ begins_at table j s lt e =
 payload : ℕ → Piece → Payload
 payload s p = record { index = s; start = p.start; bytes = p.bytes }
 
--- where a number of the list stands after what is put before it
+-- The place of a list element after a payload is put in front of the list
 after : (t : ℕ) (o : Option Piece) (xs : List Payload) (i : ℕ) (x : Payload) → slice_get xs i ≡ Some x → (k : ℕ) × (slice_get (put t o ++ xs) k ≡ Some x)
 after t None xs i x e = (i, e)
 after t (Some p) xs i x e = (suc i, e)
@@ -60,13 +60,13 @@ found table from (suc n) s p le lt y e = elim (cases_eq from s) [
     further : (from ≡ s → ⊥) → suc from ≤ s
     further other = omega (arith, le, other)
 
--- an element of the list, whose payload this is
+-- An entry of the list with this payload
 of_map : (es : List Entry) (i : ℕ) (x : Payload) → slice_get (map payload_at es) i ≡ Some x → (e : Entry) × (slice_get es i ≡ Some e) × (payload_at e ≡ x)
 of_map [] i x f = absurd (cc)
 of_map (e ∷ es) zero x f = let same : payload_at e ≡ x = cc in (e, refl, same)
 of_map (e ∷ es) (suc i) x f = of_map es i x f
 
--- the start indicator of a packet is that of what begins with its payload
+-- The start indicator of a packet indicates whether something begins with its payload.
 pub start_indicated : (packet : PacketView) → is_start (start_in packet) ≡ packet.header.payload_unit_start_indicator
 start_indicated packet = by_both packet.header.payload_unit_start_indicator (has_access packet.adaptation) where
   by_both : (b access : Bool) → is_start (start_by b access) ≡ b

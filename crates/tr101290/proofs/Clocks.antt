@@ -1,4 +1,4 @@
--- The clock that is kept.
+-- The state of the clock is the state after all samples.
 use Rattle.std.proofs.Common.{[], ◌∷◌, refl, ap}
 use Rattle.arrival.specs.Clock.{ClockState, state_of, state_after}
 use Rattle.tr101290.specs.PcrLaws.{ClockLaw, watch_of}

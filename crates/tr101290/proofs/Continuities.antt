@@ -1,4 +1,4 @@
--- The continuity errors of a PID are those of its own packets.
+-- The continuity errors of a PID are the errors of its own packets.
 use Rattle.std.proofs.Common.{◌≡◌, ◌∙◌, ℕ, ◌==◌, Bool, true, false, cond, nat_eq, List, [], ◌∷◌, filter, Option, Some, None, true≢false, refl, sym, ap, subst}
 use Rattle.std.proofs.Common.{arith}
 use Rattle.std.specs.Prelude.{option_map, unwrap_or}
@@ -29,7 +29,7 @@ turned_test a b = by (a == b) (b == a) refl refl
     by true false p q = absurd (grind (arith, nat_tests))
     by false true p q = absurd (grind (arith, nat_tests))
 
--- the last packet of a PID after another's is kept
+-- The last packet of a PID after an insert for PID q
 found : (pid q : ℕ) (x : Option LastView) (es : Lasts) (t : Bool) → (q == pid) ≡ t →
     lookup (nat_eq pid) (insert_entry nat_eq es q x) ≡ cond t (Some x) (lookup (nat_eq pid) es)
 found pid q x [] t e = rw (turned_test pid q ∙ e) refl
@@ -54,7 +54,7 @@ of_pid pid e = e.pid == pid
 abbrev from_pid : ℕ → Entry → Bool
 from_pid pid entry = entry.packet.header.pid == pid
 
--- an error of the PID stays, and one of another goes
+-- The filter for a PID keeps an error of this PID and drops an error of another PID.
 stays : (pid packet : ℕ) (o : Option (ℕ × ℕ)) (es : List ContinuityError) →
     filter (of_pid pid) (before_if (option_map (error_of pid packet) o) es) ≡ before_if (option_map (error_of pid packet) o) (filter (of_pid pid) es)
 unfolding before_if
@@ -71,7 +71,7 @@ none : (pid : ℕ) (es : List ContinuityError) → filter (of_pid pid) (before_i
 unfolding before_if
 none pid es = refl
 
--- 1. A packet of the PID, a packet of another, and a null packet
+-- 1. A packet of the PID, a packet of another PID, and a null packet
 
 null_after : (lasts : Lasts) (entry : Entry) → (entry.packet.header.pid == 8191) ≡ true → after lasts entry ≡ lasts
 unfolding after

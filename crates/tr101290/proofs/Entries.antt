@@ -1,4 +1,4 @@
--- The entry of a key is that of its own sections.
+-- The entry of a key has the places of the key's own sections.
 use Rattle.std.proofs.Common.{◌≡◌, ◌∙◌, ℕ, ◌-◌, ◌*◌, ◌==◌, Bool, true, false, cond, nat_eq, nat_lt, List, [], ◌∷◌, filter, Option, Some, None, refl, ap, subst}
 use Rattle.std.proofs.Common.{arith}
 use Rattle.std.specs.Prelude.{max}
@@ -24,7 +24,7 @@ turned_test a b = by (a == b) (b == a) refl refl
     by true false p q = absurd (grind (arith, nat_tests))
     by false true p q = absurd (grind (arith, nat_tests))
 
--- a key's entry after another's is inserted
+-- The entry of a key after an insert for key k
 found : (key k : ℕ) (x : SectionPlaces) (es : List (ℕ × SectionPlaces)) (t : Bool) → (k == key) ≡ t →
     lookup (nat_eq key) (insert_entry nat_eq es k x) ≡ cond t (Some x) (lookup (nat_eq key) es)
 found key k x [] t e = rw (turned_test key k ∙ e) refl
@@ -77,7 +77,7 @@ part_law timing key (s ∷ earlier) = by s.part (part_law timing key earlier)
         (part_key s p == key) refl
         ∙ test p (part_key s p == key) refl rest
 
--- the greater of two
+-- The greater of two numbers
 greater : (a b : ℕ) → cond (nat_lt a b) b a ≡ max b a
 greater a b = by (nat_lt a b) refl
   where

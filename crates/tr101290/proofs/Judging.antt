@@ -1,4 +1,4 @@
--- What is given of accuracy errors over a whole stream.
+-- The accuracy errors that the judge returns over a whole stream.
 use Rattle.std.proofs.Common.{◌≡◌, ◌∙◌, sym, ℕ, Bool, true, false, cond, List, [], ◌∷◌, ◌++◌, refl, ap, ap₂, append_assoc, append-nil}
 use Rattle.tr101290.specs.declared.rate_judge.PidError.{PidError}
 use Rattle.tr101290.specs.declared.report.PcrReport.{PcrReport}
@@ -7,12 +7,12 @@ use Rattle.tr101290.specs.RateJudges.{JudgeState, after_all, all_errors, error_l
 use Rattle.tr101290.specs.RateJudges.{settled, taken, varies, with_report}
 use Rattle.tr101290.specs.PcrLaws.{JudgedFrom, JudgeLaw}
 
--- errors that count, one list after another
+-- The errors of two lists, if they count, are the errors of the joined list.
 both : (v : Bool) (a b : List PidError) → cond v [] a ++ cond v [] b ≡ cond v [] (a ++ b)
 both true a b = refl
 both false a b = refl
 
--- once it is decided nothing changes
+-- After the judge has decided, its state does not change.
 same : (s : JudgeState) (r : ℕ × PcrReport) → is_decided s ≡ true → taken s r.0 r.1 ≡ s
 same s r d = rw d refl
 
@@ -24,7 +24,7 @@ unfolding after_all
 stays s [] d = refl
 stays s (r ∷ rs) d = ap (λ (t : JudgeState). after_all t rs) (same s r d) ∙ stays s rs d
 
--- and each error is given, or none
+-- After that, the judge returns each error or none.
 decided : (s : JudgeState) (rs : List (ℕ × PcrReport)) → is_decided s ≡ true → s.held ≡ [] → errors_all s rs ++ last_errors s ≡ if_constant s (all_errors rs)
 unfolding errors_all all_errors
 decided s [] d none = ap (if_constant s) none
@@ -35,7 +35,7 @@ decided s (r ∷ rs) d none =
     ∙ ap (λ (l : List PidError). if_constant s e ++ l) (decided s rs d none)
     ∙ both (varies s) e (all_errors rs)
 
--- 2. Before
+-- 2. Before the judge has decided
 
 waits : (s : JudgeState) (r : ℕ × PcrReport) → is_decided s ≡ false → is_decided (with_report s r.0 r.1) ≡ false → taken s r.0 r.1 ≡ with_report s r.0 r.1
 waits s r d q = rw (d, q) refl

@@ -1,4 +1,4 @@
--- Which PIDs are in the lists.
+-- The members of the lists of PIDs.
 use Rattle.std.proofs.Common.{◌≡◌, ◌∙◌, sym, ℕ, ◌==◌, Bool, true, false, cond, List, [], ◌∷◌, ◌++◌, map, refl, ap, subst, arith}
 use Rattle.std.specs.Prelude.{◌&&◌, ◌||◌, not}
 use Rattle.std.proofs.lemmas.Bool.Decides.{nat_tests}
@@ -16,7 +16,7 @@ or_false false = refl
 
 -- 1. PIDs with packets
 
--- one that is told where a test says so
+-- A list that has k if a test is true has q as a member if q is k and the test is true.
 one : (t : Bool) (k q : ℕ) → is_among q (cond t (k ∷ []) []) ≡ (k == q) && t
 one true k q = by (k == q)
   where
@@ -32,8 +32,8 @@ one false k q = by (k == q)
 abbrev has_to : List ℕ → ℕ → Bool
 has_to referenced pid = not (is_reserved pid) && not (is_among pid referenced)
 
-told : (referenced : List ℕ) (k q : ℕ) (m : Bool) → ((k == q) && has_to referenced k) || (m && has_to referenced q) ≡ ((k == q) || m) && has_to referenced q
-told referenced k q m = by (k == q) refl
+reported : (referenced : List ℕ) (k q : ℕ) (m : Bool) → ((k == q) && has_to referenced k) || (m && has_to referenced q) ≡ ((k == q) || m) && has_to referenced q
+reported referenced k q m = by (k == q) refl
   where
     by_test : (h m : Bool) → h || (m && h) ≡ h
     by_test true m = refl
@@ -54,11 +54,11 @@ unreferenced_law referenced (entry ∷ entries) q =
     list_any-append (λ other. other == q) (unreferenced referenced entry.0) (unreferenced_pids referenced entries)
     ∙ ap (λ (b : Bool). b || is_among q (unreferenced_pids referenced entries)) (one (has_to referenced entry.0) entry.0 q)
     ∙ ap (λ (b : Bool). ((entry.0 == q) && has_to referenced entry.0) || b) (unreferenced_law referenced entries q)
-    ∙ told referenced entry.0 q (is_among q (map (λ e. e.0) entries))
+    ∙ reported referenced entry.0 q (is_among q (map (λ e. e.0) entries))
 
--- 2. PIDs without
+-- 2. PIDs without packets
 
--- with one more
+-- One more PID adds this PID to the list if it has no packets.
 one_more : (entries : List (ℕ × PidCounts)) (found : List ℕ) (p q : ℕ) →
     is_among q (with_missing entries found p) ≡ is_among q found || ((p == q) && not (has_packets entries q))
 one_more entries found p q = by (p == q) refl

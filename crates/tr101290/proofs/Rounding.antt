@@ -1,4 +1,4 @@
--- Values rounded up, and clocks cut down to whole ticks.
+-- Values rounded up, and clocks rounded down to whole ticks.
 use Rattle.std.proofs.Common.{◌*◌, arith}
 use Rattle.std.proofs.Math.Nat.{lt_of_mul-lt-mul_right, mul-le-mul_right}
 use Rattle.std.proofs.lemmas.Grind.{div_ceil_times}

@@ -1,11 +1,11 @@
--- A clock whose values are cut down to whole ticks.
+-- A clock whose values are rounded down to whole ticks.
 use Rattle.std.proofs.Common.{◌≡◌, sym, ℕ, ◌+◌, ◌-◌, ◌*◌, ◌/◌, ◌<◌, ◌≤◌, arith}
 use Rattle.std.proofs.Math.Nat.{div-mul-le_self, lt-mul-div-succ, lt_of_mul-lt-mul_right}
 use Rattle.std.proofs.lemmas.Grind.{div_ceil_times}
 use Rattle.tr101290.specs.Measures.{rounded_up, parts_off}
 use Rattle.tr101290.specs.PcrLaws.{WholeTicksLaw}
 
--- between values cut down from x and x + d the ticks are d / rate, and less than one more or less
+-- Between the values x and x + d, rounded down, the number of ticks differs from d / rate by less than one.
 near : (rate x d t : ℕ) → 0 < rate → t + x / rate ≡ (x + d) / rate → (t * rate - d) + (d - t * rate) < rate
 near rate x d t some is =
     let low = div-mul-le_self x rate in
@@ -15,7 +15,7 @@ near rate x d t some is =
     let e : (x + d) / rate * rate ≡ t * rate + x / rate * rate = rw (sym is) (omega arith) in
     omega (arith, low, high, low', high', e)
 
--- less than 1,000 of 27 parts are at most 38
+-- Less than one tick is at most 38 ns, rounded up.
 few : (parts rate : ℕ) → 0 < rate → parts < rate → rounded_up (parts * 1000) (27 * rate) ≤ 38
 few parts rate some less =
     let up = div_ceil_times (parts * 1000) (27 * rate) (omega (arith, some)) in

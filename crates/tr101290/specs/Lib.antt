@@ -8,6 +8,7 @@ pub mod PidWatches
 pub mod Continuity
 pub mod Limits
 pub mod Intervals
+pub mod StoppedTables
 pub mod Sections
 pub mod IntervalLaws
 pub mod Parts

@@ -58,7 +58,7 @@ pub struct TableError {
 pub type TableEntries<A> = IndexMap<u32, SectionPlaces, BuildHasherDefault<FoldHasher>, A>;
 
 /// Sections by PID, table_id and part.
-type PartEntries<A> = IndexMap<u64, SectionPlaces, BuildHasherDefault<FoldHasher>, A>;
+pub(crate) type PartEntries<A> = IndexMap<u64, SectionPlaces, BuildHasherDefault<FoldHasher>, A>;
 
 /// The sections of a stream so far.
 #[derive(Drop)]
@@ -162,9 +162,9 @@ fn beyond(section: SectionBegin, value: u128, limit: u64) -> Option<TableError>
     }
 }
 
-// Returns the error of a section that begins too long after the section before it.
+/// Returns the error of a section that begins too long after the section before it.
 #[tactic(auto, unfolding(crate::specs::Intervals::error_if))]
-fn error_if(
+pub(crate) fn error_if(
     timing: TableTiming,
     section: SectionBegin,
     before: &Option<SectionPlaces>,
@@ -181,7 +181,8 @@ fn error_if(
     }
 }
 
-fn places_at<A: Allocator>(entries: &TableEntries<A>, key: u32) -> Option<SectionPlaces>
+/// Returns the sections of a PID and table_id.
+pub(crate) fn places_at<A: Allocator>(entries: &TableEntries<A>, key: u32) -> Option<SectionPlaces>
     ensures { result ≡ lookup (nat_eq key) entries.now.entries }
 {
     match entries.get(&key) {
@@ -223,6 +224,13 @@ impl<A: Allocator + Copy> TableIntervals<A> {
         ensures { result.now.entries ≡ self.now.entries }
     {
         &self.entries
+    }
+
+    /// Returns the sections of each PID, table_id and part.
+    pub(crate) fn parts(&self) -> &PartEntries<A>
+        ensures { result.now.entries ≡ self.now.parts }
+    {
+        &self.parts
     }
 
     // Returns the sections of a part before this one.

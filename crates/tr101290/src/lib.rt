@@ -3,9 +3,10 @@
 //! Clock references (2.3a, 2.3b and 2.4; ISO/IEC 13818-1, 2.4.3.5 and 2.7.2), reference by reference:
 //!
 //! - [`pcr_sample`]: the reference of a packet.
-//! - [`PcrWatches`]: takes the packets of a stream, and gives a report on each reference: one [`PcrWatch`] a PID is kept.
-//! - [`PcrReport`]: where the clock continues or restarts, the rate that two references give, the time between them, how
-//!   far a reference is from its exact value; and the errors among them. [`PcrCounts`]: reports counted, with their
+//! - [`PcrWatches`]: takes the packets of a stream, and gives a report on each reference: one [`PcrWatch`] a PID is
+//!   kept.
+//! - [`PcrReport`]: where the clock continues or restarts, the rate that two references give, the time between them,
+//!   how far a reference is from its exact value; and the errors among them. [`PcrCounts`]: reports counted, with their
 //!   greatest values.
 //! - [`RateJudge`]: whether the references say that the rate is constant; without it their accuracy says nothing.
 //! - [`pcr_laws`]: there is an error exactly where the exact value is beyond its limit.
@@ -13,9 +14,11 @@
 //! Tables (also ETSI TR 101 211, 4.4): the greatest time from one section of a table_id on a PID to the next, and which
 //! of these times are too long:
 //!
-//! - [`TableIntervals`]: takes where sections begin ([`section_begin`]); keeps an entry for each PID and table_id, and for
-//!   each part of a table whose parts have to recur by themselves ([`has_parts`]), whatever the length of the stream.
+//! - [`TableIntervals`]: takes where sections begin ([`section_begin`]); keeps an entry for each PID and table_id, and
+//!   for each part of a table whose parts have to recur by themselves ([`has_parts`]), whatever the length of the
+//!   stream.
 //! - [`limit_of`]: the time within which a table has to recur.
+//! - [`push_stopped`]: the tables that have not come for longer than that at the end of a stream.
 //! - [`SectionDistances`]: takes whole sections ([`whole_section`]), and finds sections that begin within 25 ms after
 //!   the section before.
 //! - [`belongs`]: which tables may be on a PID.
@@ -27,8 +30,8 @@
 //! - [`unreferenced_pids`]: PIDs with packets that no table names (3.4, Unreferenced_PID).
 //! - [`missing_pids`]: PIDs that are named and have no packet (1.6, PID_error).
 //! - [`reference_laws`]: which PIDs are in these lists. The PIDs 0 to 31 carry the tables themselves (ISO/IEC 13818-1,
-//!   table 2-3; ETSI EN 300 468, table 1), and 8,191 null packets: no table has to name them. PIDs that CA descriptors or the CAT
-//!   alone name are not counted as named.
+//!   table 2-3; ETSI EN 300 468, table 1), and 8,191 null packets: no table has to name them. PIDs that CA descriptors
+//!   or the CAT alone name are not counted as named.
 //!
 //! Presentation time stamps (2.5): [`PtsWatch`] finds a PTS more than 700 ms after the PTS before.
 //!
@@ -55,6 +58,7 @@ mod report;
 mod sample;
 mod sections;
 mod stamps;
+mod stopped_tables;
 mod watch;
 mod watches;
 
@@ -75,5 +79,6 @@ pub use report::{GREATEST_INACCURACY, GREATEST_INTERVAL, Inaccuracy, PcrError, P
 pub use sample::pcr_sample;
 pub use sections::{section_begin, whole_section};
 pub use stamps::{GREATEST_PTS_INTERVAL, PtsError, PtsWatch};
+pub use stopped_tables::push_stopped;
 pub use watch::{PcrTiming, PcrWatch};
 pub use watches::{PcrEntries, PcrWatches};

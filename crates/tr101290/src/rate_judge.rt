@@ -186,7 +186,7 @@ impl RateJudge {
     /// Takes the report on the next reference, and appends the accuracy errors that count now: all so far if it is
     /// decided with it that the rate is constant.
     ///
-    /// After an `AllocError` the judge describes no stream: drop it.
+    /// After an `AllocError` the judge describes no stream: drop it and `out`.
     pub fn take(
         &mut self,
         pid: u16,

@@ -1,4 +1,4 @@
--- What the bytes say is read.
+-- A packet is read back from its bytes.
 use Rattle.std.proofs.Common.{◌≡◌, ℕ, suc, ◌+◌, ◌*◌, ◌/◌, ◌%◌, ◌<◌, ◌≤◌, ◌==◌, Bool, true, false, List, [], ◌∷◌, ◌++◌, length, take, drop, Option, Some, None}
 use Rattle.std.proofs.Common.{is_some, Ok, refl, ap, ◌∙◌, subst, arith, ℤ, nat_lt, drop_at, le-ltb, lit<, eq-eqb}
 use Rattle.std.proofs.lemmas.List.{length-append}
@@ -14,7 +14,7 @@ use Rattle.ts_packet.specs.Syntax.{control_of, IsHeader, IsReference, IsCountdow
 use Rattle.ts_packet.specs.Reading.{reference_of, reference_at, countdown_at, length_prefixed_at, parts_at, adaptation_at, field_at, body_at, header_of}
 use Rattle.ts_packet.specs.Reading.{packet_at}
 
--- six bytes of a clock reference are read as it
+-- A clock reference is read back from its six bytes.
 reference_again : (wire : List ℕ) (reference : Reference) → IsReference wire reference → reference_of wire ≡ reference
 unfolding reference_of
 reference_again (a ∷ b ∷ c ∷ d ∷ e ∷ f ∷ []) reference is =
@@ -34,7 +34,7 @@ reference_again (a ∷ b ∷ c ∷ d ∷ e ∷ f ∷ []) reference is =
     whole
 reference_again _ reference is = absurd (omega (arith, is.size))
 
--- a clock reference and what follows
+-- A clock reference and the bytes after it
 reference_read : (flagged : Bool) (part : Option Reference) (wire rest : List ℕ) → flagged ≡ is_some part → IsAnnounced IsReference wire part
     → reference_at flagged (wire ++ rest) ≡ Ok (part, rest)
 unfolding reference_at
@@ -62,12 +62,12 @@ length_prefixed_read flagged (Some counted) wire rest e is =
     rw (e, is) (guarded _ PartTooLong _ long ∙ ap (λ (l : List ℕ). Ok (Some l, drop (length counted) (counted ++ rest))) front
     ∙ ap (λ (l : List ℕ). Ok (Some counted, l)) after)
 
--- a flag is a number of one bit
+-- The bit of a flag is below 2.
 pub bit_below : (b : Bool) → bit b < 2
 bit_below true = lit< tt
 bit_below false = lit< tt
 
--- each flag of a byte of flags
+-- Each flag of a byte of flags is read back.
 record FlagsRead (flags p q r s t u v w : ℕ) : Type 0 where
   first : flags / 128 % 2 ≡ p
   second : flags / 64 % 2 ≡ q
@@ -91,7 +91,7 @@ flags_read flags p q r s t u v w a b c d e f g h is = record {
   eighth = omega arith;
 }
 
--- flags and the parts that they announce are read as they are
+-- The flags, and the parts that they announce, are read back.
 parts_read : (body : List ℕ) (parts : FieldView) → IsParts body parts → adaptation_at body ≡ Ok (WithFlags parts)
 unfolding adaptation_at parts_at
 parts_read body parts is =
@@ -124,12 +124,12 @@ parts_read body parts is =
     ∙ rw (discontinuity_indicator, random_access_indicator, priority) refl in
     rw is.is (bind_at _ _ parts read)
 
--- a length of 0 and nothing after it
+-- An adaptation field of length 0 has no flags.
 no_flags : adaptation_at [] ≡ Ok NoFlags
 unfolding adaptation_at
 no_flags = refl
 
--- an adaptation field and what follows
+-- An adaptation field and the bytes after it
 field_read : (most : ℕ) (field rest : List ℕ) (adaptation : AdaptationView) → IsAdaptation field (Some adaptation) → length field ≤ most + 1
     → field_at most (field ++ rest) ≡ Ok (adaptation, rest)
 unfolding field_at
@@ -145,7 +145,7 @@ field_read most field rest (WithFlags parts) is short =
     let read : adaptation_at (take (length body) (body ++ rest)) ≡ Ok (WithFlags parts) = rw front (parts_read body parts is.parted) in
     rw is.is (guarded _ FieldTooLong _ fits ∙ bind_at _ _ (WithFlags parts) read ∙ ap (λ (l : List ℕ). Ok (WithFlags parts, l)) after)
 
--- what follows the header
+-- The bytes after the header
 body_read : (header : Header) (adaptation : Option AdaptationView) (payload : Option (List ℕ)) (field rest : List ℕ) → IsAdaptation field adaptation →
     IsPayload rest payload
     → 0 < control_of adaptation payload → length (field ++ rest) ≡ 184
@@ -162,14 +162,14 @@ body_read header (Some adaptation) (Some payload) field rest a p some size =
     bind_at _ _ (adaptation, rest) (field_read 182 field rest adaptation a (omega (arith, p.1)))
     ∙ ap (λ (l : List ℕ). Ok (record { header = header; adaptation = Some adaptation; payload = Some l })) p.0
 
--- adaptation_field_control has two bits
+-- adaptation_field_control has two bits.
 pub control_below : {A P : Type 0} (adaptation : Option A) (payload : Option P) → control_of adaptation payload < 4
 control_below None None = lit< tt
 control_below None (Some p) = lit< tt
 control_below (Some a) None = lit< tt
 control_below (Some a) (Some p) = lit< tt
 
--- what four bytes of a header say
+-- The fields of a header in its four bytes
 record HeaderRead (a b c d : ℕ) (rest : List ℕ) (header : Header) (control : ℕ) : Type 0 where
   sync : a ≡ 0x47
   controlled : d / 16 % 4 ≡ control

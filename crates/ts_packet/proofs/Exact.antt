@@ -1,4 +1,4 @@
--- What is read is what the bytes say.
+-- The fields that are read are the fields of the bytes.
 use Rattle.std.proofs.Common.{◌≡◌, ◌⊎◌, ℕ, zero, suc, ◌+◌, ◌/◌, ◌%◌, ◌<◌, ◌≤◌, ◌==◌, Bool, true, false, List, [], ◌∷◌, ◌++◌, length, take, drop, Option, Some}
 use Rattle.std.proofs.Common.{None, is_some, Result, Ok, Err, refl, sym, ap, ◌∙◌, subst, arith, inl, inr, eqb-true, ltb-false, ℤ, nat_lt, take-append-drop}
 use Rattle.std.proofs.lemmas.List.{length-take, length-append}
@@ -17,7 +17,7 @@ use Rattle.ts_packet.specs.Syntax.{control_of, IsHeader, IsReference, IsCountdow
 use Rattle.ts_packet.specs.Reading.{reference_of, reference_at, countdown_at, length_prefixed_at, parts_at, adaptation_at, field_at, body_at, header_of}
 use Rattle.ts_packet.specs.Reading.{packet_at}
 
--- six bytes are a clock reference
+-- Six bytes are a clock reference.
 reference_is : (wire : List ℕ) → length wire ≡ 6 → IsBytes wire → IsReference wire (reference_of wire)
 unfolding reference_of
 reference_is (a ∷ b ∷ c ∷ d ∷ e ∷ f ∷ []) size h =
@@ -37,7 +37,7 @@ reference_is (a ∷ b ∷ c ∷ d ∷ e ∷ f ∷ []) size h =
     }
 reference_is _ size h = absurd (omega arith)
 
--- what a part's reader gave: the part's bytes, and the bytes after it
+-- The result of reading a part: the part's bytes, and the bytes after it
 record Reads {A : Type 0} (Is : List ℕ → A → Type 0) (flagged : Bool) (bytes : List ℕ) (read : Option A × List ℕ) : Type 0 where
   wire : List ℕ
   taken : Takes bytes wire read.1
@@ -92,15 +92,15 @@ counted_reads true (n ∷ bytes) read h e =
       says = ap (λ (m : ℕ). m ∷ take n bytes) size;
     })
 
--- a flag that is read, as a bit
+-- A flag that is read, as a bit
 flag_bit : (byte value : ℕ) → bit (flag byte value) ≡ byte / value % 2
 flag_bit byte value = bit_test (byte / value % 2) (omega arith)
 
--- the flag of a part, as a bit
+-- The flag of a part, as a bit
 part_bit : {A : Type 0} (byte value : ℕ) (part : Option A) → is_some part ≡ flag byte value → bit (is_some part) ≡ byte / value % 2
 part_bit byte value part e = ap bit e ∙ flag_bit byte value
 
--- the flags, and the parts that they announce
+-- The flags, and the parts that they announce
 parts_is : (flags : ℕ) (bytes : List ℕ) (parts : FieldView) → IsBytes (flags ∷ bytes) → parts_at flags bytes ≡ Ok parts → IsParts (flags ∷ bytes) parts
 unfolding parts_at
 parts_is flags bytes parts h e =
@@ -147,7 +147,7 @@ parts_is flags bytes parts h e =
         let c : bit (flag flags 32) ≡ flags / 32 % 2 = flag_bit flags 32 in
         omega arith
 
--- a length, and an adaptation field of that length
+-- A length, and an adaptation field of that length
 adaptation_is : (body : List ℕ) (adaptation : AdaptationView) → IsBytes body → adaptation_at body ≡ Ok adaptation →
     IsAdaptation (length body ∷ body) (Some adaptation)
 unfolding adaptation_at
@@ -157,7 +157,7 @@ adaptation_is (flags ∷ bytes) adaptation h e =
     subst (λ (x : AdaptationView). IsAdaptation (length (flags ∷ bytes) ∷ flags ∷ bytes) (Some x)) (ok_is (WithFlags a.0) adaptation a.2)
     (record { body = flags ∷ bytes; is = refl; parted = parts_is flags bytes a.0 h a.1 })
 
--- an adaptation field and the bytes after it
+-- An adaptation field and the bytes after it
 record FieldReads (most : ℕ) (bytes : List ℕ) (read : AdaptationView × List ℕ) : Type 0 where
   wire : List ℕ
   is : bytes ≡ wire ++ read.1
@@ -181,7 +181,7 @@ field_reads most (n ∷ bytes) read h room e =
       short = omega arith;
     })
 
--- what follows the header: an adaptation field, and a payload or what is not looked at
+-- The bytes after the header: an adaptation field, then a payload or bytes that the reader ignores
 record BodyReads (header : Header) (control : ℕ) (bytes : List ℕ) (packet : PacketView) : Type 0 where
   field : List ℕ
   rest : List ℕ
@@ -237,7 +237,7 @@ body_reads header (suc (suc (suc zero))) bytes packet h size below e =
     })
 body_reads header (suc (suc (suc (suc n)))) bytes packet h size below e = absurd (omega arith)
 
--- the first four bytes are the header
+-- The first four bytes are the header.
 header_is : (a b c d : ℕ) (rest : List ℕ) → IsBytes (a ∷ b ∷ c ∷ d ∷ rest) → a ≡ 0x47
     → IsHeader (a ∷ b ∷ c ∷ d ∷ []) (header_of (a ∷ b ∷ c ∷ d ∷ rest)) (d / 16 % 4)
 unfolding header_of
@@ -255,7 +255,7 @@ header_is a b c d rest h sync =
       fits = record { pid = omega arith; transport_scrambling_control = omega arith; continuity_counter = omega arith };
     }
 
--- what is read of 188 bytes is what they say
+-- A packet that is read from 188 bytes is the packet in these bytes.
 pub packet_is : (bytes : List ℕ) (packet : PacketView) → IsBytes bytes → length bytes ≡ 188 → packet_at bytes ≡ Ok packet → IsPacket bytes packet
 unfolding packet_at
 packet_is (a ∷ b ∷ c ∷ d ∷ rest) packet h size e = is_of (chosen (a == 0x47) _ _ _ e)

@@ -1,4 +1,4 @@
--- The adaptation field that fills a packet up.
+-- The adaptation field that fills a packet
 use Rattle.std.proofs.Common.{◌≡◌, ℕ, zero, suc, ◌+◌, ◌-◌, ◌<◌, ◌≤◌, List, [], ◌∷◌, ◌++◌, length, replicate, Some, refl, ap, ◌∙◌, arith}
 use Rattle.std.proofs.lemmas.List.{length-replicate}
 use Rattle.clock27.specs.Reference.{Reference}
@@ -10,20 +10,20 @@ use Rattle.ts_packet.specs.declared.start.Start.TheVariants.{Continues, Begins, 
 use Rattle.ts_packet.specs.Beginnings.{room_of}
 use Rattle.ts_packet.specs.Packets.{plain_parts, stuffing_field, field_of}
 
--- no byte
+-- If nothing is to be filled, the field has no byte.
 pub stuffing_none : (n : ℕ) → n ≡ 0 → optional_bytes adaptation_bytes (stuffing_field n) ≡ []
 unfolding stuffing_field
 stuffing_none zero e = refl
 stuffing_none (suc n) e = absurd (omega arith)
 
--- the length alone
+-- A field of one byte has only its length.
 pub stuffing_one : (n : ℕ) → n ≡ 1 → optional_bytes adaptation_bytes (stuffing_field n) ≡ 0 ∷ []
 unfolding stuffing_field adaptation_bytes
 stuffing_one zero e = absurd (omega arith)
 stuffing_one (suc zero) e = refl
 stuffing_one (suc (suc n)) e = absurd (omega arith)
 
--- the length, the flags and stuffing
+-- A longer field has its length, its flags and stuffing.
 pub stuffing_long : (n : ℕ) → 1 < n → optional_bytes adaptation_bytes (stuffing_field n) ≡ (n - 1) ∷ 0 ∷ replicate (n - 2) 0xFF
 unfolding stuffing_field adaptation_bytes parts_bytes flags_of
 stuffing_long zero h = absurd (omega arith)
@@ -34,7 +34,7 @@ stuffing_long (suc (suc n)) h =
     let left : n ≡ suc (suc n) - 2 = omega arith in
     ap (λ (m : ℕ). m ∷ 0 ∷ replicate n 0xFF) first ∙ ap (λ (m : ℕ). (suc (suc n) - 1) ∷ 0 ∷ replicate m 0xFF) left
 
--- a packet with a payload has no adaptation field exactly where nothing is to be filled
+-- A packet with a payload has no adaptation field exactly if nothing is to be filled.
 pub control_none : (n : ℕ) (payload : List ℕ) → n ≡ 0 → control_of (stuffing_field n) (Some payload) ≡ 1
 unfolding stuffing_field
 control_none zero payload e = refl
@@ -46,7 +46,7 @@ control_some zero payload h = absurd (omega arith)
 control_some (suc zero) payload h = refl
 control_some (suc (suc n)) payload h = refl
 
--- without a start for a decoder the field is the stuffing
+-- If no decoder can start at the packet, the field is only stuffing.
 pub field_continues : (n : ℕ) → field_of Continues n ≡ stuffing_field n
 unfolding field_of
 field_continues n = refl
@@ -55,7 +55,7 @@ pub field_begins : (n : ℕ) → field_of Begins n ≡ stuffing_field n
 unfolding field_of
 field_begins n = refl
 
--- with one it is a length, the flags and stuffing
+-- If a decoder can start at the packet, the field is its length, its flags and stuffing.
 pub access_bytes : (n : ℕ) → 1 < n → optional_bytes adaptation_bytes (field_of Access n) ≡ (n - 1) ∷ 64 ∷ replicate (n - 2) 0xFF
 unfolding field_of adaptation_bytes parts_bytes flags_of
 access_bytes n h =
@@ -79,7 +79,7 @@ pub ruleset filling = (stuffing_none, stuffing_one, stuffing_long, field_none, f
 
 pub ruleset fields = (field_continues, field_begins, access_bytes)
 
--- the adaptation field of a clock reference and stuffing
+-- The adaptation field of a clock reference and stuffing
 pub pcr_field_bytes : (pcr : Reference) →
     optional_bytes adaptation_bytes (Some (WithFlags (plain_parts (Some pcr) 176))) ≡ 183 ∷ 16 ∷ (reference_bytes pcr ++ replicate 176 0xFF)
 unfolding adaptation_bytes parts_bytes flags_of reference_bytes

@@ -21,11 +21,11 @@ first_cut packet bytes size =
     let after : drop 188 (packet ++ bytes) ≡ bytes = drop_at packet bytes 188 size in
     rw (more, front, after) refl
 
--- the PID list of chunks, the first of which has this index
+-- The PID list of chunks that are counted from `index`
 listed_from : ℕ → ℕ → List (List ℕ) → List Entry
 listed_from pid index chunks = filter (λ entry. is_of_pid pid entry.packet) (filter_map (λ p. entry_of p.0 p.1 (packet_at p.1)) (enumerate_from index chunks))
 
--- a packet of the PID comes first in its list
+-- A packet of the PID at the front is the first in the list.
 listed_first : (pid index : ℕ) (chunk : List ℕ) (chunks : List (List ℕ)) (packet : PacketView) → packet_at chunk ≡ Ok packet → is_of_pid pid packet ≡ true
     → listed_from pid index (chunk ∷ chunks) ≡ record { index = index; bytes = chunk; packet = packet } ∷ listed_from pid (index + 1) chunks
 unfolding listed_from entry_of
@@ -36,7 +36,7 @@ of_pid pid start counter payload =
     let same : (pid == pid) ≡ true = eq-eqb pid pid refl in
     rw same refl
 
--- a piece that goes on has the room of each packet
+-- A piece that continues a unit fits into a packet.
 goes_on : (pieces : List (List ℕ)) → All IsPiece pieces → FirstFits Continues pieces
 goes_on [] fit = tt
 goes_on (piece ∷ pieces) fit = (All-head IsPiece piece pieces fit).1

@@ -1,4 +1,4 @@
--- Comparing packets with and without the bytes of a program clock reference, and where these stand.
+-- Comparing packets with and without the bytes of a program clock reference, and the place of these bytes
 use Rattle.std.proofs.Common.{◌≡◌, ℕ, Bool, true, false, List, [], ◌∷◌, ◌++◌, length, take, drop, nat_eq, ◌+◌, Some, refl, sym, ap, ◌∙◌, subst, drop_at}
 use Rattle.std.proofs.Common.{take_at, append_assoc, arith, length-append, length-drop}
 use Rattle.std.proofs.lemmas.List.{length-take}
@@ -7,7 +7,7 @@ use Rattle.std.specs.Str.{bytes_eq}
 use Rattle.clock27.specs.Reference.{Reference}
 use Rattle.ts_packet.specs.Views.{FieldView}
 use Rattle.ts_packet.specs.Syntax.{IsAdaptation, IsAnnounced, IsField, IsReference}
-use Rattle.ts_packet.specs.PcrBytes.{without_pcr, pcr_bytes, PcrStands}
+use Rattle.ts_packet.specs.PcrBytes.{without_pcr, pcr_bytes, PcrBytesLaw}
 
 bool_cases : (b : Bool) (P : Bool → Type 0) → P true → P false → P b
 bool_cases true P t f = t
@@ -27,13 +27,13 @@ eq_sizes (x ∷ a) [] h = refl
 eq_sizes (x ∷ a) (y ∷ c) h = let e = eq_sizes a c (λ k. h (omega arith)) in
     bool_cases (nat_eq x y) (λ t. (t && bytes_eq a c) ≡ false) e refl
 
--- both without the bytes of a program clock reference
+-- Both packets without the bytes of a program clock reference
 pub pcr_apart : (xs ys : List ℕ) → length xs ≡ 188 → length ys ≡ 188
     → bytes_eq (without_pcr true xs) (without_pcr true ys) ≡ (bytes_eq (take 6 xs) (take 6 ys) && bytes_eq (drop 12 xs) (drop 12 ys))
 unfolding without_pcr
 pcr_apart xs ys h k = eq_parts (take 6 xs) (take 6 ys) (drop 12 xs) (drop 12 ys) (grind (arith, length-take))
 
--- one with them and one without
+-- One packet with the bytes of a program clock reference, and one packet without them
 pub forms_differ : (p q : Bool) (xs ys : List ℕ) → length xs ≡ 188 → length ys ≡ 188 → (p ≡ q → ⊥) → bytes_eq (without_pcr p xs) (without_pcr q ys) ≡ false
 unfolding without_pcr
 forms_differ true true xs ys h k d = absurd (d refl)
@@ -43,14 +43,14 @@ forms_differ true false xs ys h k d =
 forms_differ false true xs ys h k d =
     eq_sizes xs (take 6 ys ++ drop 12 ys) (λ e. absurd (grind (arith, length-append (take 6 ys) (drop 12 ys), length-take, length-drop 12 ys)))
 
--- bytes whose first six are a front, and the next six these
+-- The second six bytes, if the first six are `front`
 middle : (front pcr tail : List ℕ) → length front ≡ 6 → length pcr ≡ 6 → pcr_bytes (front ++ (pcr ++ tail)) ≡ pcr
 middle front pcr tail f p = ap (take 6) (drop_at front (pcr ++ tail) 6 f) ∙ take_at pcr tail 6 p
 
--- after the header's four bytes, the length and the flags
-stands_in : (bytes front field rest : List ℕ) (parts : FieldView) (pcr : Reference) → bytes ≡ front ++ (field ++ rest) → length front ≡ 4 →
+-- The reference follows the four bytes of the header, the length and the flags.
+pcr_after_front : (bytes front field rest : List ℕ) (parts : FieldView) (pcr : Reference) → bytes ≡ front ++ (field ++ rest) → length front ≡ 4 →
     IsField field parts → parts.pcr ≡ Some pcr → IsReference (pcr_bytes bytes) pcr
-stands_in bytes front field rest parts pcr e n f h =
+pcr_after_front bytes front field rest parts pcr e n f h =
     let p = f.parted in
     let is : IsReference p.pcr pcr = subst (IsAnnounced IsReference p.pcr) h p.is_pcr in
     let more = p.opcr ++ (p.splice ++ (p.private ++ (p.extension ++ parts.stuffing))) in
@@ -63,6 +63,6 @@ stands_in bytes front field rest parts pcr e n f h =
     ∙ sym (append_assoc front (length f.body ∷ p.flags ∷ []) (p.pcr ++ (more ++ rest))) in
     subst (λ (x : List ℕ). IsReference x pcr) (sym (ap pcr_bytes cut ∙ middle head p.pcr (more ++ rest) size is.size)) is
 
-pub pcr_stands : PcrStands
-pcr_stands bytes packet parts pcr p a h =
-    stands_in bytes p.front p.field p.rest parts pcr p.is p.header.size (subst (IsAdaptation p.field) a p.adaptation) h
+pub pcr_in_bytes : PcrBytesLaw
+pcr_in_bytes bytes packet parts pcr p a h =
+    pcr_after_front bytes p.front p.field p.rest parts pcr p.is p.header.size (subst (IsAdaptation p.field) a p.adaptation) h

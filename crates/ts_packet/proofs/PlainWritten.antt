@@ -1,4 +1,4 @@
--- The packets that a multiplexer writes can be written, and are read again.
+-- The packets that a multiplexer writes are valid and are read back.
 use Rattle.std.proofs.Common.{◌≡◌, ℕ, zero, suc, ◌-◌, ◌^◌, ◌<◌, ◌≤◌, ◌+◌, Bool, false, length, replicate, All, Some, refl, ap, ◌∙◌, arith, lit<}
 use Rattle.std.proofs.lemmas.List.{length-replicate}
 use Rattle.std.proofs.lemmas.List.Elements.{All-replicate}
@@ -18,7 +18,7 @@ use Rattle.ts_packet.proofs.Written.{packets_again}
 all_stuffing : (n : ℕ) → All (λ (byte : ℕ). byte ≡ 0xFF) (replicate n 0xFF)
 all_stuffing n = All-replicate (λ (byte : ℕ). byte ≡ 0xFF) n 0xFF refl
 
--- a field that fills n bytes up has n bytes
+-- A field that fills n bytes has n bytes.
 pub length-stuffing_field : (n : ℕ) → length (optional_bytes adaptation_bytes (stuffing_field n)) ≡ n
 length-stuffing_field zero = ap (length {A = ℕ}) (stuffing_none zero refl)
 length-stuffing_field (suc zero) = ap (length {A = ℕ}) (stuffing_one (suc zero) refl)
@@ -35,7 +35,7 @@ stuffing_fits zero = tt
 stuffing_fits (suc zero) = tt
 stuffing_fits (suc (suc n)) = record { pcr = tt; opcr = tt; splice_countdown = tt; stuffing = all_stuffing n }
 
--- the field before a payload fills the packet up
+-- The field before a payload fills the packet.
 pub length-field_of : (start : Start) (n : ℕ) → 184 ≤ n + room_of start → length (optional_bytes adaptation_bytes (field_of start n)) ≡ n
 unfolding field_of
 length-field_of Continues n room = length-stuffing_field n
@@ -55,7 +55,7 @@ room_most Continues = omega arith
 room_most Begins = omega arith
 room_most Access = omega arith
 
--- the bytes of a payload and its field are all that follow the header
+-- A payload and its field fill all bytes after the header.
 all_filled : (start : Start) (n : ℕ) → n ≤ room_of start → 184 ≤ (184 - n) + room_of start
 all_filled start n most = omega (arith, room_most start)
 
@@ -77,7 +77,7 @@ without_access Continues n none = refl
 without_access Begins n none = refl
 without_access Access n none = absurd (let no : ⊥ = cc in no)
 
--- a field of stuffing says nothing
+-- A field of stuffing announces no random access.
 stuffing_quiet : (n : ℕ) → has_access (stuffing_field n) ≡ false
 unfolding stuffing_field
 stuffing_quiet zero = refl

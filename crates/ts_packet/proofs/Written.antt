@@ -1,4 +1,4 @@
--- What is written says what was to be written.
+-- The bytes that are written for a packet are the packet.
 use Rattle.std.proofs.Common.{◌≡◌, ℕ, ℤ, ◌+◌, ◌/◌, ◌%◌, ◌^◌, ◌<◌, List, [], ◌∷◌, ◌++◌, length, Option, Some, None, IfSome, refl, sym, ap, arith, lit<}
 use Rattle.std.proofs.lemmas.List.{length-append}
 use Rattle.std.proofs.lemmas.Int.{to_z-of_z}
@@ -110,7 +110,7 @@ length-header_bytes : (header : Header) (control : ℕ) → length (header_bytes
 unfolding header_bytes
 length-header_bytes header control = refl
 
--- a packet has a payload or an adaptation field
+-- A packet has a payload or an adaptation field.
 not_reserved : (adaptation : Option AdaptationView) (payload : Option (List ℕ)) → 4 + length (optional_bytes adaptation_bytes adaptation)
     + length (payload_bytes payload) ≡ 188
     → 0 < control_of adaptation payload

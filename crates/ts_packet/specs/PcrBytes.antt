@@ -27,6 +27,6 @@ without_pcr true bytes = take pcr_offset bytes ++ drop (pcr_offset + pcr_size) b
 without_pcr false bytes = bytes
 
 -- in a packet with a program clock reference the bytes at its place are it
-abbrev pub PcrStands : Type 0
-PcrStands = (bytes : List ℕ) (packet : PacketView) (parts : FieldView) (pcr : Reference) → IsPacket bytes packet →
+abbrev pub PcrBytesLaw : Type 0
+PcrBytesLaw = (bytes : List ℕ) (packet : PacketView) (parts : FieldView) (pcr : Reference) → IsPacket bytes packet →
     packet.adaptation ≡ Some (WithFlags parts) → parts.pcr ≡ Some pcr → IsReference (pcr_bytes bytes) pcr

@@ -1,5 +1,5 @@
 //! Laws of the definitions. Each function does nothing: its contract is the law.
-ghost use Rattle.ts_packet.specs.PcrBytes.{PcrStands};
+ghost use Rattle.ts_packet.specs.PcrBytes.{PcrBytesLaw};
 ghost use Rattle.ts_packet.specs.Laws.{ReadOnce, PacketsAgain, PayloadsAgain, PcrsAgain, NullAgain};
 ghost use Rattle.ts_packet.specs.Laws.{StartAgain, WithoutAccess, FirstCut, PiecesListed};
 
@@ -52,6 +52,6 @@ pub fn pieces_listed()
 {}
 
 /// States that in a packet with a program clock reference, it is bytes 6 to 11.
-pub fn pcr_stands()
-    ensures { PcrStands }
+pub fn pcr_in_bytes()
+    ensures { PcrBytesLaw }
 {}

@@ -1,10 +1,10 @@
--- Packets one by one, where packets may wait.
+-- Packets one by one, if packets may wait
 use Rattle.std.proofs.Common.{◌≡◌, ◌∙◌, sym, ℕ, List, [], ◌∷◌, ◌++◌, ap, subst, append_assoc, append-nil}
 use Rattle.events.specs.declared.event.Event.{Event}
 use Rattle.ts_report.specs.declared.clocked_view.ClockedView.{ClockedView}
 use Rattle.ts_report.specs.ClockedViews.{ClockedState, IsClocked, after_all, after_packet, events_all, events_at}
 
--- what a view is after some packets, with those that are left, and the events that are still to come
+-- The state of a view after some packets, with the remaining packets and the events that still follow
 pub record Settled (view : ClockedView) (packets : List (List ℕ)) (events : List Event) (last : ClockedState) (whole : List Event) : Type 0 where
   pub now : ClockedState
   pub is : IsClocked view now

@@ -1,4 +1,4 @@
--- Streams one by one.
+-- Streams one by one
 use Rattle.std.proofs.Common.{◌≡◌, ◌∙◌, sym, ℕ, zero, suc, Bool, true, false, ◌&&◌, List, [], ◌∷◌, ◌++◌, length, Some, None, ◌≤◌, drop, refl, ap, subst}
 use Rattle.std.proofs.Common.{append_assoc, append-nil, arith}
 use Rattle.std.specs.Prelude.{flat_map, set, slice_get}
@@ -15,7 +15,7 @@ same_length [] (e ∷ es) a = absurd a
 same_length (b ∷ bs) [] a = absurd a
 same_length (b ∷ bs) (e ∷ es) a = ap suc (same_length bs es a.1)
 
--- one more
+-- One more stream
 pub one_more : (bs : List StreamEntry) (es : List EntryState) (b : StreamEntry) (e : EntryState) → AreEntries bs es → IsEntry b e →
     AreEntries (bs ++ b ∷ []) (es ++ e ∷ [])
 unfolding AreEntries
@@ -24,7 +24,7 @@ one_more [] (f ∷ es) b e a i = absurd a
 one_more (c ∷ bs) [] b e a i = absurd a
 one_more (c ∷ bs) (f ∷ es) b e a i = (a.0, one_more bs es b e a.1 i)
 
--- at a place
+-- The stream at a place
 pub none_at : (bs : List StreamEntry) (es : List EntryState) (n : ℕ) → AreEntries bs es → slice_get bs n ≡ None → slice_get es n ≡ None
 unfolding AreEntries
 none_at [] [] n a is = refl
@@ -33,12 +33,12 @@ none_at (b ∷ bs) [] n a is = absurd a
 none_at (b ∷ bs) (e ∷ es) zero a is = absurd cc
 none_at (b ∷ bs) (e ∷ es) (suc n) a is = none_at bs es n a.1 is
 
-pub record StandsAt (b : StreamEntry) (es : List EntryState) (n : ℕ) : Type 0 where
+pub record EntryAt (b : StreamEntry) (es : List EntryState) (n : ℕ) : Type 0 where
   pub entry : EntryState
   pub at : slice_get es n ≡ Some entry
   pub is : IsEntry b entry
 
-pub some_at : (bs : List StreamEntry) (es : List EntryState) (n : ℕ) (b : StreamEntry) → AreEntries bs es → slice_get bs n ≡ Some b → StandsAt b es n
+pub some_at : (bs : List StreamEntry) (es : List EntryState) (n : ℕ) (b : StreamEntry) → AreEntries bs es → slice_get bs n ≡ Some b → EntryAt b es n
 unfolding AreEntries
 some_at [] es n b a is = absurd cc
 some_at (c ∷ bs) [] n b a is = absurd a
@@ -54,7 +54,7 @@ set_at (c ∷ bs) [] n b e a i = absurd a
 set_at (c ∷ bs) (f ∷ es) zero b e a i = (i, a.1)
 set_at (c ∷ bs) (f ∷ es) (suc n) b e a i = (a.0, set_at bs es n b e a.1 i)
 
--- the streams that a walk has not reached, and what is still to come of them
+-- The streams that a walk has not reached, and the events that they still give
 pub record Ahead (bs : List StreamEntry) (f : EntryState → List Event) (events whole : List Event) : Type 0 where
   pub left : List EntryState
   pub are : AreEntries bs left
@@ -85,7 +85,7 @@ none_ahead f events whole (e ∷ es) are same = absurd are
 pub all_written : (f : EntryState → List Event) (events whole : List Event) → Ahead [] f events whole → events ≡ whole
 all_written f events whole a = none_ahead f events whole a.left a.are a.same
 
--- and whether all of them are good
+-- Whether all streams that a walk has not reached are good
 pub record Unjudged (bs : List StreamEntry) (f : EntryState → Bool) (whole : Bool) : Type 0 where
   pub left : List EntryState
   pub are : AreEntries bs left

@@ -1,4 +1,4 @@
--- A stream that is viewed by access units, or is not, before its first packet.
+-- A stream before its first packet, viewed by access units or not
 use Rattle.std.proofs.Common.{◌≡◌, Option, Some, None, refl}
 use Rattle.sound_frames.specs.declared.frame_headers.FrameKind.{FrameKind}
 use Rattle.tstd_rows.specs.Held.{Held}

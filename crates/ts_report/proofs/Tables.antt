@@ -1,4 +1,4 @@
--- A packet enters the buffers of its PID, or there are none.
+-- A packet enters the buffers of its PID, if the PID has buffers.
 use Rattle.std.proofs.Common.{◌≡◌, ◌∙◌, ℕ, List, [], ◌++◌, Some, None, Result, Ok, Err, refl, ap, append_assoc, nat_eq}
 use Rattle.std.specs.Prelude.{OnOk, set, slice_get}
 use Rattle.std.specs.Map.{lookup}
@@ -9,7 +9,7 @@ use Rattle.es_events.specs.Clocks.{ClockEntries, clock_of}
 use Rattle.es_view.specs.Entries.{EntryState, entry_events}
 use Rattle.ts_report.specs.StreamTables.{TableState, entry_taken, events_of, taken}
 
--- where there are none
+-- The PID has no buffers.
 pub taken_none : (options : ViewOptions) (index window : ℕ) (clocks : ClockEntries) (t : TableState) (packet : PacketView) (place : ℕ) →
     lookup (nat_eq packet.header.pid) t.places ≡ Some place → slice_get t.entries place ≡ None → taken options index window clocks t packet ≡ t
 unfolding Rattle.ts_report.specs.StreamTables.taken_if Rattle.ts_report.specs.StreamTables.taken_at
@@ -20,7 +20,7 @@ pub events_none : (options : ViewOptions) (index : ℕ) (clocks : ClockEntries) 
 unfolding Rattle.ts_report.specs.StreamTables.events_if Rattle.ts_report.specs.StreamTables.events_in
 events_none options index clocks t packet place p q = rw (p, q) refl
 
--- where there are some
+-- The PID has buffers.
 pub taken_some : (options : ViewOptions) (index window : ℕ) (clocks : ClockEntries) (t : TableState) (packet : PacketView) (place : ℕ) (e : EntryState) →
     lookup (nat_eq packet.header.pid) t.places ≡ Some place → slice_get t.entries place ≡ Some e →
     taken options index window clocks t packet ≡ record t { entries = set t.entries place (entry_taken options index window clocks packet e) }

@@ -1,5 +1,5 @@
 -- The state of a stream without its buffers.
-use Rattle.std.specs.Prelude.{ℕ, ◌+◌, ◌-◌, ◌^◌, min, nat_lt, Bool, false, if◌then◌else◌, is_some, List, [], ◌∷◌, ◌++◌, Option, None, Some, Result, Ok, Err}
+use Rattle.std.specs.Prelude.{ℕ, ◌+◌, ◌-◌, ◌/◌, ◌^◌, ◌==◌, ◌&&◌, not, min, nat_le, nat_lt, Bool, false, if◌then◌else◌, is_some, List, [], ◌∷◌, ◌++◌, Option, None, Some, Result, Ok, Err}
 use Rattle.ts_packet.specs.declared.packet.PacketError.{PacketError}
 use Rattle.ts_packet.specs.declared.packet.PacketError.TheVariants as packet_errors
 use Rattle.ts_packet.specs.PidList.{Entry}
@@ -36,9 +36,11 @@ use Rattle.ts_watch.specs.ClockEvents.{clock_events, errors_in, report_events_if
 use Rattle.ts_watch.specs.ClockWindows.{ClocksState}
 use Rattle.ts_watch.specs.ClockWindows as clocks_by_window
 use Rattle.ts_watch.specs.Choices.{ChoiceView}
+use Rattle.ts_watch.specs.AbsentTables.{absent_events}
 use Rattle.ts_watch.specs.ReferenceEvents.{reference_events}
 use Rattle.ts_watch.specs.RuleEvents.{RuleState, accuracy_count, accuracy_events, judge_after, no_rule, packet_events, with_judge}
 use Rattle.ts_watch.specs.RuleEvents as rules
+use Rattle.ts_watch.specs.StoppedEvents.{stopped_events}
 use Rattle.ts_watch.specs.SystemEvents.{excess_events}
 use Rattle.ts_watch.specs.TableEvents.{TablesState, has_table, no_tables, table_events}
 use Rattle.ts_watch.specs.TableEvents as tables
@@ -250,10 +252,19 @@ with_named s bytes = record s { named = naming.taken s.named bytes; services = n
 abbrev pub window_ends : SeenState → List Event
 window_ends s = window_events s.options s.named s.services.names s.window ++ clocks_by_window.window_events s.references s.window.number
 
--- at the end: clock references by PID, tables, all packets by PID, PIDs that are not named or have no packet, and the held errors of accuracy
-abbrev pub pid_ends : SeenState → List Event
-pid_ends s = clock_events s.watches ++ (table_events s.tables ++ (pid_events s.totals ++ (reference_events s.named s.totals
-    ++ rules.end_events s.rules s.packets (has_table s.tables 0x01 0x01))))
+-- more than half of the packets are read
+abbrev pub is_stream : SeenState → Bool
+is_stream s = not (s.packets == 0) && nat_le s.refused (s.packets / 2)
+
+-- at the end, by the rules of TR 101 290: tables without a section, tables that have stopped, the held errors of accuracy, and scrambled packets without
+-- a CAT
+unfoldable pub rule_ends : SeenState → List Event
+rule_ends s = absent_events (is_stream s) s.named s.tables
+    ++ (stopped_events s.options s.tables s.packets ++ rules.end_events s.rules s.packets (has_table s.tables 0x01 0x01))
+
+-- at the end: clock references by PID, tables, all packets by PID, PIDs that are not named or have no packet, and what rules find
+unfoldable pub pid_ends : SeenState → List Event
+pid_ends s = clock_events s.watches ++ (table_events s.tables ++ (pid_events s.totals ++ (reference_events s.named s.tables s.totals ++ rule_ends s)))
 
 -- the end, with the bytes that are left after the last whole packet, and the moment of the byte after that packet
 abbrev pub end_event : SeenState → ℕ → Event

@@ -52,7 +52,8 @@ fn view_waiting(
     arrival: Arrival,
     events: &mut Vec<Event>,
 ) -> Result<(), AllocError>
-    ensures view { (v : ViewState) → IsView view.old v → OnOk result (IsView view.new (spec.view_with v queue.old arrival)) }
+    ensures view { (v : ViewState) → IsView view.old v →
+        OnOk result (IsView view.new (spec.view_with v queue.old arrival)) }
     ensures found { (v : ViewState) → IsView view.old v → OnOk result (events.new.items
         ≡ events.old.items ++ spec.events_with v queue.old arrival) }
     ensures queue { OnOk result (queue.new ≡ with_held queue.old []) }
@@ -135,6 +136,8 @@ impl ClockedView {
     }
 
     /// Takes the next packet, and appends the events that it settles.
+    ///
+    /// After an `AllocError` drop the view and `events`: nothing is promised of their contents.
     #[tactic(auto, unfolding(crate::specs::ClockedViews::after_in, crate::specs::ClockedViews::events_in))]
     pub fn take(&mut self, bytes: &[u8; 188], events: &mut Vec<Event>) -> Result<(), AllocError>
         ensures view { (s : ClockedState) → IsClocked self.old s →
@@ -150,6 +153,8 @@ impl ClockedView {
 
     /// Takes the next packet, with a sample of an arrival clock in place of clock references if it has one, and appends
     /// the events that the packet settles.
+    ///
+    /// After an `AllocError` drop the view and `events`: nothing is promised of their contents.
     #[tactic(auto, unfolding(crate::specs::ClockedViews::sampled_in, crate::specs::ClockedViews::sampled_events_in))]
     pub fn take_sampled(
         &mut self,
@@ -170,6 +175,8 @@ impl ClockedView {
     }
 
     /// Takes the next packets.
+    ///
+    /// After an `AllocError` drop the view and `events`: nothing is promised of their contents.
     #[tactic(auto, unfolding(crate::specs::ClockedViews::after_all, crate::specs::ClockedViews::events_all))]
     pub fn take_all(
         &mut self,
@@ -227,6 +234,8 @@ impl ClockedView {
 
     /// Ends the stream, `left` bytes after its last whole packet, and appends the last events. Returns whether nothing
     /// is wrong in it.
+    ///
+    /// After an `AllocError` drop the view and `events`: nothing is promised of their contents.
     pub fn end(&mut self, left: usize, events: &mut Vec<Event>) -> Result<bool, AllocError>
         ensures clocked { (s : ClockedState) → IsClocked self.old s → OnOk result (IsClocked self.new (spec.ended s)) }
         ensures found { (s : ClockedState) → IsClocked self.old s →

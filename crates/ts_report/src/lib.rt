@@ -1,10 +1,10 @@
 //! The events of a stream as it arrives: what an analyst asks first.
 //!
-//! - [`ClockedView`]: takes packets, and appends the events that they settle to a list; `end` appends the last ones. Without a rate
-//!   packets wait for the line between two clock references on which they arrive; then each goes to the view of packets with
-//!   arrivals (`view`).
-//! - [`ViewRequest`]: the request of a view, in two parts: [`ViewOptions`], how the packets arrive and the length of a window;
-//!   and [`ViewChoice`], the programs whose streams are viewed, and buffers that are given.
+//! - [`ClockedView`]: takes packets, and appends the events that they settle to a list; `end` appends the last ones.
+//!   Without a rate packets wait for the line between two clock references on which they arrive; then each goes to the
+//!   view of packets with arrivals (`view`).
+//! - [`ViewRequest`]: the request of a view, in two parts: [`ViewOptions`], how the packets arrive and the length of a
+//!   window; and [`ViewChoice`], the programs whose streams are viewed, and buffers that are given.
 //!
 //! The main buffer of sound whose frames have headers is viewed by access units (`specs/EntryFrames`), unless its
 //! buffers are given; all other main buffers by PES packets.

@@ -26,10 +26,12 @@ use system_tables::SystemTables;
 use tr101290::{ContinuityWatch, PcrReport, PcrWatches, pcr_sample};
 use ts_packet::{Packet, PacketError, has_pcr};
 use ts_tables::{NamedStreams, ServiceNames};
+use ts_watch::absent_tables::push_absent;
 use ts_watch::clock_events::{errors_in, push_clocks, push_report};
 use ts_watch::clock_windows::ClockWindows;
 use ts_watch::reference_events::push_references;
 use ts_watch::rule_watch::RuleWatch;
+use ts_watch::stopped_tables::push_stopped_tables;
 use ts_watch::system_events::push_excesses;
 use ts_watch::table_watch::TableWatch;
 use ts_watch::view_choice::ViewChoice;
@@ -162,9 +164,11 @@ impl Seen {
         packet: &Packet<'_>,
         events: &mut Vec<Event>,
     ) -> Result<(), AllocError>
-        ensures seen { OnOk result (self.new ≡ spec.with_counter self.old (spec.counted_entry self.old bytes.now (packet_view packet.now))) }
+        ensures seen { OnOk result (self.new
+            ≡ spec.with_counter self.old (spec.counted_entry self.old bytes.now (packet_view packet.now))) }
         ensures found { OnOk result (events.new.items ≡ events.old.items
-            ++ spec.counter_events_by (error_at self.old.counters (spec.counted_entry self.old bytes.now (packet_view packet.now)))) }
+            ++ spec.counter_events_by (error_at self.old.counters
+            (spec.counted_entry self.old bytes.now (packet_view packet.now)))) }
     {
         let index = self.packets.saturating_sub(1);
         let error = self.counters.take(index, packet, bytes)?;
@@ -271,7 +275,8 @@ impl Seen {
     ) -> Result<u64, AllocError>
         ensures seen { OnOk result (self.new ≡ spec.with_accuracy self.old pid report.now) }
         ensures found { OnOk result (events.new.items ≡ events.old.items
-            ++ accuracy_events (timing_of self.old.options.arrival) self.old.rules.judge self.old.packets pid report.now) }
+            ++ accuracy_events (timing_of self.old.options.arrival) self.old.rules.judge
+            self.old.packets pid report.now) }
         ensures errors { IfOk result (λ n. n
             ≡ accuracy_count (timing_of self.old.options.arrival) self.old.rules.judge pid report.now) }
     {
@@ -367,21 +372,41 @@ impl Seen {
         self.references.push(self.window.number(), events)
     }
 
-    /// Appends the last events of clock references by PID, of tables, of all packets by PID, and of PIDs that are not
-    /// named or have no packet.
+    // Returns whether more than half of the packets were read.
+    fn is_stream(&self) -> bool
+        ensures { result ≡ spec.is_stream self.now }
+    {
+        self.packets != 0 && self.refused <= self.packets / 2
+    }
+
+    // Appends tables without a section, tables that stop, the accuracies that wait, and that packets are scrambled
+    // without a CAT.
+    #[tactic(auto, unfolding(crate::specs::Seen::rule_ends))]
+    fn push_rule_ends(&self, events: &mut Vec<Event>) -> Result<(), AllocError>
+        ensures { OnOk result (events.new.items ≡ events.old.items ++ spec.rule_ends self.now) }
+    {
+        let stream = self.is_stream();
+        push_absent(self.alloc, events, stream, &self.named, &self.tables)?;
+        push_stopped_tables(events, &self.options, &self.tables, self.packets)?;
+        let has_cat = self.tables.has_table(0x01, 0x01);
+        self.rules.push_end(self.packets, has_cat, events)
+    }
+
+    /// Appends the last events of clock references by PID, of tables, of all packets by PID, of PIDs that are not named
+    /// or have no packet, and of rules.
+    #[tactic(auto, unfolding(crate::specs::Seen::pid_ends))]
     pub fn push_pid_ends(&self, events: &mut Vec<Event>) -> Result<(), AllocError>
         ensures { OnOk result (events.new.items ≡ events.old.items ++ spec.pid_ends self.now) }
     {
         push_clocks(events, &self.watches)?;
         self.tables.push_end(events)?;
         push_pids(events, &self.totals)?;
-        push_references(self.alloc, events, &self.named, &self.totals)?;
-        let has_cat = self.tables.has_table(0x01, 0x01);
-        self.rules.push_end(self.packets, has_cat, events)
+        push_references(self.alloc, events, &self.named, &self.tables, &self.totals)?;
+        self.push_rule_ends(events)
     }
 
-    /// Returns the end of the stream, `left` bytes after its last whole packet; its length is the moment of the byte after
-    /// that packet.
+    /// Returns the end of the stream, `left` bytes after its last whole packet; its length is the moment of the byte
+    /// after that packet.
     pub fn end_event(&self, left: usize) -> Event
         ensures { result ≡ spec.end_event self.now left }
     {

@@ -57,7 +57,8 @@ impl View {
         count: usize,
         events: &mut Vec<Event>,
     ) -> Result<(), AllocError>
-        ensures view { (s : ViewState) → IsView self.old s → OnOk result (IsView self.new (spec.arriving s arrival count)) }
+        ensures view { (s : ViewState) → IsView self.old s →
+            OnOk result (IsView self.new (spec.arriving s arrival count)) }
         ensures found { (s : ViewState) → IsView self.old s → OnOk result (events.new.items
             ≡ events.old.items ++ arrival_events s.seen arrival count) }
     {
@@ -175,7 +176,8 @@ impl View {
 
     /// Takes the next packet, and appends the events that it settles.
     pub fn take(&mut self, bytes: &[u8; 188], events: &mut Vec<Event>) -> Result<(), AllocError>
-        ensures view { (s : ViewState) → IsView self.old s → OnOk result (IsView self.new (spec.after_packet s bytes.now)) }
+        ensures view { (s : ViewState) → IsView self.old s →
+            OnOk result (IsView self.new (spec.after_packet s bytes.now)) }
         ensures found { (s : ViewState) → IsView self.old s →
             OnOk result (events.new.items ≡ events.old.items ++ spec.events_at s bytes.now) }
     {
@@ -193,7 +195,8 @@ impl View {
         packets: &[[u8; 188]],
         events: &mut Vec<Event>,
     ) -> Result<(), AllocError>
-        ensures view { (s : ViewState) → IsView self.old s → OnOk result (IsView self.new (spec.after_all s packets.now)) }
+        ensures view { (s : ViewState) → IsView self.old s →
+            OnOk result (IsView self.new (spec.after_all s packets.now)) }
         ensures found { (s : ViewState) → IsView self.old s →
             OnOk result (events.new.items ≡ events.old.items ++ spec.events_all s packets.now) }
     {

@@ -1,4 +1,4 @@
--- What is said of one service, finding by finding.
+-- The last description of a service, finding by finding.
 use Rattle.std.proofs.Common.{◌≡◌, ◌≤◌, ◌<◌, ℕ, ◌+◌, List, length, map, drop, get_or, Option, option_map, refl, sym, None}
 use Rattle.std.specs.Option.{option_or}
 use Rattle.pid_findings.specs.Views.{FindingView}
@@ -15,7 +15,7 @@ unfolding service
 service_more view shown number i fs f found last next below at is made =
     rw (more view i fs f below at, made, sym is) (or_both shown (service number (map view (drop (i + 1) fs))) found last)
 
--- a finding that has no section of the PID of service descriptions says nothing of a service
+-- A finding without a section on PID 0x11 does not describe a service.
 pub says_nothing : (number : ℕ) (f : FindingView) → section_on 0x11 f ≡ None → service_found number f ≡ None
 unfolding service_found sdt_found
 says_nothing number f none = rw none refl

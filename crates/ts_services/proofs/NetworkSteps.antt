@@ -6,7 +6,7 @@ use Rattle.ts_services.specs.NetworkInformation.{FoundNetworkView, is_surplus, n
 use Rattle.ts_services.specs.declared.network_information.KnownStream.{KnownStream}
 use Rattle.program_tables.proofs.Slices.{more, done}
 
--- the first network
+-- The first network.
 
 pub first_more : {X : Type 0} (view : X → FindingView) (s : KnownStream) (i : ℕ) (fs : List X) (f : X) → i < length fs → f ≡ get_or fs i f →
     first_network s (map view (drop i fs)) ≡ option_or (network_said s (view f)) (first_network s (map view (drop (i + 1) fs)))
@@ -17,7 +17,7 @@ pub first_end : {X : Type 0} (view : X → FindingView) (s : KnownStream) (i : �
 unfolding first_network
 first_end view s i fs over = rw (done view i fs over) refl
 
--- the first table that says anything else
+-- The first table that differs from the first network.
 
 pub surplus_later : {X : Type 0} (view : X → FindingView) (s : KnownStream) (n : Option FoundNetworkView) (i : ℕ) (fs : List X) (f : X) → i < length fs →
     f ≡ get_or fs i f →

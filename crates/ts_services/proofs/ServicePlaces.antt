@@ -1,4 +1,4 @@
--- What is last said of a service is at its place.
+-- The place of a service holds its last description.
 use Rattle.std.proofs.Common.{◌≡◌, ◌<◌, ◌≤◌, ℕ, ◌+◌, ◌==◌, nat_eq, cond, Bool, true, false, List, [], ◌∷◌, length, map, drop, get_or, slice_get, Option, Some}
 use Rattle.std.proofs.Common.{None, refl, ap, ◌∙◌, add-one}
 use Rattle.std.specs.Prelude.{is_some, option_and_then}
@@ -27,9 +27,9 @@ pub services_end : {X : Type 0} (view : X → FindingView) (es : List (ℕ × �
 unfolding services_from
 services_end view es i fs over = rw (done view i fs over) refl
 
--- 2. What one entry changes, and what all entries of a table do
+-- 2. The changes by one entry, and by all entries of a table
 
--- the place of a finding, if its table says something of the service
+-- The place of a finding, if its table describes the service.
 abbrev placed : ℕ → Option FoundServiceView → Option ℕ → Option ℕ
 placed at found before = cond (is_some found) (Some at) before
 
@@ -59,7 +59,7 @@ by_entries number at es (s ∷ ss) =
     by_entries number at (with_entry es at s) ss ∙ ap (placed at (in_entries number ss)) (by_entry number at es s)
     ∙ either at (of_entry number s) (in_entries number ss) (lookup (nat_eq number) es)
 
--- 3. What one finding changes
+-- 3. The changes by one finding
 
 placed_there : (number at : ℕ) (all : List FindingView) (found : Option FoundServiceView) (before : Option ℕ) →
     option_and_then (service_found number) (slice_get all at) ≡ found →

@@ -1,8 +1,8 @@
 //! Services and network of a transport stream, from its tables.
 //!
 //! Among the findings of a demultiplexer, the service description table has a service's names, as bytes
-//! (`specs/Services`, `specs/ServicePlaces`), and its original network (`specs/Networks`); the network information table
-//! has its network (`specs/NetworkInformation`).
+//! (`specs/Services`, `specs/ServicePlaces`), and its original network (`specs/Networks`); the network information
+//! table has its network (`specs/NetworkInformation`).
 #![tactic(auto)]
 
 mod network_information;

@@ -1,4 +1,4 @@
--- The streams that are known are those that the first packets name.
+-- The known streams are the streams that the first packets name.
 use Rattle.std.proofs.Common.{◌≡◌, ◌∙◌, sym, ℕ, ◌+◌, suc, min, is_some, Bool, true, false, List, [], ◌∷◌, ◌++◌, length, Option, Some, None, true≢false, refl}
 use Rattle.std.proofs.Common.{ap, arith}
 use Rattle.std.proofs.lemmas.Bool.Decides.{nat_tests}
@@ -8,13 +8,13 @@ use Rattle.stream_programs.specs.Programs.{FoundProgramsView}
 use Rattle.ts_tables.specs.NamedStreams.{NamedView, taken_if, is_last, next_packet, streams_at}
 use Rattle.ts_tables.specs.Laws.{state_of, bytes_of, first_streams, FirstLaw}
 
--- a state after packets; while the streams are not known it has what is found of all of them, and their number
+-- A state after packets; until the streams are known, it has all findings of these packets, and their number.
 record IsAfter (packets : List (List ℕ)) (s : NamedView) : Type 0 where
   streams : s.streams ≡ first_streams packets
   found : s.streams ≡ None → s.demux ≡ pushed start (bytes_of packets)
   count : s.streams ≡ None → s.packets ≡ min (length packets) 4294967295
 
--- a number of packets that stops is the last one where the number is
+-- The counter, which stops at its greatest value, marks the last packet where the exact number does.
 last_same : (n : ℕ) → is_last (min (min n 4294967295 + 1) 4294967295) ≡ is_last (suc n)
 last_same n = by (is_last (min (min n 4294967295 + 1) 4294967295)) (is_last (suc n)) refl refl
   where

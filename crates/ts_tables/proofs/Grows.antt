@@ -1,4 +1,4 @@
--- What is found is followed by what bytes add, and maps that are found stay.
+-- Later bytes only add findings, and a map that is found remains.
 use Rattle.std.proofs.Common.{◌≡◌, ◌∙◌, sym, ℕ, ◌==◌, Bool, true, false, List, [], ◌∷◌, ◌++◌, length, Option, Some, None, refl, ap, append_assoc, append-nil}
 use Rattle.std.specs.Option.{option_or}
 use Rattle.psi_tables.specs.ProgramMap.{PmtView}
@@ -7,7 +7,7 @@ use Rattle.pid_findings.specs.Views.{FindingView}
 use Rattle.demux.specs.Stream.{StreamState, pushed, completed, found_in}
 use Rattle.program_tables.specs.ProgramMaps.{pmt_found, program_map}
 
--- 1. By bytes
+-- 1. Findings with more bytes
 
 completed_grows : (s : StreamState) (held : List ℕ) → (more : List FindingView) × ((completed s held).found ≡ s.found ++ more)
 unfolding completed

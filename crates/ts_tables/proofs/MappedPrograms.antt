@@ -1,4 +1,4 @@
--- What tables say while streams are not known, with more findings.
+-- The tables' programs and maps while the streams are not known, with more findings
 use Rattle.std.proofs.Common.{◌≡◌, ◌∙◌, sym, ◌<◌, ◌≤◌, ℕ, true≢false, ◌+◌, ◌-◌, ◌==◌, ◌&&◌, ◌||◌, Bool, true, false, is_some, List, [], ◌∷◌, ◌++◌, map, take}
 use Rattle.std.proofs.Common.{length, get_or, Option, Some, None, refl, ap, arith, subst, length-append}
 use Rattle.std.specs.Prelude.{if◌then◌else◌}
@@ -23,7 +23,7 @@ use Rattle.ts_tables.proofs.Grows.{grows, map_both}
 
 -- 1. Programs of a table
 
--- with one more that has a map
+-- One more program that has a map
 pub mapped_more : (found : List FindingView) (ps : List Program) (i : ℕ) (d : Program) → i < length ps → is_some (program_map (get_or ps i d) found) ≡ true →
     have_maps found (take i ps) ≡ true → have_maps found (take (i + 1) ps) ≡ true
 mapped_more found ps i d below mapped before =
@@ -69,7 +69,7 @@ more_maps found more (p ∷ ps) all =
     let first : is_some (program_map p (found ++ more)) ≡ true = rw (map_both p found more) (some_or (program_map p more) (program_map p found) both.0) in
     rw first (more_maps found more ps both.1)
 
--- programs that have maps have them still
+-- A program that has a map still has it after more findings.
 record StillMapped (found : List FindingView) (mapped : ℕ) : Type 0 where
   within : mapped ≤ length (known_in found).programs
   before : have_maps found (take mapped (known_in found).programs) ≡ true
@@ -86,7 +86,7 @@ still_mapped tables found more mapped are =
       before = rw (grown.is, take-append-le mapped ps grown.others inside) (more_maps found more (take mapped ps) had);
     }
 
--- what was found before a packet is the first part of what is found after it
+-- The findings before a packet are the first part of the findings after it.
 pub record FirstPart {X : Type 0} (view : X → FindingView) (before after : List X) (tables : KnownView) (mapped : ℕ) : Type 0 where
   pub within : length before ≤ length after
   pub known : tables ≡ known_in (take (length before) (map view after))
@@ -109,16 +109,16 @@ first_part view s t bytes before after tables mapped e b a are =
       have = rw whole later.before;
     }
 
--- 3. Streams by what the tables say
+-- 3. Streams by the tables
 
--- after tables are taken
+-- The state after tables are taken
 pub taken : (tables : KnownView) (found : List FindingView) (mapped : ℕ) → tables ≡ known_in found → mapped ≤ length (known_in found).programs →
     have_maps found (take mapped (known_in found).programs) ≡ true → AreTables tables found mapped
 taken tables found mapped is within before =
     let same : tables.programs ≡ (known_in found).programs = ap (λ (known : KnownView). known.programs) is in
     record { known = is; within = rw same within; before = rw same before }
 
--- programs that tables name
+-- The programs that tables name
 pub record AreNamed (tables : KnownView) (found : List FindingView) (ps : List Program) (n : ℕ) : Type 0 where
   pub known : tables ≡ known_in found
   pub within : n ≤ length ps
@@ -138,7 +138,7 @@ mapped_are tables found ps n same known are =
     let their : AreMapped found tables.programs n = subst (λ (l : List Program). AreMapped found l n) same are in
     record { are = record { known = known; within = their.within; before = their.before }; all = their.all }
 
--- in the code's terms
+-- The named programs in the code's terms
 abbrev pub named : Bool → List Program → List FindingView → Option FoundProgramsView
 named known programs found = if known then Some (programs_of programs found) else None
 
@@ -157,7 +157,7 @@ streams_are last tables found is =
     let ps : tables.programs ≡ named_by (first_pat found) found = ap (λ (known : KnownView). known.programs) is ∙ programs_known found in
     by_first last found (first_pat found) refl ∙ sym (rw (v, ps) refl)
 
--- so many have maps, and the streams are known or not
+-- `mapped` programs have maps, and the streams are known or not.
 pub known_streams : (last : Bool) (tables : KnownView) (found : List FindingView) (mapped : ℕ) → tables ≡ known_in found →
     (mapped == length tables.programs) ≡ have_maps found tables.programs → (t : Bool) →
     t ≡ (last || (is_some tables.version && (mapped == length tables.programs))) → named t tables.programs found ≡ streams_at last found

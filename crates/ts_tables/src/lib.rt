@@ -2,8 +2,8 @@
 //!
 //! - [`NamedStreams`]: takes the first packets of a stream, until each program of its program association table has a
 //!   program map table.
-//! - [`ServiceNames`]: the name of each program of the first tables, packet by packet, as the last service description table that
-//!   has one says it (EN 300 468, 5.2.3 and 6.2.33).
+//! - [`ServiceNames`]: the name of each program of the first tables, packet by packet, as the last service description
+//!   table that has one says it (EN 300 468, 5.2.3 and 6.2.33).
 //! - [`laws`]: these are the streams that the first tables name.
 #![tactic(auto)]
 

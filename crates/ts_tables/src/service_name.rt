@@ -41,7 +41,8 @@ fn some_text(text: String) -> Option<String>
 // The name of a service.
 #[tactic(auto, unfolding(crate::specs::ServiceNames::name_of))]
 fn name_of(alloc: Global, service: Option<FoundService<'_>>) -> Result<Option<String>, AllocError>
-    ensures { IfOk result (λ name. option_map string_bytes name ≡ spec.name_of (option_map found_service_view service.entry)) }
+    ensures { IfOk result (λ name. option_map string_bytes name
+        ≡ spec.name_of (option_map found_service_view service.entry)) }
 {
     match service {
         None => Ok(None),
@@ -55,7 +56,8 @@ fn name_in(
     findings: &[Finding<'_>],
     program: u16,
 ) -> Result<Option<String>, AllocError>
-    ensures { IfOk result (λ name. option_map string_bytes name ≡ spec.name_in (map finding_view findings.now) program) }
+    ensures { IfOk result (λ name. option_map string_bytes name
+        ≡ spec.name_in (map finding_view findings.now) program) }
 {
     name_of(alloc, last_service(program, findings))
 }

@@ -67,7 +67,7 @@ not_before a w less = by (a == w) refl
 unequal : (a b : ℕ) → (a == b) ≡ false → a ≤ b → a < b
 unequal a b other le = grind (arith, nat_tests)
 
--- none is in a later window
+-- References up to a window are in no later window.
 none_of_it : (w pid last : ℕ) (rs : List Placed) → InOrder last rs → last < w → reports_in w pid rs ≡ []
 unfolding InOrder reports_in
 none_of_it w pid last [] order less = refl
@@ -82,7 +82,7 @@ unfolding all_counted
 one_more true report rs = refl
 one_more false report rs = refl
 
--- the counts of a PID in the window of a reference, by those before it
+-- The counts of a PID in a window are the counts before the reference, with this reference if it has the PID.
 counted_by : (r : Placed) (earlier : List Placed) (pid : ℕ) →
     counts_of pid (counts_in (state_of earlier) r.window) ≡ all_counted (reports_in r.window pid earlier) →
     counts_of pid (state_of (r ∷ earlier)).counts ≡ all_counted (reports_in r.window pid (r ∷ earlier))

@@ -1,4 +1,4 @@
--- The drift of a program clock is that of its own references.
+-- The drift of a program clock is the drift of its own references.
 use Rattle.std.proofs.Common.{◌≡◌, ◌∙◌, ℕ, ◌-◌, ◌==◌, Bool, true, false, cond, nat_eq, List, [], ◌∷◌, Option, Some, None, refl, ap, sym, arith}
 use Rattle.indexmap.specs.IndexMap.{insert_entry}
 use Rattle.arrival.specs.declared.clock.ClockStep.{ClockStep}

@@ -1,4 +1,4 @@
--- The sections of tables need no body of a PES packet.
+-- The sections of tables do not depend on the body of a PES packet.
 use Rattle.std.proofs.Common.{◌≡◌, ◌∙◌, ℕ, ◌+◌, ◌^◌, ◌-◌, Bool, List, [], ◌∷◌, ◌++◌, map, Option, Some, None, refl, sym, ap, ap₂}
 use Rattle.std.specs.Prelude.{min, if◌then◌else◌, option_and_then, unwrap_or}
 use Rattle.psi_tables.specs.declared.error.SectionError.TheVariants as refusals
@@ -16,6 +16,7 @@ use Rattle.tr101290.specs.Sections.{begin_of, extension_of, section_begin, secti
 use Rattle.tr101290.specs.declared.distances.WholeSection.{WholeSection}
 use Rattle.tr101290.specs.declared.intervals.SectionBegin.{SectionBegin}
 use Rattle.es_events.specs.declared.view_options.ViewOptions.{ViewOptions}
+use Rattle.ts_watch.specs.SectionPids.{with_each, with_found}
 use Rattle.ts_watch.specs.TableEvents.{TimesState, begin_events, distance_events, finding_events, findings_events, is_wrong, other_events, placed, placed_if}
 use Rattle.ts_watch.specs.TableEvents.{with_begin, with_finding, with_findings, with_whole}
 
@@ -78,7 +79,7 @@ wrong_besides (IsBadPacket error) = refl
 wrong_besides IsErrored = refl
 wrong_besides (IsStray size) = refl
 
--- 2. What it leaves, and what is said of it
+-- 2. The state after a finding, and its events
 
 abbrev with_by : ViewOptions → TimesState → Bool → Option WholeSection → Option SectionBegin → TimesState
 with_by options s wrong whole section =
@@ -127,3 +128,27 @@ times_alike options s x y e = sym (all_besides options s x) ∙ ap (with_finding
 pub events_alike : (options : ViewOptions) (s : TimesState) (x y : List FindingView) → all_without_body x ≡ all_without_body y →
     findings_events options s x ≡ findings_events options s y
 events_alike options s x y e = sym (events_besides options s x) ∙ ap (findings_events options s) e ∙ events_besides options s y
+
+-- 4. The PIDs that sections name
+
+pids_besides : (pids : List ℕ) (w : WhatView) → with_found pids (without_body w) ≡ with_found pids w
+unfolding with_found
+pids_besides pids (IsPes header unended body) = refl
+pids_besides pids (IsTruncated bytes) = refl
+pids_besides pids IsDuplicate = refl
+pids_besides pids (BreaksCounter expected found) = refl
+pids_besides pids IsScrambled = refl
+pids_besides pids (IsSection bytes) = refl
+pids_besides pids (IsBadSection error) = refl
+pids_besides pids (IsBadPes error) = refl
+pids_besides pids (IsBadPacket error) = refl
+pids_besides pids IsErrored = refl
+pids_besides pids (IsStray size) = refl
+
+each_besides : (pids : List ℕ) (fs : List FindingView) → with_each pids (all_without_body fs) ≡ with_each pids fs
+unfolding with_each
+each_besides pids [] = refl
+each_besides pids (f ∷ fs) = ap (λ (t : List ℕ). with_each t (all_without_body fs)) (pids_besides pids f.what) ∙ each_besides (with_found pids f.what) fs
+
+pub pids_alike : (pids : List ℕ) (x y : List FindingView) → all_without_body x ≡ all_without_body y → with_each pids x ≡ with_each pids y
+pids_alike pids x y e = sym (each_besides pids x) ∙ ap (with_each pids) e ∙ each_besides pids y

@@ -1,5 +1,6 @@
 pub mod Sections
 pub mod HeaderTables
 pub mod TablePackets
+mod OpenSections
 mod ClockCounts
 mod ClockDrifts

@@ -1,17 +1,18 @@
--- Findings one by one.
+-- Findings one by one
 use Rattle.std.proofs.Common.{◌≡◌, ◌∙◌, ◌<◌, ◌≤◌, ℕ, ◌+◌, ◌++◌, List, [], ◌∷◌, length, map, drop, get_or, refl, sym, ap, add-one}
 use Rattle.std.proofs.Math.Seq.{drop-cons}
 use Rattle.std.proofs.lemmas.List.{append_assoc, append-nil, drop_all}
 use Rattle.pid_findings.specs.Views.{FindingView}
 use Rattle.events.specs.declared.event.Event.{Event}
 use Rattle.es_events.specs.declared.view_options.ViewOptions.{ViewOptions}
+use Rattle.ts_watch.specs.SectionPids.{with_each, with_found}
 use Rattle.ts_watch.specs.TableEvents.{TimesState, finding_events, findings_events, with_finding, with_findings}
 
 all_step : {X : Type 0} (view : X → FindingView) (i : ℕ) (fs : List X) (f : X) → i < length fs → f ≡ get_or fs i f →
     map view (drop i fs) ≡ view f ∷ map view (drop (i + 1) fs)
 all_step view i fs f below at = rw (drop-cons fs i f below, add-one i, sym at) refl
 
--- the sections of those that are left
+-- The state after one finding and the rest is the state after all remaining findings.
 pub times_step : {X : Type 0} (view : X → FindingView) (options : ViewOptions) (whole s next : TimesState) (i : ℕ) (fs : List X) (f : X) → i < length fs →
     f ≡ get_or fs i f →
     whole ≡ with_findings options s (map view (drop i fs)) → next ≡ with_finding options s (view f) →
@@ -27,7 +28,7 @@ unfolding with_findings
 times_end view options whole s i fs over is =
     let none : map view (drop i fs) ≡ [] = rw (drop_all i fs over) refl in sym (is ∙ ap (λ (l : List FindingView). with_findings options s l) none)
 
--- and what is wrong with them
+-- The events of one finding come before the events of the later findings.
 pub events_step : {X : Type 0} (view : X → FindingView) (options : ViewOptions) (s next : TimesState) (i : ℕ) (fs : List X) (f : X)
     (whole before after : List Event) → i < length fs → f ≡ get_or fs i f →
     whole ≡ before ++ findings_events options s (map view (drop i fs)) → next ≡ with_finding options s (view f) →
@@ -48,3 +49,17 @@ unfolding findings_events
 events_end view options s i fs whole events over is =
     let none : map view (drop i fs) ≡ [] = rw (drop_all i fs over) refl in
     sym (is ∙ ap (λ (l : List FindingView). events ++ findings_events options s l) none ∙ append-nil events)
+
+-- The PIDs after one finding and the rest are the PIDs after all remaining findings.
+pub pids_step : {X : Type 0} (view : X → FindingView) (whole pids next : List ℕ) (i : ℕ) (fs : List X) (f : X) → i < length fs → f ≡ get_or fs i f →
+    whole ≡ with_each pids (map view (drop i fs)) → next ≡ with_found pids (view f).what → whole ≡ with_each next (map view (drop (i + 1) fs))
+unfolding with_each
+pids_step view whole pids next i fs f below at is goes =
+    is ∙ ap (λ (l : List FindingView). with_each pids l) (all_step view i fs f below at)
+    ∙ ap (λ (t : List ℕ). with_each t (map view (drop (i + 1) fs))) (sym goes)
+
+pub pids_end : {X : Type 0} (view : X → FindingView) (whole pids : List ℕ) (i : ℕ) (fs : List X) → length fs ≤ i →
+    whole ≡ with_each pids (map view (drop i fs)) → pids ≡ whole
+unfolding with_each
+pids_end view whole pids i fs over is =
+    let none : map view (drop i fs) ≡ [] = rw (drop_all i fs over) refl in sym (is ∙ ap (λ (l : List FindingView). with_each pids l) none)

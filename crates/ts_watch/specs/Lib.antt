@@ -5,7 +5,10 @@ pub mod ClockEvents
 pub mod ClockDrifts
 pub mod ClockWindows
 pub mod ReferenceEvents
+pub mod SectionPids
 pub mod TableEvents
+pub mod AbsentTables
 pub mod RuleEvents
+pub mod StoppedEvents
 pub mod SystemEvents
 pub mod Laws

@@ -3,7 +3,7 @@ use Rattle.std.specs.Prelude.{ℕ, ◌&&◌, ◌||◌, not, nat_le, Bool, if◌t
 use Rattle.std.specs.List.{list_all}
 use Rattle.std.specs.Option.{option_to_list}
 use Rattle.tstd_rows.specs.Limits.{bsys_size, tb_size}
-use Rattle.system_tables.specs.Programs.{ProgramState, system_most, told, transport_most}
+use Rattle.system_tables.specs.Programs.{ProgramState, system_most, reported, transport_most}
 use Rattle.system_tables.specs.declared.program_buffers.TheConstants.{DRAIN}
 use Rattle.system_tables.specs.declared.table_excess.TableBuffer.{TableBuffer}
 use Rattle.system_tables.specs.declared.table_excess.TableBuffer.TheVariants.{Transport, System}
@@ -58,7 +58,7 @@ system_event p = found.System (record {
 
 -- the current excess of each buffer
 abbrev pub under_way : ProgramState → List TableExcess
-under_way p = told p.number (option_to_list p.transport.watch.under_way) (option_to_list p.system.watch.under_way)
+under_way p = reported p.number (option_to_list p.transport.watch.under_way) (option_to_list p.system.watch.under_way)
 
 -- current excesses come first, then the totals of both buffers, for each program that is viewed
 abbrev pub event_if : ChoiceView → ProgramState → List Event

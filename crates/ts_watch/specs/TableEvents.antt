@@ -29,6 +29,7 @@ use Rattle.events.specs.declared.rule_event.RuleEvent.TheVariants as rules
 use Rattle.events.specs.declared.event.Event.TheVariants as found
 use Rattle.es_events.specs.declared.view_options.ViewOptions.{ViewOptions}
 use Rattle.es_events.specs.Clocks.{first_byte}
+use Rattle.ts_watch.specs.SectionPids.{with_each}
 
 -- 1. A section that begins too late
 
@@ -160,21 +161,29 @@ findings_events options s (f ∷ fs) = finding_events options s f ++ findings_ev
 
 -- 3. Packet by packet: the findings of a packet are dropped once its sections are known, and no body of a PES packet is kept
 
+-- with the PIDs that the sections name
 pub record TablesState : Type 0 where
   pub demux : StreamState
   pub times : TimesState
+  pub named : List ℕ
 
 -- no part of a packet is held, and no finding
 pub record TakesPackets (s : StreamState) : Type 0 where
   pub held : s.held ≡ []
   pub found : s.found ≡ []
 
+abbrev pub no_times : TableTiming → TimesState
+no_times timing = record { intervals = no_section timing; distances = no_end timing; errors = 0 }
+
 abbrev pub no_tables : TableTiming → TablesState
-no_tables timing = record { demux = start; times = record { intervals = no_section timing; distances = no_end timing; errors = 0 } }
+no_tables timing = record { demux = start; times = no_times timing; named = [] }
 
 abbrev pub with_packet : ViewOptions → TablesState → List ℕ → TablesState
-with_packet options s bytes =
-    record { demux = with_found [] (headers_pushed s.demux bytes); times = with_findings options s.times (pushed s.demux bytes).found }
+with_packet options s bytes = record {
+  demux = with_found [] (headers_pushed s.demux bytes);
+  times = with_findings options s.times (pushed s.demux bytes).found;
+  named = with_each s.named (pushed s.demux bytes).found;
+}
 
 abbrev pub packet_events : ViewOptions → TablesState → List ℕ → List Event
 packet_events options s bytes = findings_events options s.times (pushed s.demux bytes).found

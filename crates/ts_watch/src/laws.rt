@@ -10,9 +10,9 @@ pub fn clocks_by_window()
     ensures inaccuracies { GreatestInaccuracyLaw }
 {}
 
-/// States that the drift of a PID is the drift of its own references, of whatever window, and that from a reference with
-/// which the clock begins it is by the ticks of all lines after that and by the moments of the first and of the last
-/// reference.
+/// States that the drift of a PID is the drift of its own references, of whatever window, and that from a reference
+/// with which the clock begins it is by the ticks of all lines after that and by the moments of the first and of the
+/// last reference.
 pub fn drift_by_references()
     ensures own { DriftLaw }
     ensures total { TotalDriftLaw }

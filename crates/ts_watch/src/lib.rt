@@ -2,6 +2,7 @@
 //! of TR 101 290, and the buffers of system data.
 #![tactic(auto)]
 
+pub mod absent_tables;
 mod clock_drift;
 pub mod clock_events;
 pub mod clock_windows;
@@ -9,6 +10,8 @@ pub mod laws;
 mod pid_labels;
 pub mod reference_events;
 pub mod rule_watch;
+mod section_pids;
+pub mod stopped_tables;
 pub mod system_events;
 pub mod table_watch;
 pub mod view_choice;

@@ -31,9 +31,9 @@ impl Model for RuleWatch {
     ghost view = { λ w. record { stamps = w.stamps; judge = w.judge; scrambled = w.scrambled } };
 }
 
-// Returns the place of a packet: its index at a constant rate, else its moment, if that is known.
+/// Returns the place of a packet: its index at a constant rate, else its moment, if that is known.
 #[tactic(auto, unfolding(crate::specs::RuleEvents::place_at))]
-fn place_at(arrival: &Arrival, index: u64) -> Option<u64>
+pub(crate) fn place_at(arrival: &Arrival, index: u64) -> Option<u64>
     ensures { result ≡ spec.place_at arrival.now index }
 {
     match arrival {
@@ -93,7 +93,8 @@ fn push_scrambled(
     named: &NamedStreams,
     packet: &Packet<'_>,
 ) -> Result<(), AllocError>
-    ensures { OnOk result (events.new.items ≡ events.old.items ++ spec.scrambled_events index named.now (packet_view packet.now)) }
+    ensures { OnOk result (events.new.items
+        ≡ events.old.items ++ spec.scrambled_events index named.now (packet_view packet.now)) }
 {
     let pid = packet.header.pid;
     if is_scrambled(packet) && is_map(label_of(named, pid).coding) {
@@ -112,7 +113,8 @@ fn push_scrambled_if(
     named: &NamedStreams,
     packet: &Packet<'_>,
 ) -> Result<(), AllocError>
-    ensures { OnOk result (events.new.items ≡ events.old.items ++ spec.scrambled_events index named.now (packet_view packet.now)) }
+    ensures { OnOk result (events.new.items
+        ≡ events.old.items ++ spec.scrambled_events index named.now (packet_view packet.now)) }
 {
     if !is_scrambled(packet) {
         return Ok(());
@@ -164,8 +166,10 @@ impl RuleWatch {
         report: &PcrReport,
         events: &mut Vec<Event>,
     ) -> Result<u64, AllocError>
-        ensures watch { OnOk result (self.new ≡ spec.with_judge self.old (spec.judge_taken self.old.judge pid report.now)) }
-        ensures found { OnOk result (events.new.items ≡ events.old.items ++ spec.judged_events self.old.judge index pid report.now) }
+        ensures watch { OnOk result (self.new
+            ≡ spec.with_judge self.old (spec.judge_taken self.old.judge pid report.now)) }
+        ensures found { OnOk result (events.new.items
+            ≡ events.old.items ++ spec.judged_events self.old.judge index pid report.now) }
         ensures errors { IfOk result (λ n. n ≡ spec.judged_count self.old.judge pid report.now) }
     {
         let mut errors = Vec::new(self.alloc);
@@ -188,8 +192,10 @@ impl RuleWatch {
         report: &Option<PcrReport>,
         events: &mut Vec<Event>,
     ) -> Result<u64, AllocError>
-        ensures watch { OnOk result (self.new ≡ spec.with_judge self.old (spec.judge_after timing self.old.judge pid report.now)) }
-        ensures found { OnOk result (events.new.items ≡ events.old.items ++ spec.accuracy_events timing self.old.judge index pid report.now) }
+        ensures watch { OnOk result (self.new
+            ≡ spec.with_judge self.old (spec.judge_after timing self.old.judge pid report.now)) }
+        ensures found { OnOk result (events.new.items
+            ≡ events.old.items ++ spec.accuracy_events timing self.old.judge index pid report.now) }
         ensures errors { IfOk result (λ n. n ≡ spec.accuracy_count timing self.old.judge pid report.now) }
     {
         let Some(report) = report else {
@@ -212,8 +218,10 @@ impl RuleWatch {
         packet: &Packet<'_>,
         events: &mut Vec<Event>,
     ) -> Result<(), AllocError>
-        ensures watch { OnOk result (self.new ≡ spec.with_stamps self.old (spec.stamps_by self.old.stamps place (packet_view packet.now))) }
-        ensures found { OnOk result (events.new.items ≡ events.old.items ++ spec.stamp_events self.old.stamps index place (packet_view packet.now)) }
+        ensures watch { OnOk result (self.new
+            ≡ spec.with_stamps self.old (spec.stamps_by self.old.stamps place (packet_view packet.now))) }
+        ensures found { OnOk result (events.new.items
+            ≡ events.old.items ++ spec.stamp_events self.old.stamps index place (packet_view packet.now)) }
     {
         match place {
             None => Ok(()),

@@ -32,18 +32,18 @@ fn excess_by(buffer: TableBuffer, excess: ProgramExcess) -> Event
     }
 }
 
-fn excess_event(options: &ViewOptions, packet: u64, told: &TableExcess) -> Event
-    ensures { result ≡ spec.excess_event options.now packet told.now }
+fn excess_event(options: &ViewOptions, packet: u64, reported: &TableExcess) -> Event
+    ensures { result ≡ spec.excess_event options.now packet reported.now }
 {
     let excess = ProgramExcess {
-        program: told.program,
+        program: reported.program,
         packet,
-        begin: moment_of(options, DRAIN, told.excess.begin),
-        end: moment_of(options, DRAIN, told.excess.end),
-        peak: told.excess.peak,
-        size: size_of(told.buffer),
+        begin: moment_of(options, DRAIN, reported.excess.begin),
+        end: moment_of(options, DRAIN, reported.excess.end),
+        peak: reported.excess.peak,
+        size: size_of(reported.buffer),
     };
-    excess_by(told.buffer, excess)
+    excess_by(reported.buffer, excess)
 }
 
 // Appends an excess, if its program is viewed.
@@ -52,13 +52,13 @@ fn push_excess_if(
     options: &ViewOptions,
     choice: &ViewChoice,
     packet: u64,
-    told: &TableExcess,
+    reported: &TableExcess,
 ) -> Result<(), AllocError>
     ensures { OnOk result (events.new.items
-        ≡ events.old.items ++ spec.excess_if options.now choice.now packet told.now) }
+        ≡ events.old.items ++ spec.excess_if options.now choice.now packet reported.now) }
 {
-    if choice.takes(told.program) {
-        events.push(excess_event(options, packet, told))?;
+    if choice.takes(reported.program) {
+        events.push(excess_event(options, packet, reported))?;
     }
     Ok(())
 }
@@ -74,8 +74,8 @@ pub fn push_excesses(
     ensures { OnOk result (events.new.items
         ≡ events.old.items ++ spec.excess_events options.now choice.now packet excesses.now) }
 {
-    for told in excesses {
-        push_excess_if(events, options, choice, packet, told)?;
+    for reported in excesses {
+        push_excess_if(events, options, choice, packet, reported)?;
     }
     Ok(())
 }
@@ -125,12 +125,12 @@ fn push_under_way(
     match excess {
         None => Ok(()),
         Some(excess) => {
-            let told = TableExcess {
+            let reported = TableExcess {
                 program,
                 buffer,
                 excess: *excess,
             };
-            push_excess_if(events, options, choice, packets, &told)
+            push_excess_if(events, options, choice, packets, &reported)
         }
     }
 }

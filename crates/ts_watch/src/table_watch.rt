@@ -5,8 +5,11 @@ ghost use Rattle.ts_packet.specs.Packets.{null_packet};
 ghost use Rattle.ts_packet.specs.Reading.{packet_at};
 ghost use Rattle.ts_packet.specs.Views.{packet_view};
 ghost use Rattle.pid_findings.specs.Shown.{finding_view, what_view};
+ghost use Rattle.ts_watch.specs.SectionPids.{with_each};
 ghost use Rattle.ts_watch.specs.TableEvents as spec;
+ghost use Rattle.stream_programs.specs.FreePids.{is_taken};
 
+use crate::section_pids::add_each;
 use arrival::Arrival;
 use demux::HeaderDemux;
 use es_events::clocks::first_byte;
@@ -16,6 +19,7 @@ use pid_findings::{Finding, What};
 use psi_tables::SectionError;
 use std::alloc::{AllocError, Global};
 use std::marker::Model;
+use stream_programs::PidList;
 use tr101290::{
     SectionBegin, SectionDistances, SectionPlaces, TableError, TableIntervals, TableTiming,
     WholeSection, belongs, key_of, limit_of, pid_of, section_begin, table_id_of, time_between,
@@ -40,12 +44,13 @@ impl Model for TableTimes {
     ghost view = { λ t. record { intervals = t.intervals; distances = t.distances; errors = t.errors } };
 }
 
-/// The sections of tables as far as they have come.
+/// The sections of tables as far as they have come, and the PIDs that they name.
 #[derive(Drop)]
 pub struct TableWatch {
     alloc: Global,
     demux: HeaderDemux,
     times: TableTimes,
+    named: PidList<Global>,
 }
 
 impl Model for TableWatch {
@@ -53,7 +58,7 @@ impl Model for TableWatch {
 
     ghost Value = { TablesState };
 
-    ghost view = { λ t. record { demux = t.demux; times = t.times } };
+    ghost view = { λ t. record { demux = t.demux; times = t.times; named = t.named } };
 
     ghost invariant = { λ t. TakesPackets t.demux };
 }
@@ -70,7 +75,7 @@ fn fault_of(error: &TableError) -> TableFault
     }
 }
 
-fn error_event(error: &TableError) -> Event
+pub(crate) fn error_event(error: &TableError) -> Event
     ensures { result ≡ spec.error_event error.now }
 {
     Event::TableRepetition(fault_of(error))
@@ -199,6 +204,26 @@ fn push_check_word_if(events: &mut Vec<Event>, finding: &Finding<'_>) -> Result<
 }
 
 impl TableTimes {
+    /// Returns the state before the first section.
+    pub(crate) fn new(alloc: Global, timing: TableTiming) -> TableTimes
+        ensures { result ≡ spec.no_times timing }
+    {
+        let intervals = TableIntervals::new(alloc, timing);
+        let distances = SectionDistances::new(alloc, intervals.timing());
+        TableTimes {
+            intervals,
+            distances,
+            errors: 0,
+        }
+    }
+
+    /// Returns where the sections of each table begin.
+    pub(crate) fn intervals(&self) -> &TableIntervals<Global>
+        ensures { result.now ≡ self.now.intervals }
+    {
+        &self.intervals
+    }
+
     // Takes a whole section with its places.
     #[tactic(auto, unfolding(crate::specs::TableEvents::distances_after, crate::specs::TableEvents::distance_events))]
     fn take_whole(
@@ -207,7 +232,8 @@ impl TableTimes {
         events: &mut Vec<Event>,
     ) -> Result<(), AllocError>
         ensures times { OnOk result (self.new ≡ spec.with_whole self.old section.now) }
-        ensures found { OnOk result (events.new.items ≡ events.old.items ++ spec.distance_events self.old.distances section.now) }
+        ensures found { OnOk result (events.new.items
+            ≡ events.old.items ++ spec.distance_events self.old.distances section.now) }
     {
         match section {
             None => Ok(()),
@@ -258,13 +284,15 @@ impl TableTimes {
         }
     }
 
-    fn take_all(
+    /// Takes findings, and appends sections that are late or wrong.
+    pub(crate) fn take_all(
         &mut self,
         options: &ViewOptions,
         findings: &[Finding<'_>],
         events: &mut Vec<Event>,
     ) -> Result<(), AllocError>
-        ensures times { OnOk result (self.new ≡ spec.with_findings options.now self.old (map finding_view findings.now)) }
+        ensures times { OnOk result (self.new
+            ≡ spec.with_findings options.now self.old (map finding_view findings.now)) }
         ensures found { OnOk result (events.new.items
             ≡ events.old.items ++ spec.findings_events options.now self.old (map finding_view findings.now)) }
     {
@@ -273,6 +301,25 @@ impl TableTimes {
         }
         Ok(())
     }
+}
+
+// Takes the findings of a packet: their sections, and the PIDs that these name.
+fn take_found(
+    alloc: Global,
+    options: &ViewOptions,
+    findings: &[Finding<'_>],
+    times: &mut TableTimes,
+    named: &mut PidList<Global>,
+    events: &mut Vec<Event>,
+) -> Result<(), AllocError>
+    ensures times { OnOk result (times.new
+        ≡ spec.with_findings options.now times.old (map finding_view findings.now)) }
+    ensures named { OnOk result (named.new ≡ with_each named.old (map finding_view findings.now)) }
+    ensures found { OnOk result (events.new.items
+        ≡ events.old.items ++ spec.findings_events options.now times.old (map finding_view findings.now)) }
+{
+    add_each(alloc, named, findings)?;
+    times.take_all(options, findings, events)
 }
 
 fn table_event(timing: TableTiming, key: u32, places: &SectionPlaces) -> Event
@@ -295,17 +342,31 @@ impl TableWatch {
     pub fn new(alloc: Global, timing: TableTiming) -> TableWatch
         ensures { result ≡ spec.no_tables timing }
     {
-        let intervals = TableIntervals::new(alloc, timing);
-        let distances = SectionDistances::new(alloc, intervals.timing());
         TableWatch {
             alloc,
             demux: HeaderDemux::new(alloc),
-            times: TableTimes {
-                intervals,
-                distances,
-                errors: 0,
-            },
+            times: TableTimes::new(alloc, timing),
+            named: PidList::new(alloc),
         }
+    }
+
+    /// Returns the allocator of the state.
+    pub(crate) fn alloc(&self) -> Global {
+        self.alloc
+    }
+
+    /// Returns the demultiplexer of the tables.
+    pub(crate) fn demux(&self) -> &HeaderDemux
+        ensures { result.now ≡ self.now.demux }
+    {
+        &self.demux
+    }
+
+    /// Returns the sections so far.
+    pub(crate) fn times(&self) -> &TableTimes
+        ensures { result.now ≡ self.now.times }
+    {
+        &self.times
     }
 
     /// Takes the next packet, which was read, and appends sections that are late or wrong, once these are found.
@@ -327,7 +388,14 @@ impl TableWatch {
             self.demux = HeaderDemux::new(self.alloc);
             return Err(AllocError);
         };
-        self.times.take_all(options, found.as_slice(), events)
+        take_found(
+            self.alloc,
+            options,
+            found.as_slice(),
+            &mut self.times,
+            &mut self.named,
+            events,
+        )
     }
 
     /// Takes the null packet: no section begins in it.
@@ -354,6 +422,13 @@ impl TableWatch {
             .entries()
             .get(&key_of(pid, table_id))
             .is_some()
+    }
+
+    /// Returns whether a section of PAT, CAT or PMT names a PID.
+    pub fn names(&self, pid: u16) -> bool
+        ensures { result ≡ is_taken pid self.now.named }
+    {
+        self.named.has(pid)
     }
 
     /// Appends what the sections of each table came to.

@@ -1,4 +1,4 @@
--- What the records and the end of a run leave.
+-- What the records and the end of a run leave
 use Rattle.std.proofs.Common.{◌≡◌, ◌⊎◌, ℕ, Bool, List, [], ◌++◌, Option, Some, None, Ok, refl, sym, ap, ◌∙◌, subst, inl, inr, append-nil}
 use Rattle.std.specs.Prelude.{is_some}
 use Rattle.std.specs.Io.KnownBytes.{Appends}
@@ -25,18 +25,18 @@ use Rattle.tsair_cli.specs.Endings.{end_outcome}
 use Rattle.tsair_cli.specs.Fronts.{ReadsPlans}
 use Rattle.tsair_cli.specs.HeardRecords.{EndsRecords, FailsRecords}
 
--- nothing waits, so all is written
+-- If no packet waits, all packets are written.
 whole_output : (start now : Option (List ℕ)) (packets : Buffered) (all : List ℕ) → waiting_of packets ≡ [] → IsOutput start now packets all →
     Appends start now all
 whole_output start now packets all none o =
     subst (λ (bytes : List ℕ). Appends start now bytes) (sym (o.is ∙ ap (λ (l : List ℕ). o.written ++ l) none ∙ append-nil o.written)) o.taken
 
-pub records_failed : (o : AirOptions) (run : Run) (input output : Device) (before told after : Port) (sent status : ℕ) →
-    FailsRecords run output.before.bytes input output (between before told) sent → Reports (between told after) (halt_line Write) → status ≡ 3 →
+pub records_failed : (o : AirOptions) (run : Run) (input output : Device) (before so_far after : Port) (sent status : ℕ) →
+    FailsRecords run output.before.bytes input output (between before so_far) sent → Reports (between so_far after) (halt_line Write) → status ≡ 3 →
     AirsRecords o run input output (between before after) status
-records_failed o run input output before told after sent status f r s = inr (record {
+records_failed o run input output before so_far after sent status f r s = inr (record {
   rest = input.after.bytes;
-  told = told;
+  so_far = so_far;
   airs = f.airs;
   air = f.airs.came;
   air_is = inl refl;
@@ -47,17 +47,18 @@ records_failed o run input output before told after sent status f r s = inr (rec
   status_is = s;
 })
 
-pub run_ended : (o : AirOptions) (run : Run) (input : Device) (begin mid end before told after : Port) (why : RecordsEnd) (s t : AirState) (records status : ℕ)
-    (e : EndsRecords run o.stop begin.bytes input (between begin mid) (between before told) why s) →
+pub run_ended : (o : AirOptions) (run : Run) (input : Device) (begin mid end before so_far after : Port) (why : RecordsEnd) (s t : AirState)
+    (records status : ℕ)
+    (e : EndsRecords run o.stop begin.bytes input (between begin mid) (between before so_far) why s) →
     IsOnAir run (ended run e.airs.came) begin.bytes end.bytes t → waiting_of t.packets ≡ [] → end.failed ≡ mid.failed →
-    records ≡ t.records → Reports (between told after) (end_outcome o.terms.slots records why).report →
+    records ≡ t.records → Reports (between so_far after) (end_outcome o.terms.slots records why).report →
     status ≡ (end_outcome o.terms.slots records why).status →
     AirsRecords o run input (between begin end) (between before after) status
-run_ended o run input begin mid end before told after why s t records status e h none clean n r st =
+run_ended o run input begin mid end before so_far after why s t records status e h none clean n r st =
     let count : records ≡ e.airs.came.records = n ∙ h.records in
     inl (record {
       rest = e.rest;
-      told = told;
+      so_far = so_far;
       airs = e.airs;
       end = why;
       ends = e.ends;
@@ -66,17 +67,17 @@ run_ended o run input begin mid end before told after why s t records status e h
       written = whole_output begin.bytes end.bytes t.packets (air_output run (ended run e.airs.came)) none h.output;
       clean = clean ∙ e.clean;
       headline = h.headline;
-      reports = subst (λ (m : ℕ). Reports (between told after) (end_outcome o.terms.slots m why).report) count r;
+      reports = subst (λ (m : ℕ). Reports (between so_far after) (end_outcome o.terms.slots m why).report) count r;
       status_is = st ∙ ap (λ (m : ℕ). (end_outcome o.terms.slots m why).status) count;
     })
 
-pub end_failed : (o : AirOptions) (run : Run) (input : Device) (begin mid end before told after : Port) (why : RecordsEnd) (s : AirState) (sent status : ℕ)
-    (e : EndsRecords run o.stop begin.bytes input (between begin mid) (between before told) why s) →
+pub end_failed : (o : AirOptions) (run : Run) (input : Device) (begin mid end before so_far after : Port) (why : RecordsEnd) (s : AirState) (sent status : ℕ)
+    (e : EndsRecords run o.stop begin.bytes input (between begin mid) (between before so_far) why s) →
     Fails run (ended run e.airs.came) begin.bytes end.bytes sent → Failed mid.failed end.failed →
-    Reports (between told after) (halt_line Write) → status ≡ 3 → AirsRecords o run input (between begin end) (between before after) status
-end_failed o run input begin mid end before told after why s sent status e f failed r st = inr (record {
+    Reports (between so_far after) (halt_line Write) → status ≡ 3 → AirsRecords o run input (between begin end) (between before after) status
+end_failed o run input begin mid end before so_far after why s sent status e f failed r st = inr (record {
   rest = e.rest;
-  told = told;
+  so_far = so_far;
   airs = e.airs;
   air = ended run e.airs.came;
   air_is = inr refl;
@@ -102,7 +103,7 @@ begun o before left plans switch is r = record {
   no_rest = no_rest plans;
 }
 
--- too many periods are answered where they are the cause
+-- If the answer is `Periods`, the cause is too many periods.
 periods_judged : (wanted : Option NewError) → Judges wanted (Some Periods) → wanted ≡ Some Periods
 periods_judged None j = absurd (not_memory j)
   where
@@ -111,7 +112,7 @@ periods_judged None j = absurd (not_memory j)
     not_memory (inr e) = cc
 periods_judged (Some cause) j = sym j
 
--- no run was begun
+-- No run began, and the report gives the cause.
 pub not_begun : (o : AirOptions) (input output faults : Device) (status : ℕ) (job : JobView) (cause : NewError) → Begins o input.before input.after job →
     Judges (begin_cause o job) (Some cause) → IsUntouched output → Reports faults (begin_outcome cause).report → status ≡ (begin_outcome cause).status →
     AirsJob o input output faults status

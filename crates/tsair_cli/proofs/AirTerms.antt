@@ -1,4 +1,4 @@
--- The terms of a run, where each of its numbers is there.
+-- The terms of a run, if each of its numbers is present
 use Rattle.std.proofs.Common.{◌≡◌, ℕ, Option, Some, ap, ◌∙◌}
 use Rattle.tsair_cli.specs.Arguments.{air_terms, terms_by}
 

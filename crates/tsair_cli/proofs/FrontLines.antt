@@ -1,4 +1,4 @@
--- A text of whole lines and the lines after it: the plans that end in both.
+-- A text of whole lines, and the lines after it: the number of plans that end in both
 use Rattle.std.proofs.Common.{◌≡◌, inl, inr, ◌<◌, ◌≤◌, ◌-◌, ℕ, zero, suc, ◌+◌, ◌==◌, Bool, true, false, not, List, [], ◌∷◌, ◌++◌, take, drop, length, Option}
 use Rattle.std.proofs.Common.{Some, None, if◌then◌else◌, refl, sym, ap, ap₂, ◌∙◌, arith, length-append}
 use Rattle.std.specs.Prelude.{◌&&◌, IfSome, codes, nat_eq, option_map}
@@ -17,7 +17,7 @@ line_ended b (x ∷ xs) = line_ended (x == 10) xs
 pub whole_line : (now new : List ℕ) (x : ℕ) → new ≡ now ++ (x ∷ []) → x ≡ 10 → ends_a_line true new ≡ true
 whole_line now new x is end = ap (ends_a_line true) is ∙ ap (λ (n : ℕ). ends_a_line true (now ++ n ∷ [])) end ∙ line_ended true now
 
--- bytes of one line; after them its end
+-- The bytes lie within one line; the end of the line follows them.
 abbrev is_inside : List ℕ → Bool
 is_inside line = list_all (λ q. not (nat_eq q 10)) line
 
@@ -28,7 +28,7 @@ other_byte q x b inside end = ap (λ (n : ℕ). nat_eq q n && b) (eqb-true x 10 
     by true other = absurd (false≢true other)
     by false other = refl
 
--- whether whole lines begin with a line: those after them change nothing
+-- Whether whole lines begin with a line does not depend on the lines after them.
 begins_alike : (line xs ys : List ℕ) → is_inside line ≡ true → ends_a_line false xs ≡ true →
     starts_with nat_eq (xs ++ ys) (line ++ 10 ∷ []) ≡ starts_with nat_eq xs (line ++ 10 ∷ [])
 begins_alike line [] ys inside e = absurd (false≢true e)
@@ -57,7 +57,7 @@ end_lines_on b (x ∷ xs) ys e =
 
 -- 3. The plans that end
 
--- the same number by one recursion
+-- The same number, by one recursion
 abbrev ends_from : Bool → List ℕ → Option ℕ
 ends_from b [] = None
 ends_from b (x ∷ xs) = if b && starts_with nat_eq (x ∷ xs) first_plan_line then Some (end_lines true (x ∷ xs)) else ends_from (x == 10) xs
@@ -106,9 +106,9 @@ ends_on b (x ∷ xs) ys e =
 pub ended_on : (xs ys : List ℕ) → ends_a_line true xs ≡ true → ended_plans (xs ++ ys) ≡ ended_after (ended_plans xs) ys
 ended_on xs ys e = as_recursion (xs ++ ys) ∙ ends_on true xs ys e ∙ ap (λ (o : Option ℕ). ended_after o ys) (sym (as_recursion xs))
 
--- 4. What the lines of a front tell
+-- 4. What the lines of a front say
 
--- the lines that a text grew by
+-- The lines that were added to a text
 lines_read : (now new lines got : List ℕ) (from : ℕ) → new ≡ now ++ lines → got ≡ new → from ≡ length now → take (length got - from) (drop from got) ≡ lines
 lines_read now new lines got from grown same at =
     let whole : got ≡ now ++ lines = same ∙ grown in

@@ -1,4 +1,4 @@
--- A front that grows by bytes of the input.
+-- A front that grows by bytes of the input
 use Rattle.std.proofs.Common.{◌≡◌, ◌≤◌, ◌<◌, ◌+◌, ℕ, suc, min, Bool, true, List, [], ◌∷◌, ◌++◌, length, take, drop, Option, Some, None, Result, Ok, Err, inl}
 use Rattle.std.proofs.Common.{inr, refl, sym, ap, ◌∙◌, subst, arith, append-nil, append_assoc, length-append}
 use Rattle.std.specs.Prelude.{slice_index}
@@ -32,7 +32,7 @@ pub grown_on : (before mid after : Port) (old now new : List ℕ) → Grows (bet
     Grows (between before after) old new
 grown_on before mid after old now new g h = grown_more before mid after old now new h.bytes g h.read h.clean h.grown
 
--- the bytes that a read gave
+-- The bytes that a read returned
 pub part_read : (a b : Option (List ℕ)) (part : List ℕ) (n : ℕ) → ((xs : List ℕ) → a ≡ Some xs → ReadsPart xs b part (Ok n)) → Consumes a b (take n part)
 part_read None b part n known = tt
 part_read (Some xs) b part n known =
@@ -51,7 +51,7 @@ end_read mid after part size known xs is =
     let none : xs ≡ [] = none_left xs 0 (r.0 ∙ ap (λ (n : ℕ). min n (length xs)) size) in
     subst IsAtEnd (sym r.1.rest) none
 
--- bytes that were known are known after a read
+-- Bytes that were known before a read are known after it.
 still_known : (a b : Option (List ℕ)) (bytes xs : List ℕ) → Consumes a b bytes → a ≡ Some xs → (ys : List ℕ) × (b ≡ Some ys)
 still_known None b bytes xs c e = absurd (let no : ⊥ = cc in no)
 still_known (Some zs) None bytes xs c e = absurd c
@@ -79,7 +79,7 @@ byte_read a b part n size upper some known =
     let all : n ≡ 1 = omega (arith, upper, some) in
     subst (Consumes a b) (ap (λ (m : ℕ). take m part) all ∙ one part size) (part_read a b part n known)
 
--- a read at the end, and one of a byte
+-- A read at the end, and a read of one byte
 pub end_on : (before mid after : Port) (old now part : List ℕ) (n : ℕ) → n ≡ 0 → length part ≡ 1 → Grows (between before mid) old now →
     ((xs : List ℕ) → mid.bytes ≡ Some xs → ReadsPart xs after.bytes part (Ok n)) → after.failed ≡ mid.failed →
     Grows (between before after) old now × IsSpent (between before after)
@@ -96,7 +96,7 @@ pub byte_on : (before mid after : Port) (old now new part : List ℕ) (n : ℕ) 
 byte_on before mid after old now new part n size upper some g known clean is =
     grown_more before mid after old now new (slice_index part 0 ∷ []) g (byte_read mid.bytes after.bytes part n size upper some known) clean is
 
--- a front of which the last line of each plan has come, by what it is read as
+-- If the last line of each plan has arrived, the front is read as its job.
 pub front_read : (switch : Bool) (before after : Port) (text got : List ℕ) (r : Result JobPlans FrontError) → Grows (between before after) [] text →
     plans_end switch text ≡ true →
     got ≡ text → IsFrontOf (job_of switch got) r → ReadsFront switch (between before after) r

@@ -1,11 +1,11 @@
--- Records heard one after another, and the lines of those that are refused.
+-- Records that arrive one after another, and the lines for refused records
 use Rattle.std.proofs.Common.{◌≡◌, ◌<◌, ◌+◌, ℕ, Bool, true, false, nat_lt, List, [], ◌∷◌, ◌++◌, length, map, Option, Some, None, Result, Ok, Err, refl, sym, ap}
 use Rattle.std.proofs.Common.{◌∙◌, subst, arith, below_none, length-append}
 use Rattle.std.proofs.lemmas.List.{map-append}
 use Rattle.std.proofs.lemmas.Bool.{lt-ltb}
 use Rattle.devices.specs.Devices.{Device, Port, HasFailed, IsClean, between}
-use Rattle.devices.specs.Lines.{Reports, Tells}
-use Rattle.devices.proofs.Telling.{told_more, told_none}
+use Rattle.devices.specs.Lines.{Reports, ReportsAll}
+use Rattle.devices.proofs.ReportedTexts.{reported_more, reported_none}
 use Rattle.packet_output.specs.declared.output.OutputFault.{OutputFault}
 use Rattle.unit_records.specs.declared.reading.UnitFileError.TheVariants.{Cut, Size, Device as AtReader, Memory}
 use Rattle.carry.specs.RecordRuns.{after_records}
@@ -19,15 +19,15 @@ use Rattle.on_air.specs.Hearing.{Fails, HasHeard, HeardOn, HearsOn, NamesDevice}
 use Rattle.tsair_cli.specs.declared.hearing.RecordsEnd.{RecordsEnd}
 use Rattle.tsair_cli.specs.HeardRecords.{Airs, EndsRecords, FailsRecords, HearsAll, NamesReader, has_refused, refusal_line}
 
--- 1. Lines
+-- 1. The lines about refused records
 
-told_refused : (before mid after : Port) (old new : List (ℕ × AirRefusal)) (refused : ℕ × AirRefusal) → new ≡ old ++ (refused ∷ []) →
-    Tells before mid (map refusal_line old) →
-    Reports (between mid after) (refusal_line refused) → Tells before after (map refusal_line new)
-told_refused before mid after old new refused is t r =
-    subst (λ (lines : List (List ℕ)). Tells before after lines)
+reported_refused : (before mid after : Port) (old new : List (ℕ × AirRefusal)) (refused : ℕ × AirRefusal) → new ≡ old ++ (refused ∷ []) →
+    ReportsAll before mid (map refusal_line old) →
+    Reports (between mid after) (refusal_line refused) → ReportsAll before after (map refusal_line new)
+reported_refused before mid after old new refused is t r =
+    subst (λ (lines : List (List ℕ)). ReportsAll before after lines)
     (sym (ap (λ (l : List (ℕ × AirRefusal)). map refusal_line l) is ∙ map-append refusal_line old (refused ∷ [])))
-    (told_more before mid after (map refusal_line old) (refusal_line refused) t r)
+    (reported_more before mid after (map refusal_line old) (refusal_line refused) t r)
 
 some_refused : (old new : List (ℕ × AirRefusal)) (refused : ℕ × AirRefusal) → new ≡ old ++ (refused ∷ []) → nat_lt 0 (length new) ≡ true
 some_refused old new refused is =
@@ -35,7 +35,7 @@ some_refused old new refused is =
     let more : length (old ++ (refused ∷ [])) ≡ length old + 1 = length-append old (refused ∷ []) in
     lt-ltb 0 (length new) (omega (arith, size, more))
 
--- 2. Up to a record that is refused, or to the end
+-- 2. Up to a refused record, or to the end
 
 pub record Midway (run : Run) (origin left start now : Option (List ℕ)) (faults : Device) (refused : Bool) (s : AirState) : Type 0 where
   pub airs : Airs run origin left faults
@@ -48,57 +48,66 @@ unfolding heard after_records
 first run origin start now port s h = record {
   airs = record {
     came = silence;
-    heard_is =
-        record { count = 0; heard_is = λ xs e. (refl, e, λ m none. below_none (λ i. (heard run i xs).slots < limit_of run.terms) m none) };
-    told =
-        told_none port;
+    heard_is = record {
+      count = 0;
+      heard_is = record {
+        known = λ xs e. (refl, e, λ m none. below_none (λ i. (heard run i xs).slots < limit_of run.terms) m none);
+        some = λ rest. record {
+          bytes = rest;
+          led = refl;
+          rest_is = refl;
+          slots_left = λ m none. below_none (λ i. (heard run i rest).slots < limit_of run.terms) m none;
+        };
+      };
+    };
+    so_far = reported_none port;
   };
   refused_is = refl;
   state = h;
 }
 
--- the record that was refused is told, and the run has followed it, if it does
-pub next : (run : Run) (origin mid left start now later last : Option (List ℕ)) (before told after : Port) (refused : Bool) (s heard_to new : AirState)
+-- The refused record is reported, and the run has followed it if the run follows such records.
+pub next : (run : Run) (origin mid left start now later last : Option (List ℕ)) (before so_far after : Port) (refused : Bool) (s heard_to new : AirState)
     (index : ℕ) (cause : AirRefusal)
-    (m : Midway run origin mid start now (between before told) refused s) →
+    (m : Midway run origin mid start now (between before so_far) refused s) →
     HearsOn run m.airs.came origin left start later (Ok (Refused index cause)) heard_to →
     ((a : Air) → IsOnAir run a start later heard_to → IsOnAir run (caught_up run a (Some cause)) start last new) →
-    Reports (between told after) (refusal_line (index, cause)) → Midway run origin left start last (between before after) true new
-next run origin mid left start now later last before told after refused s heard_to new index cause m (b, heard_on, adds, state) follows r = record {
+    Reports (between so_far after) (refusal_line (index, cause)) → Midway run origin left start last (between before after) true new
+next run origin mid left start now later last before so_far after refused s heard_to new index cause m (b, heard_on, adds, state) follows r = record {
   airs = record {
     came = caught_up run b (Some cause);
     heard_is = heard_on;
-    told = told_refused before told after m.airs.came.refused b.refused (index, cause) adds m.airs.told r;
+    so_far = reported_refused before so_far after m.airs.came.refused b.refused (index, cause) adds m.airs.so_far r;
   };
   refused_is = sym (some_refused m.airs.came.refused b.refused (index, cause) adds);
   state = follows b state;
 }
 
--- the writer failed within the slots up to a record that the run follows
-pub follow_fails : (run : Run) (mid start now later : Option (List ℕ)) (input output : Device) (before told after : Port) (refused : Bool)
+-- The writer failed within the slots up to a record that the run follows.
+pub follow_fails : (run : Run) (mid start now later : Option (List ℕ)) (input output : Device) (before so_far after : Port) (refused : Bool)
     (s heard_to : AirState) (index : ℕ)
-    (cause : AirRefusal) (sent : ℕ) (m : Midway run input.before.bytes mid start now (between before told) refused s) →
+    (cause : AirRefusal) (sent : ℕ) (m : Midway run input.before.bytes mid start now (between before so_far) refused s) →
     HearsOn run m.airs.came input.before.bytes input.after.bytes start later (Ok (Refused index cause)) heard_to →
     ((a : Air) → IsOnAir run a start later heard_to → Fails run (caught_up run a (Some cause)) start output.after.bytes sent) →
-    Reports (between told after) (refusal_line (index, cause)) → IsClean input → HasFailed output →
+    Reports (between so_far after) (refusal_line (index, cause)) → IsClean input → HasFailed output →
     FailsRecords run start input output (between before after) sent
-follow_fails run mid start now later input output before told after refused s heard_to index cause sent m (b, heard_on, adds, state) failing r clean failed =
+follow_fails run mid start now later input output before so_far after refused s heard_to index cause sent m (b, heard_on, adds, state) failing r clean failed =
     record {
       airs = record {
         came = caught_up run b (Some cause);
         heard_is = heard_on;
-        told = told_refused before told after m.airs.came.refused b.refused (index, cause) adds m.airs.told r;
+        so_far = reported_refused before so_far after m.airs.came.refused b.refused (index, cause) adds m.airs.so_far r;
       };
       fails = failing b state;
       clean = clean;
       failed = failed;
     }
 
--- 3. How it ends
+-- 3. The end of a run
 
-told_same : (before after : Port) (old new : List (ℕ × AirRefusal)) → new ≡ old → Tells before after (map refusal_line old) →
-    Tells before after (map refusal_line new)
-told_same before after old new is t = subst (λ (l : List (ℕ × AirRefusal)). Tells before after (map refusal_line l)) (sym is) t
+reported_same : (before after : Port) (old new : List (ℕ × AirRefusal)) → new ≡ old → ReportsAll before after (map refusal_line old) →
+    ReportsAll before after (map refusal_line new)
+reported_same before after old new is t = subst (λ (l : List (ℕ × AirRefusal)). ReportsAll before after (map refusal_line l)) (sym is) t
 
 reader_named : (input : Device) (why : Ending) (w0 w1 : ℕ) → NamesDevice (Ok (Ended why)) input.before.failed input.after.failed w0 w1 →
     NamesReader input (Some why)
@@ -126,7 +135,7 @@ pub ends : (run : Run) (stop : Bool) (mid start now : Option (List ℕ)) (input 
     EndsRecords run stop start input output faults (record { has_refused = refused; why = Some why }) new
 ends run stop mid start now input output faults refused s new why m (b, (rest, heard_on, ends_at), same, state) n = record {
   rest = rest;
-  airs = record { came = b; heard_is = heard_on; told = told_same faults.before faults.after m.airs.came.refused b.refused same m.airs.told };
+  airs = record { came = b; heard_is = heard_on; so_far = reported_same faults.before faults.after m.airs.came.refused b.refused same m.airs.so_far };
   ends = ends_at;
   refused = m.refused_is ∙ ap (λ (l : List (ℕ × AirRefusal)). nat_lt 0 (length l)) (sym same);
   state = state;
@@ -153,7 +162,7 @@ pub fails : (run : Run) (mid start now : Option (List ℕ)) (input output faults
     NamesDevice (Err fault) input.before.failed input.after.failed output.before.failed output.after.failed →
     FailsRecords run start input output faults fault.sent
 fails run mid start now input output faults refused s new fault m (b, heard_on, same, failing) n = record {
-  airs = record { came = b; heard_is = heard_on; told = told_same faults.before faults.after m.airs.came.refused b.refused same m.airs.told };
+  airs = record { came = b; heard_is = heard_on; so_far = reported_same faults.before faults.after m.airs.came.refused b.refused same m.airs.so_far };
   fails = failing;
   clean = n.0;
   failed = n.1;

@@ -54,8 +54,8 @@ begin_outcome NoRoom = halted Memory
 -- the run ended: the writer took the output of all its slots, every promise holds for them, and the last report is why it ended
 pub record EndsRun (o : AirOptions) (run : Run) (input output faults : Device) (status : ℕ) : Type 0 where
   pub rest : Option (List ℕ)
-  pub told : Port
-  pub airs : Airs run input.before.bytes rest (between faults.before told)
+  pub so_far : Port
+  pub airs : Airs run input.before.bytes rest (between faults.before so_far)
   pub end : RecordsEnd
   pub ends : EndsBy run airs.came o.stop rest input.after.bytes end.why
   pub refused : end.has_refused ≡ has_refused airs.came
@@ -63,21 +63,21 @@ pub record EndsRun (o : AirOptions) (run : Run) (input output faults : Device) (
   pub written : Appends output.before.bytes output.after.bytes (air_output run (ended run airs.came))
   pub clean : IsClean output
   pub headline : KeepsHeadline run (ended run airs.came)
-  pub reports : Reports (between told faults.after) (end_outcome o.terms.slots airs.came.records end).report
+  pub reports : Reports (between so_far faults.after) (end_outcome o.terms.slots airs.came.records end).report
   pub status_is : status ≡ (end_outcome o.terms.slots airs.came.records end).status
 
 -- the writer failed: it took exactly the first bytes of the output that the records so far settle, or of all slots of the run, and every promise holds for
 -- these slots
 pub record FailsToAir (run : Run) (input output faults : Device) (status : ℕ) : Type 0 where
   pub rest : Option (List ℕ)
-  pub told : Port
-  pub airs : Airs run input.before.bytes rest (between faults.before told)
+  pub so_far : Port
+  pub airs : Airs run input.before.bytes rest (between faults.before so_far)
   pub air : Air
   pub air_is : (air ≡ airs.came) ⊎ (air ≡ ended run airs.came)
   pub sent : ℕ
   pub fails : Fails run air output.before.bytes output.after.bytes sent
   pub failed : HasFailed output
-  pub reports : Reports (between told faults.after) (halt_line Write)
+  pub reports : Reports (between so_far faults.after) (halt_line Write)
   pub status_is : status ≡ 3
 
 abbrev pub AirsRecords : AirOptions → Run → Device → Device → Device → ℕ → Type 0

@@ -1,7 +1,7 @@
 -- The records of a run, taken one after another, and a line for each refused record.
 use Rattle.std.specs.Prelude.{◌≡◌, ◌<◌, ℕ, Bool, true, nat_lt, List, [], ◌∷◌, length, map, Option, Some, None, Result, Ok, Err, codes}
 use Rattle.devices.specs.Devices.{Device, Port, HasFailed, IsClean, between}
-use Rattle.devices.specs.Lines.{Tells, line_text}
+use Rattle.devices.specs.Lines.{ReportsAll, line_text}
 use Rattle.packet_output.specs.declared.output.OutputFault.{OutputFault}
 use Rattle.unit_records.specs.declared.reading.UnitFileError.TheVariants.{Cut, Size, Device as AtReader, Memory}
 use Rattle.on_air.specs.declared.refusals.AirRefusal.{AirRefusal}
@@ -34,7 +34,7 @@ has_refused a = nat_lt 0 (length a.refused)
 pub record Airs (run : Run) (origin left : Option (List ℕ)) (faults : Device) : Type 0 where
   pub came : Air
   pub heard_is : HeardOn run origin left came
-  pub told : Tells faults.before faults.after (map refusal_line came.refused)
+  pub so_far : ReportsAll faults.before faults.after (map refusal_line came.refused)
 
 -- why the run takes no further record: a record was refused, if that ends a run; or the end that comes at this place of the input
 abbrev pub EndsBy : Run → Air → Bool → Option (List ℕ) → Option (List ℕ) → Option Ending → Type 0

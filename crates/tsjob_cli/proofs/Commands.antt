@@ -1,4 +1,4 @@
--- The program for words as people type them.
+-- The program, for the words of a command line.
 use Rattle.std.proofs.Common.{◌≡◌, ◌∙◌, ℕ, Bool, true, false, List, Option, Some, None, inl, inr, refl, sym, ap, subst}
 use Rattle.std.specs.Prelude.{◌⊎◌, codes}
 use Rattle.word_faults.specs.CommandLine.{Text}
@@ -21,9 +21,9 @@ pub to_file : (creates keeps : Option Bool) (name : Text) (words : List Text) (f
     MakesJob words files input (between before mid) bytes made → Saves creates keeps name bytes made (between mid after) status →
     ToFile creates keeps name words files input (between before after) status
 to_file creates keeps name words files input before mid after bytes made status makes saves =
-    record { bytes = bytes; made = made; told = mid; makes = makes; saves = saves }
+    record { bytes = bytes; made = made; so_far = mid; makes = makes; saves = saves }
 
--- the name and the words are those that are asked for
+-- The program writes to the file with the requested name, for the requested words.
 pub performed : (outputs : Outputs) (words job : List Text) (name : Option Text) (files : Files) (input output faults : Device) (status : ℕ) →
     name ≡ output_file words →
     job ≡ words_but_output words → WritesTo outputs name job files input output faults status → PerformsWords outputs words files input output faults status
@@ -42,7 +42,7 @@ pub not_explained : (outputs : Outputs) (words : List Text) (files : Files) (inp
 not_explained outputs words files input output faults status isnt p =
     record { explains = λ yes. absurd (both (explains_files words) yes isnt); performs = λ no. p }
 
--- words are sorted
+-- The program's words are the sorted words, so it answers these.
 pub commanded : (outputs : Outputs) (shown sorted : List Text) (files : Files) (input output faults : Device) (status : ℕ) → shown ≡ sorted →
     (are_taken (known_words shown) shown ≡ true → Answers outputs shown files input output faults status ⊎ LacksWords input output faults status) →
     (are_taken (known_words shown) shown ≡ false → AnswersWords (codes "tsjob") (known_words shown) shown usage_text input output faults status) →

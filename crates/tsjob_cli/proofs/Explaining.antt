@@ -1,4 +1,4 @@
--- What is written of what is said of a description or a plan.
+-- The explanations that the program writes about a description or a plan.
 use Rattle.std.proofs.Common.{◌≡◌, ◌∙◌, ℕ, List, [], Ok, ap, inl, inr, subst}
 use Rattle.clap.specs.Words.{Text}
 use Rattle.devices.specs.Devices.{Device, IsUntouched, Port, between}
@@ -29,7 +29,7 @@ pub leads : (bytes lines : List ℕ) (o : Outcome) (status : ℕ) → IsJobExpla
 leads bytes lines o status explained status_is is =
     record { lines = lines; explained = explained; is = is ∙ ap (λ (n : ℕ). record { output = lines; report = []; status = n }) status_is }
 
--- of files
+-- Explaining files
 
 pub files_explained : (files : Files) (names : List Text) (bytes shown : List ℕ) (o : Outcome) (output : Device) (before later after : Port) (status : ℕ) →
     HaveBytes files names bytes → shown ≡ bytes →

@@ -37,7 +37,7 @@ no_memory_for_files a files names input output faults status i o r s =
 pub some_and_none : {A : Type 0} (x : Option A) (a : A) → x ≡ Some a → x ≡ None → ⊥
 some_and_none x a is none = let both : None ≡ Some a = sym none ∙ is in absurd cc
 
--- how many words stand before the mark
+-- The number of words before the mark
 
 first_marked : (w : Text) (ws : List Text) → is_mark w ≡ true → position_or_len is_mark (w ∷ ws) ≡ 0
 first_marked w ws mark = rw mark refl

@@ -1,13 +1,11 @@
--- The streams of a description, and a stream that goes by it.
+-- The streams of a description, and a stream that follows the description.
 use Rattle.std.proofs.Common.{◌≡◌, ◌∙◌, ◌<◌, ◌≤◌, ◌+◌, ◌++◌, ℕ, List, [], ◌∷◌, length, drop, get_or, Option, Some, None, true, Result, Ok, Err, refl, sym, ap}
 use Rattle.std.proofs.Common.{subst, add-one, inl, inr, arith}
 use Rattle.std.specs.Prelude.{codes}
 use Rattle.std.proofs.Math.Seq.{drop-cons}
 use Rattle.std.proofs.lemmas.List.{append_assoc, append-nil, drop_all}
 use Rattle.clap.specs.Words.{Text}
-use Rattle.checked_jobs.specs.Jobs.{described}
 use Rattle.description_parts.specs.Described.{Described, DescribedStream}
-use Rattle.description_keys.specs.declared.fault.DescError.TheVariants as refused_by
 use Rattle.fed_streams.specs.Feeding.{FedStreamView}
 use Rattle.devices.specs.Devices.{Device, HasFailed, IsUntouched, Port}
 use Rattle.devices.specs.Files.{Files, IsOpened}
@@ -15,7 +13,7 @@ use Rattle.devices.specs.Lines.{Reports, line_text}
 use Rattle.description_keys.specs.Codes.{fault_code, fault_item}
 use Rattle.description_keys.specs.declared.fault.DescFault.{DescFault}
 use Rattle.devices.specs.Outcomes.{halt_line, Outcome}
-use Rattle.devices.specs.WholeInput.{ReadsInput}
+use Rattle.devices.specs.WholeInput.{IsWhole, ReadsInput}
 use Rattle.devices.specs.declared.halt.Halt.{Halt}
 use Rattle.devices.specs.declared.halt.Halt.TheVariants as halt
 use Rattle.devices.proofs.NamedReaders.{is_unread}
@@ -28,7 +26,7 @@ use Rattle.tsjob_cli.specs.StreamedUnits.{IsDescriptionIn, IsNamedDescription, S
 use Rattle.tsjob_cli.specs.declared.streaming.NoDescription.{NoDescription}
 use Rattle.tsjob_cli.specs.declared.streaming.NoDescription.TheVariants.{Unopened, Stopped, Refused}
 
--- 1. The streams of a description, one after another
+-- 1. The streams of a description, one by one
 
 streams_step : (streams : List DescribedStream) (k : ℕ) (s : DescribedStream) → k < length streams → s ≡ get_or streams k s →
     streams_from k (drop k streams) ≡ fed_stream k s.pid ∷ streams_from (k + 1) (drop (k + 1) streams)
@@ -56,24 +54,25 @@ streams_all streams k fed all over so =
 
 -- 2. A description in a file
 
--- whose bytes are those that were read, where they are known
-pub of_text : (files : Files) (name text : List ℕ) (r : Result Described NoDescription) → IsOpened files name →
-    ((xs : List ℕ) → files.contents name ≡ Some xs → text ≡ xs) → IsDescriptionIn text r →
+-- If the file was read, the result is the description in the bytes that were read.
+pub of_text : (files : Files) (name : List ℕ) (input : Device) (text : List ℕ) (r : Result Described NoDescription) → IsOpened files name →
+    input.before.bytes ≡ files.contents name → ReadsInput input (Ok text) → IsDescriptionIn text r →
     IsNamedDescription files name r
-of_text files name text (Ok d) opened same is = (opened, λ xs e. subst (λ (t : List ℕ). described t ≡ Ok d) (same xs e) is)
-of_text files name text (Err Unopened) opened same is = absurd is
-of_text files name text (Err (Stopped halt.Read)) opened same is = absurd (not_memory is)
+of_text files name input text (Ok d) opened same read is = (text, ((opened, subst (λ (known : Option (List ℕ)). IsWhole known text) same read.0), is))
+of_text files name input text (Err Unopened) opened same read is = absurd is
+of_text files name input text (Err (Stopped halt.Read)) opened same read is = absurd (not_memory is)
   where
     not_memory : halt.Read ≡ halt.Memory → ⊥
     not_memory e = absurd cc
-of_text files name text (Err (Stopped halt.Write)) opened same is = absurd (not_memory is)
+of_text files name input text (Err (Stopped halt.Write)) opened same read is = absurd (not_memory is)
   where
     not_memory : halt.Write ≡ halt.Memory → ⊥
     not_memory e = absurd cc
-of_text files name text (Err (Stopped halt.Memory)) opened same is = tt
-of_text files name text (Err (Refused f)) opened same is = (opened, λ xs e. subst (λ (t : List ℕ). described t ≡ Err (refused_by.Refused f)) (same xs e) is)
+of_text files name input text (Err (Stopped halt.Memory)) opened same read is = tt
+of_text files name input text (Err (Refused f)) opened same read is =
+    (text, ((opened, subst (λ (known : Option (List ℕ)). IsWhole known text) same read.0), is))
 
--- or that were not read
+-- If the file was not read, the result is why reading stopped.
 pub of_none : (files : Files) (name : List ℕ) (input : Device) (why : Halt) → IsOpened files name → input.before.bytes ≡ files.contents name →
     (files.never_fails ≡ true → HasFailed input → ⊥) →
     ReadsInput input (Err why) → IsNamedDescription files name (Err (Stopped why))
@@ -81,7 +80,7 @@ of_none files name input halt.Read opened same never read = is_unread files name
 of_none files name input halt.Write opened same never read = absurd read
 of_none files name input halt.Memory opened same never read = tt
 
--- 3. What the words lead to
+-- 3. The results of the words
 
 pub no_memory_for_words : (Leads : List ℕ → Outcome → Type 0) (input output faults : Device) (status : ℕ) → IsUntouched input → IsUntouched output →
     Reports faults (halt_line halt.Memory) → status ≡ 3 → Performs Leads input output faults status
@@ -111,7 +110,7 @@ pub stream_asked : (x : Option JobArgumentsView) (a b : JobArgumentsView) (files
 stream_asked x a b files name input output faults status e f p =
     subst (λ (v : JobArgumentsView). v.stream ≡ Some name → StreamsUnits v.options files name input output faults status) (same_arguments x a b e f) p
 
--- the name of the file is the one that was asked for
+-- The opened file has the requested name.
 pub same_name : (shown name : Text) (asked : Option Text) → Some shown ≡ asked → asked ≡ Some name → shown ≡ name
 same_name shown name asked e f = let both : Some shown ≡ Some name = e ∙ f in cc
 
@@ -121,11 +120,11 @@ named_and_not shown asked e f = let both : Some shown ≡ None = e ∙ f in absu
 pub not_and_named : (name : Text) (asked : Option Text) → None ≡ asked → asked ≡ Some name → ⊥
 not_and_named name asked e f = let both : None ≡ Some name = e ∙ f in absurd cc
 
--- so few streams have numbers of 8 bits
+-- A description has at most 256 streams, so 8 bits number them.
 pub few_streams : (d : Described) (streams : List DescribedStream) → streams ≡ d.streams → IsInRange d → length streams ≤ 256
 few_streams d streams e r = let size : length streams ≡ length d.streams = ap (length {A = DescribedStream}) e in omega (arith, size, r.most_streams)
 
--- the line of a refusal, by its numbers
+-- The line of a refusal, by its two numbers
 pub refused_reported : (faults : Device) (f : DescFault) (code item : ℕ) → code ≡ fault_code f → item ≡ fault_item f →
     Reports faults (line_text (codes "description") (code ∷ item ∷ [])) →
     Reports faults (refused_line f)

@@ -95,9 +95,9 @@ pub record ToFile (creates keeps : Option Bool) (name : Text) (words : List Text
   pub bytes : List ℕ
   pub made : ℕ
   -- the second writer between both
-  pub told : Port
-  pub makes : MakesJob words files input (between faults.before told) bytes made
-  pub saves : Saves creates keeps name bytes made (between told faults.after) status
+  pub so_far : Port
+  pub makes : MakesJob words files input (between faults.before so_far) bytes made
+  pub saves : Saves creates keeps name bytes made (between so_far faults.after) status
 
 abbrev pub WritesTo : Outputs → Option Text → List Text → Files → Device → Device → Device → ℕ → Type 0
 WritesTo outputs None words files input output faults status = ToOutput outputs.shows words files input output faults status

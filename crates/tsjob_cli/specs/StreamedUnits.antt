@@ -1,5 +1,5 @@
 -- The units of the streams of a description, while a stream comes.
-use Rattle.std.specs.Prelude.{◌≡◌, ◌⊎◌, ℕ, ◌+◌, ◌==◌, List, [], ◌∷◌, filter, map, Some, None, Result, Ok, Err, codes, ⊤, Bool, if◌then◌else◌}
+use Rattle.std.specs.Prelude.{◌≡◌, ◌⊎◌, ℕ, ◌+◌, ◌==◌, List, [], ◌∷◌, filter, map, None, Result, Ok, Err, codes, ⊤, Bool, if◌then◌else◌}
 use Rattle.description_parts.specs.Described.{Described, DescribedProgram, DescribedStream}
 use Rattle.description_keys.specs.declared.fault.DescError.TheVariants as refused_by
 pub use Rattle.es_feed.specs.EachStream.{fed_stream}
@@ -11,7 +11,7 @@ use Rattle.checked_jobs.specs.Jobs.{described}
 use Rattle.description_keys.specs.Codes.{fault_code, fault_item}
 use Rattle.description_keys.specs.declared.fault.DescFault.{DescFault}
 use Rattle.devices.specs.Devices.{Device, IsUntouched}
-use Rattle.devices.specs.Files.{Files, IsOpened, IsUnopened, IsUnread}
+use Rattle.devices.specs.Files.{Files, IsUnopened, IsUnread}
 use Rattle.devices.specs.Lines.{Reports, line_text}
 use Rattle.devices.specs.Outcomes.{Outcome, halted, reported}
 use Rattle.devices.specs.Runs.{LacksMemory}
@@ -19,6 +19,7 @@ use Rattle.devices.specs.declared.halt.Halt.TheVariants.{Read, Write, Memory}
 use Rattle.given_marks.specs.Marking.{MarkingView}
 use Rattle.given_marks.specs.declared.marking.TypedPid.{TypedPid}
 use Rattle.job_programs.specs.JobOptions.{JobOptionsView}
+use Rattle.named_files.specs.ReadFiles.{HasBytes}
 use Rattle.tsjob_cli.specs.declared.streaming.NoDescription.{NoDescription}
 use Rattle.tsjob_cli.specs.declared.streaming.NoDescription.TheVariants.{Unopened, Stopped, Refused}
 
@@ -72,15 +73,14 @@ IsDescriptionIn text (Err Unopened) = ⊥
 IsDescriptionIn text (Err (Stopped halt)) = halt ≡ Memory
 IsDescriptionIn text (Err (Refused f)) = described text ≡ Err (refused_by.Refused f)
 
--- the description in the file of a name; if its bytes are not known, the description is not either
+-- the description in the file of a name: the file has a text, its own bytes if these are known, and this is the description in it, or it is refused
 abbrev pub IsNamedDescription : Files → List ℕ → Result Described NoDescription → Type 0
-IsNamedDescription files name (Ok d) = IsOpened files name × ((text : List ℕ) → files.contents name ≡ Some text → described text ≡ Ok d)
+IsNamedDescription files name (Ok d) = (text : List ℕ) × (HasBytes files name text × (described text ≡ Ok d))
 IsNamedDescription files name (Err Unopened) = IsUnopened files name
 IsNamedDescription files name (Err (Stopped Read)) = IsUnread files name
 IsNamedDescription files name (Err (Stopped Write)) = ⊥
 IsNamedDescription files name (Err (Stopped Memory)) = ⊤
-IsNamedDescription files name (Err (Refused f)) =
-    IsOpened files name × ((text : List ℕ) → files.contents name ≡ Some text → described text ≡ Err (refused_by.Refused f))
+IsNamedDescription files name (Err (Refused f)) = (text : List ℕ) × (HasBytes files name text × (described text ≡ Err (refused_by.Refused f)))
 
 -- the line for a refused description
 abbrev pub refused_line : DescFault → List ℕ

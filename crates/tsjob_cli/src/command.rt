@@ -127,7 +127,8 @@ fn write_output<F: NamedFiles + OutputFiles, R: Source, W: Sink, E: Sink>(
 
 // Writes what was made to the file of a name, if it is to be kept; returns the status.
 fn save<F: OutputFiles, E: Sink>(files: &F, name: &str, made: &MadeJob, faults: &mut E) -> u8
-    ensures { spec.Saves (F.creates files.now name.now) (F.keeps files.now name.now) name.now made.now.bytes.items made.now.status
+    ensures { spec.Saves (F.creates files.now name.now)
+        (F.keeps files.now name.now) name.now made.now.bytes.items made.now.status
         (writes E.Sink faults.old faults.new) result }
 {
     if !made.is_kept() {
@@ -145,7 +146,8 @@ fn write_file<F: NamedFiles + OutputFiles, R: Source, E: Sink>(
     input: &mut R,
     faults: &mut E,
 ) -> u8
-    ensures { spec.ToFile (F.creates files.now name.now) (F.keeps files.now name.now) name.now (map (λ s. s.now) words.now)
+    ensures { spec.ToFile (F.creates files.now name.now) (F.keeps files.now name.now) name.now
+        (map (λ s. s.now) words.now)
         (files_of (F.contents_of files.now) (F.opens files.now) F.never_fails)
         (reads R.Source input.old input.new) (writes E.Sink faults.old faults.new) result }
 {
@@ -162,7 +164,8 @@ fn perform_words<F: NamedFiles + OutputFiles, R: Source, W: Sink, E: Sink>(
     output: &mut W,
     faults: &mut E,
 ) -> u8
-    ensures { spec.PerformsWords (spec.outputs_of (F.creates files.now) (F.keeps files.now) (F.shows files.now)) (map (λ s. s.now) words.now)
+    ensures { spec.PerformsWords (spec.outputs_of (F.creates files.now) (F.keeps files.now) (F.shows files.now))
+        (map (λ s. s.now) words.now)
         (files_of (F.contents_of files.now) (F.opens files.now) F.never_fails)
         (reads R.Source input.old input.new) (writes W.Sink output.old output.new)
         (writes E.Sink faults.old faults.new) result }
@@ -185,7 +188,8 @@ fn answer<F: NamedFiles + OutputFiles, R: Source, W: Sink, E: Sink>(
     output: &mut W,
     faults: &mut E,
 ) -> u8
-    ensures { spec.Answers (spec.outputs_of (F.creates files.now) (F.keeps files.now) (F.shows files.now)) (map (λ s. s.now) words.now)
+    ensures { spec.Answers (spec.outputs_of (F.creates files.now) (F.keeps files.now) (F.shows files.now))
+        (map (λ s. s.now) words.now)
         (files_of (F.contents_of files.now) (F.opens files.now) F.never_fails)
         (reads R.Source input.old input.new) (writes W.Sink output.old output.new)
         (writes E.Sink faults.old faults.new) result }
@@ -208,13 +212,15 @@ fn run_sorted<F: NamedFiles + OutputFiles, R: Source, W: Sink, E: Sink>(
     faults: &mut E,
 ) -> u8
     ensures taken { are_taken (spec.known_words (map (λ s. s.now) words.now)) (map (λ s. s.now) words.now) ≡ true →
-        spec.Answers (spec.outputs_of (F.creates files.now) (F.keeps files.now) (F.shows files.now)) (map (λ s. s.now) words.now)
+        spec.Answers (spec.outputs_of (F.creates files.now) (F.keeps files.now) (F.shows files.now))
+        (map (λ s. s.now) words.now)
         (files_of (F.contents_of files.now) (F.opens files.now) F.never_fails)
         (reads R.Source input.old input.new) (writes W.Sink output.old output.new)
         (writes E.Sink faults.old faults.new) result ⊎ spec.LacksWords (reads R.Source input.old input.new)
         (writes W.Sink output.old output.new) (writes E.Sink faults.old faults.new) result }
     ensures other { are_taken (spec.known_words (map (λ s. s.now) words.now)) (map (λ s. s.now) words.now) ≡ false →
-        AnswersWords (codes "tsjob") (spec.known_words (map (λ s. s.now) words.now)) (map (λ s. s.now) words.now) usage_text
+        AnswersWords (codes "tsjob") (spec.known_words (map (λ s. s.now) words.now))
+        (map (λ s. s.now) words.now) usage_text
         (reads R.Source input.old input.new) (writes W.Sink output.old output.new)
         (writes E.Sink faults.old faults.new) result }
 {

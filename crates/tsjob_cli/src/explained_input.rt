@@ -54,7 +54,8 @@ pub(crate) fn explain_files<F: NamedFiles, W: Sink, E: Sink>(
     faults: &mut E,
 ) -> u8
     ensures { spec.ExplainsFiles (files_of (F.contents_of files.now) (F.opens files.now) F.never_fails)
-        (map (λ s. s.now) names.now) (writes W.Sink output.old output.new) (writes E.Sink faults.old faults.new) result }
+        (map (λ s. s.now) names.now) (writes W.Sink output.old output.new)
+        (writes E.Sink faults.old faults.new) result }
 {
     let bytes = match read_files(alloc, files, names, faults) {
         Ok(bytes) => bytes,

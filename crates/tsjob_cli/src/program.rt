@@ -111,7 +111,8 @@ fn run_on_stream<F: NamedFiles, R: Source, W: Sink, E: Sink>(
         (reads R.Source input.old input.new)
         (writes W.Sink output.old output.new) (writes E.Sink faults.old faults.new) result }
     // Streams in files to what the words before their names ask for.
-    ensures files { (a : JobArgumentsView) → arguments words.now ≡ None → file_arguments (map (λ s. s.now) words.now) ≡ Some a →
+    ensures files { (a : JobArgumentsView) → arguments words.now ≡ None →
+        file_arguments (map (λ s. s.now) words.now) ≡ Some a →
         ReadsFiles a (files_of (F.contents_of files.now) (F.opens files.now) F.never_fails)
         (file_words (map (λ s. s.now) words.now)) (reads R.Source input.old input.new)
         (writes W.Sink output.old output.new) (writes E.Sink faults.old faults.new) result }
@@ -144,7 +145,8 @@ pub fn run<F: NamedFiles, R: Source, W: Sink, E: Sink>(
         Performs ExplainLeads (reads R.Source input.old input.new)
         (writes W.Sink output.old output.new) (writes E.Sink faults.old faults.new) result }
     // A transport stream to what the command line asks for.
-    ensures job { is_explain (map (λ s. s.now) words.now) ≡ false → (a : JobArgumentsView) → arguments words.now ≡ Some a →
+    ensures job { is_explain (map (λ s. s.now) words.now) ≡ false → (a : JobArgumentsView) →
+        arguments words.now ≡ Some a →
         a.stream ≡ None →
         Performs (spec.Leads a) (reads R.Source input.old input.new) (writes W.Sink output.old output.new)
         (writes E.Sink faults.old faults.new) result }
@@ -155,7 +157,8 @@ pub fn run<F: NamedFiles, R: Source, W: Sink, E: Sink>(
         (reads R.Source input.old input.new)
         (writes W.Sink output.old output.new) (writes E.Sink faults.old faults.new) result }
     // Streams in files to what the words before their names ask for.
-    ensures files { is_explain (map (λ s. s.now) words.now) ≡ false → (a : JobArgumentsView) → arguments words.now ≡ None →
+    ensures files { is_explain (map (λ s. s.now) words.now) ≡ false → (a : JobArgumentsView) →
+        arguments words.now ≡ None →
         file_arguments (map (λ s. s.now) words.now) ≡ Some a →
         ReadsFiles a (files_of (F.contents_of files.now) (F.opens files.now) F.never_fails)
         (file_words (map (λ s. s.now) words.now)) (reads R.Source input.old input.new)

@@ -210,7 +210,8 @@ fn named_description<F: NamedFiles>(
     files: &F,
     name: &str,
 ) -> Result<Description, NoDescription>
-    ensures { spec.IsNamedDescription (files_of (F.contents_of files.now) (F.opens files.now) F.never_fails) name.now result }
+    ensures { spec.IsNamedDescription
+        (files_of (F.contents_of files.now) (F.opens files.now) F.never_fails) name.now result }
 {
     let Some(mut file) = files.open_named(name) else {
         return Err(NoDescription::Unopened);
@@ -257,7 +258,8 @@ fn stream_by<R: Source, W: Sink, E: Sink>(
     output: &mut W,
     faults: &mut E,
 ) -> u8
-    ensures { spec.GoesBy options.now description.now (reads R.Source input.old input.new) (writes W.Sink output.old output.new)
+    ensures { spec.GoesBy options.now description.now (reads R.Source input.old input.new)
+        (writes W.Sink output.old output.new)
         (writes E.Sink faults.old faults.new) result }
 {
     let Ok(feed) = feed_of(alloc, options, description) else {
@@ -280,7 +282,8 @@ pub(crate) fn stream_units<F: NamedFiles, R: Source, W: Sink, E: Sink>(
     output: &mut W,
     faults: &mut E,
 ) -> u8
-    ensures { spec.StreamsUnits options.now (files_of (F.contents_of files.now) (F.opens files.now) F.never_fails) name.now
+    ensures { spec.StreamsUnits options.now
+        (files_of (F.contents_of files.now) (F.opens files.now) F.never_fails) name.now
         (reads R.Source input.old input.new)
         (writes W.Sink output.old output.new) (writes E.Sink faults.old faults.new) result }
 {

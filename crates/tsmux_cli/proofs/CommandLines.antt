@@ -1,4 +1,4 @@
--- The command line is one of which `clap` says what it reads.
+-- The command line is of the kind for which `clap` documents its result.
 use Rattle.std.proofs.Common.{◌≡◌, true, List, refl, sym, subst, Result, Ok, Err}
 use Rattle.std.specs.Prelude.{IfOk}
 use Rattle.clap.specs.Words.{App, FailsBy, HasMatchesOf, Text, fault_of, is_simple, is_simple_and_free, subcommand_of, subcommand_rows_of}

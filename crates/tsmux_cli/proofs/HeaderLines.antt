@@ -88,11 +88,11 @@ lines_alike x y e = sym (lines_besides x) ∙ ap finding_lines e ∙ lines_besid
 pub faults_alike : (x y : List FindingView) → all_without_body x ≡ all_without_body y → has_fault x ≡ has_fault y
 faults_alike x y e = sym (faults_besides x) ∙ ap has_fault e ∙ faults_besides y
 
--- what follows no findings
+-- If there were no findings before, all findings, without their bodies, are the added findings.
 pub added_to_none : (none new found : List FindingView) → none ≡ [] → AddsHeaders none new found → all_without_body new ≡ all_without_body found
 added_to_none none new found e added = added ∙ ap (λ (x : List FindingView). all_without_body x ++ all_without_body found) e
 
--- 2. The end, PID by PID
+-- 2. The end of a stream, PID by PID
 
 abbrev of_entry : ℕ → ℕ × PidState → List FindingView
 of_entry packet x = map (with_pid x.0 packet) (ended true x.1.open_unit)
@@ -149,7 +149,7 @@ unfolding ended_found
 faults_end packet i states lines all faulty fault past h =
     or_none faulty ∙ ap (λ (xs : States). faulty || has_fault (ended_found packet xs)) (sym (drop_all i states past)) ∙ h.faults_are
 
--- before the first PID
+-- The state before the first PID.
 pub at_first : (packet : ℕ) (states : States) (held : List FindingView) (old lines : List ℕ) (faulty : Bool) → lines ≡ old ++ finding_lines held →
     faulty ≡ has_fault held →
     AtEnd packet 0 states lines (old ++ finding_lines (held ++ ended_found packet states)) faulty (has_fault (held ++ ended_found packet states))
@@ -160,7 +160,7 @@ at_first packet states held old lines faulty listed known =
       faults_are = ap (λ (b : Bool). b || has_fault rest) known ∙ sym (both_faults held rest);
     }
 
--- 3. What is listed of findings that follow none
+-- 3. The lines of the first findings
 
 pub lines_after : {V E : Type 0} (r : Result V E) (old lines : List ℕ) (none new found : List FindingView) → none ≡ [] → AddsHeaders none new found →
     OnOk r (lines ≡ old ++ finding_lines new) → OnOk r (lines ≡ old ++ finding_lines found)

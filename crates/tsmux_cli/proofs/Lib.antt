@@ -9,3 +9,5 @@ pub mod JobTaking
 pub mod MuxJobs
 pub mod MuxOutcomes
 pub mod Monitored
+pub mod GoodRuns
+pub mod GoodCarries

@@ -13,7 +13,7 @@ use Rattle.tsmux_cli.specs.FindingLines.{finding_lines, has_fault}
 use Rattle.tsmux_cli.specs.Demultiplexing.{ListsSome, ListsWhole, found_at_end, findings_of}
 use Rattle.tsmux_cli.proofs.HeaderLines.{both_faults, both_lines, faults_alike, lines_alike}
 
--- 1. Findings so far
+-- 1. The findings so far
 
 pub lists_none : (demux : StreamState) (lines : List ℕ) → demux ≡ start → lines ≡ [] → ListsSome [] demux false lines
 lists_none demux lines d l = record {
@@ -34,12 +34,12 @@ lists_more bytes piece demux next faulty here lines more l n h m =
       lines_are = m ∙ ap (λ (x : List ℕ). x ++ finding_lines found) l.lines_are ∙ sym (both_lines l.found found);
     }
 
--- all findings are the findings so far, and what the end decides, besides bodies
+-- Without their bodies, all findings are the findings so far and the findings at the end.
 all_of : (bytes : List ℕ) (demux : StreamState) (found : List FindingView) → HeadersSoFar bytes demux found →
     all_without_body (findings_of bytes) ≡ all_without_body (found ++ found_at_end demux)
 all_of bytes demux found s = (headers_are_found bytes [] demux found s).1
 
--- 2. What the end decides is listed too
+-- 2. The findings at the end are listed too
 
 pub end_listed : (input : Device) (bytes : List ℕ) (demux : StreamState) (faulty ended : Bool) (lines more : List ℕ) → ReadsInput input (Ok bytes) →
     ListsSome bytes demux faulty lines → more ≡ lines ++ finding_lines (found_at_end demux) → ended ≡ has_fault (found_at_end demux) →

@@ -1,4 +1,4 @@
--- `monitor`: an input that is taken piece by piece, whole packets in each but the last, and the report on all of it.
+-- `monitor`: an input that is taken in pieces of whole packets, except for the last piece, and the report on the whole input.
 use Rattle.std.proofs.Common.{◌≡◌, ℕ, zero, suc, ◌*◌, ◌/◌, ◌%◌, ◌≤◌, List, [], ◌∷◌, ◌++◌, length, take, drop, refl, sym, ap, subst, ◌∙◌, arith, append_assoc}
 use Rattle.std.proofs.Common.{append-nil, Result, Ok, Err}
 use Rattle.std.specs.Prelude.{OnOk, not, ◌==◌}
@@ -14,7 +14,7 @@ use Rattle.devices.specs.declared.halt.Halt.{Halt}
 use Rattle.tsmux_cli.specs.Monitoring.{Concludes, ReportsOn}
 use Rattle.tsmux_cli.specs.declared.request.MonitorOptions.{MonitorOptions}
 
--- 1. Bytes that are whole packets, and bytes after them
+-- 1. Whole packets, and bytes after them
 
 cut_both : (count : ℕ) (bytes more : List ℕ) → length bytes ≡ 188 * count → cut_packets (bytes ++ more) ≡ cut_packets bytes ++ cut_packets more
 cut_both zero [] more e = refl
@@ -45,7 +45,7 @@ takes_more first before after bytes piece (Ok v) whole b a = λ rate limit packe
     (a rate limit (packets ++ cut_packets bytes) (b rate limit packets t))
 takes_more first before after bytes piece (Err e) whole b a = tt
 
--- 2. The report on what was taken is the report on the whole stream
+-- 2. The report on the bytes that were taken is the report on the whole stream
 
 pub reports_on : (options : MonitorOptions) (input : Device) (first marks : MonitorState) (taken : Result ℕ Halt) (result : Result ReportView Halt) →
     HasTaken options.rate options.pcr_limit [] first → TakesInput (λ bytes. Takes (cut_packets bytes) first marks) input taken → Concludes marks taken result →

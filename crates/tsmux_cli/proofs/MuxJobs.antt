@@ -1,4 +1,4 @@
--- A job and its records, in the terms of a job with its units.
+-- A job and its records, as a job with its units.
 use Rattle.std.proofs.Common.{◌≡◌, ℕ, Bool, List, [], ap, Ok, Err}
 use Rattle.pes_packet.specs.AccessUnits.{AccessUnit}
 use Rattle.unit_records.specs.declared.reading.UnitFileError.{UnitFileError}

@@ -1,4 +1,4 @@
--- What a job leads `mux` to.
+-- The outcome of `mux` for a job.
 use Rattle.std.proofs.Common.{◌≡◌, ℕ, List, [], sym, ap, subst, ◌∙◌, Option, Some, None, Result, Ok, Err}
 use Rattle.std.specs.Prelude.{is_some}
 use Rattle.pes_packet.specs.Units.{units_of}
@@ -18,7 +18,7 @@ use Rattle.devices.specs.WholeInput.{ReadsInput}
 use Rattle.tsmux_cli.specs.declared.request.MuxOptions.{MuxOptions}
 use Rattle.devices.proofs.Performances.{no_room, performed, reported_only, unwritten}
 
--- what is promised, where some of it may have been written
+-- If bytes of the output may be written, the promises are kept.
 pub is_kept : (o : MuxOptions) (j : MuxJobView) (result : Result ℕ MuxError) →
     OnWriting result (Headline (schedule_of o j) (λ k. units_of k j.units) (slots_of o j) (run_bytes_of o j)) →
     OnWriting result (MeasuresWell (schedule_of o j) j.units (run_bytes_of o j)) → OnWriting result (IsKept o j)
@@ -29,7 +29,7 @@ is_kept o j (Err Periods) headline measured = tt
 is_kept o j (Err (Feed index cause)) headline measured = tt
 is_kept o j (Err Memory) headline measured = tt
 
--- the bytes are read as this job
+-- The bytes are read as this job.
 abbrev pub IsReadAs : MuxOptions → List ℕ → MuxJobView → Type 0
 IsReadAs o bytes j = Ok j ≡ mux_job_of (is_some o.periods) bytes
 
@@ -52,7 +52,7 @@ refused_by : (o : MuxOptions) (bytes : List ℕ) (j : MuxJobView) (cause : MuxEr
 unfolding unless_refused
 refused_by o bytes j cause r e = leads_to o bytes j (Some cause) r e tt
 
--- a job that is not read
+-- The bytes are not read as a job.
 pub not_read : (o : MuxOptions) (bytes : List ℕ) (fault : MuxFaultView) → Err fault ≡ mux_job_of (is_some o.periods) bytes →
     Muxes o bytes (reported (mux_fault_line fault))
 unfolding with_job
@@ -66,20 +66,20 @@ untouched output e f =
     ap (λ (x : Option (List ℕ)). record { bytes = x; failed = output.after.failed }) e
     ∙ ap (λ (n : ℕ). record { bytes = output.before.bytes; failed = n }) f
 
--- an answer of the multiplexer
+-- A result of the multiplexer, with its output.
 abbrev pub IsAnswer : MuxOptions → MuxJobView → Device → Result ℕ MuxError → Type 0
 IsAnswer o j output result =
     Refuses (range_cause o j) (cause_of o j) result × (Writes (packets_of o j) output.before.bytes output.after.bytes result
     × (OnWriting result (IsKept o j) × NamesWriter result output.before.failed output.after.failed))
 
--- all packets are written
+-- All packets are written.
 pub ended : (o : MuxOptions) (bytes : List ℕ) (j : MuxJobView) (sent : ℕ) (input output faults : Device) (status : ℕ) →
     ReadsInput input (Ok bytes) → IsReadAs o bytes j → IsAnswer o j output (Ok sent) → Reports faults [] → status ≡ 0 →
     Performs (Muxes o) input output faults status
 ended o bytes j sent input output faults status i r a t s =
     performed (Muxes o) bytes (printed (packets_of o j) 0) input output faults status i (written_whole o bytes j r a.0 a.1.1.0) a.1.0 a.1.1.1 t s
 
--- an error is reported
+-- An error is reported.
 pub failed : (o : MuxOptions) (bytes : List ℕ) (j : MuxJobView) (error : MuxError) (input output faults : Device) (status : ℕ) →
     ReadsInput input (Ok bytes) → IsReadAs o bytes j → IsAnswer o j output (Err error) → Reports faults (error_outcome error).report →
     status ≡ (error_outcome error).status →

@@ -1,4 +1,4 @@
--- A number of an option in the range of a field.
+-- The number of an option, in the range of a field.
 use Rattle.std.proofs.Common.{◌≤◌, ◌<◌, ℕ, Option, Some, None, arith}
 use Rattle.std.specs.Prelude.{IfSome}
 

@@ -1,4 +1,4 @@
--- What a description that was read leads `plan` to.
+-- The outcome of `plan` for a description.
 use Rattle.std.proofs.Common.{◌≡◌, ◌⊎◌, ℕ, false, List, [], refl, ap, subst, ◌∙◌, Result, Ok, Err, inl, inr}
 use Rattle.std.specs.Prelude.{codes}
 use Rattle.description_parts.specs.Described.{Described}
@@ -15,7 +15,7 @@ use Rattle.tsmux_cli.specs.Planning.{IsPlanText, ReportsUnread, MakesPlan, Makes
 use Rattle.devices.specs.WholeInput.{ReadsInput}
 use Rattle.devices.proofs.Performances.{no_room, reported_only}
 
--- read as this, or there was no memory
+-- The bytes are read as this description or error, or memory ran out.
 abbrev pub IsReadAs : List ℕ → Result Described DescError → Type 0
 IsReadAs bytes read = (read ≡ Err Memory) ⊎ (read ≡ described bytes)
 

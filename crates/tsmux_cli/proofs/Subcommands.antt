@@ -1,4 +1,4 @@
--- The subcommand that a parse met, from the two answers of its call, and what words ask for.
+-- The subcommand that parsing found, by the two results of its call, and the request of the words.
 use Rattle.std.proofs.Common.{◌≡◌, ◌<◌, List, [], ◌∷◌, length, Option, Some, None, refl, arith}
 use Rattle.std.specs.Prelude.{option_map}
 use Rattle.clap.specs.Words.{IsAmong, Kinds, Row, Text}

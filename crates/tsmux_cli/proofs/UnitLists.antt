@@ -1,4 +1,4 @@
--- The records of a job, one by one, and as their bytes come.
+-- The records of a job, one by one, and while their bytes arrive.
 use Rattle.std.proofs.Common.{◌≡◌, ◌+◌, ◌-◌, ℕ, suc, List, [], ◌∷◌, ◌++◌, length, drop, Option, Some, None, Result, Ok, Err, refl, sym, ap, ◌∙◌, subst, arith}
 use Rattle.std.proofs.Common.{append_assoc, append-nil, Bool, true, false, not}
 use Rattle.std.specs.Prelude.{is_some}
@@ -11,10 +11,10 @@ use Rattle.unit_records.specs.declared.reading.UnitFileError.{UnitFileError}
 use Rattle.unit_records.specs.declared.reading.UnitFileError.TheVariants.{Cut, Size, Device, Memory}
 use Rattle.unit_records.specs.declared.taking.OpenRecord.{OpenRecord}
 use Rattle.devices.specs.declared.halt.Halt.{Halt}
-use Rattle.tsmux_cli.specs.UnitList.{NamesFault, ReadSoFar, StandsOn, TakesRecords, Units, joined, units_from, units_in, units_step, with_first}
+use Rattle.tsmux_cli.specs.UnitList.{NamesFault, ReadSoFar, IsReadUpTo, TakesRecords, Units, joined, units_from, units_in, units_step, with_first}
 use Rattle.tsmux_cli.specs.declared.unit_list.RecordFault.{RecordFault}
 
--- 1. One by one
+-- 1. One record after another
 
 joined_none : (after : Units) → joined [] after ≡ after
 unfolding joined
@@ -67,16 +67,16 @@ read_stopped xs done left fault r e =
     let rest = units_from r.spare (length done + 1) (after_record left) in
     sym (r.is ∙ ap (λ o. joined done (units_step (length done) o rest)) e)
 
--- 2. Records whose bytes come one after another
+-- 2. Records whose bytes arrive piece by piece
 
--- no byte has come
+-- No byte has arrived.
 pub none_come : (units : List (ℕ × AccessUnit)) (begun : OpenRecord) (fault : Option RecordFault) → units ≡ [] → IsOpen begun → come_of begun ≡ [] →
     fault ≡ None →
     TakesRecords [] units begun fault
 none_come units begun fault u o e f = λ more.
     rw (u, f) (o, subst (ReadSoFar more []) (ap (λ (xs : List ℕ). xs ++ more) (sym e)) (read_none more))
 
--- no record was faulty, or one was
+-- There is a faulty record, or there is none.
 pub no_fault : (fault : Option RecordFault) (none : Bool) → is_some fault ≡ not none → none ≡ true → fault ≡ None
 no_fault None none e t = refl
 no_fault (Some f) true e t = absurd cc
@@ -84,16 +84,16 @@ no_fault (Some f) false e t = absurd cc
 
 pub fault_stays : (xs left after : List ℕ) (units : List (ℕ × AccessUnit)) (begun : OpenRecord) (fault : Option RecordFault) (none : Bool) →
     is_some fault ≡ not none → none ≡ false →
-    StandsOn xs left units begun fault → StandsOn xs after units begun fault
+    IsReadUpTo xs left units begun fault → IsReadUpTo xs after units begun fault
 fault_stays xs left after units begun None true e t s = absurd cc
 fault_stays xs left after units begun None false e t s = absurd cc
 fault_stays xs left after units begun (Some f) none e t s = s
 
--- a record ends among these bytes
+-- A record ends among these bytes.
 pub record_ends : (xs bytes more : List ℕ) (units : List (ℕ × AccessUnit)) (old new : OpenRecord) (n : ℕ) (entry : ℕ × AccessUnit)
     (fault : Option RecordFault) → fault ≡ None →
-    StandsOn xs (bytes ++ more) units old fault → (IsOpen old → TakesBytes (come_of old) bytes new (Ok (Some (n, entry)))) →
-    StandsOn xs (drop n bytes ++ more) (units ++ entry ∷ []) new fault
+    IsReadUpTo xs (bytes ++ more) units old fault → (IsOpen old → TakesBytes (come_of old) bytes new (Ok (Some (n, entry)))) →
+    IsReadUpTo xs (drop n bytes ++ more) (units ++ entry ∷ []) new fault
 record_ends xs bytes more units old new n entry (Some f) e s k = absurd cc
 record_ends xs bytes more units old new n entry None e s k =
     let t = k s.0 in
@@ -101,9 +101,9 @@ record_ends xs bytes more units old new n entry None e s k =
     t.1.1.rest_is more ∙ ap (λ (ys : List ℕ). ys ++ (drop n bytes ++ more)) (sym t.1.0) in
     (t.0, subst (ReadSoFar xs (units ++ entry ∷ [])) rest (read_more xs units (come_of old ++ (bytes ++ more)) entry s.1 (t.1.1.record_is more)))
 
--- all of them belong to the open record
+-- All these bytes belong to the open record.
 pub record_goes_on : (xs bytes more : List ℕ) (units : List (ℕ × AccessUnit)) (old new : OpenRecord) (fault : Option RecordFault) → fault ≡ None →
-    StandsOn xs (bytes ++ more) units old fault → (IsOpen old → TakesBytes (come_of old) bytes new (Ok None)) → StandsOn xs more units new fault
+    IsReadUpTo xs (bytes ++ more) units old fault → (IsOpen old → TakesBytes (come_of old) bytes new (Ok None)) → IsReadUpTo xs more units new fault
 record_goes_on xs bytes more units old new (Some f) e s k = absurd cc
 record_goes_on xs bytes more units old new None e s k =
     let t = k s.0 in
@@ -116,10 +116,10 @@ named : (fault : RecordFault) (index : ℕ) (refusal : UnitFileError) {xs : Unit
     Err (index, refusal) ≡ xs → Err (fault.index, fault.fault) ≡ xs
 named fault index refusal n e = (let same : fault ≡ record { index = index; fault = refusal } = cc in ap (λ (f : RecordFault). Err (f.index, f.fault)) same ∙ e)
 
--- the open record is refused
+-- The open record is refused.
 pub record_is_none : (xs bytes more : List ℕ) (units : List (ℕ × AccessUnit)) (old new : OpenRecord) (refusal : UnitFileError) (before : Option RecordFault)
     (fault : RecordFault) → before ≡ None →
-    StandsOn xs (bytes ++ more) units old before → (IsOpen old → TakesBytes (come_of old) bytes new (Err refusal)) →
+    IsReadUpTo xs (bytes ++ more) units old before → (IsOpen old → TakesBytes (come_of old) bytes new (Err refusal)) →
     NamesFault (length units) refusal (Ok fault) → Err (fault.index, fault.fault) ≡ units_in xs
 record_is_none xs bytes more units old new refusal (Some f) fault b s k n = absurd cc
 record_is_none xs bytes more units old new Cut None fault b s k n =
@@ -130,11 +130,11 @@ record_is_none xs bytes more units old new Device None fault b s k n =
     named fault (length units) Device n (read_stopped xs units (come_of old ++ (bytes ++ more)) Device s.1 (k s.0 more))
 record_is_none xs bytes more units old new Memory None fault b s k n = absurd cc
 
--- what came after the ones before, before more
+-- Bytes that arrive in two steps are joined in order.
 pub come_together : (before bytes more : List ℕ) → before ++ (bytes ++ more) ≡ (before ++ bytes) ++ more
 come_together before bytes more = sym (append_assoc before bytes more)
 
--- 3. The end
+-- 3. The end of the records
 
 none_left : record_at [] ≡ Ok None
 unfolding record_at

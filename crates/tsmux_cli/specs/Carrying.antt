@@ -1,6 +1,6 @@
 -- `carry`: its output, its report and its status.
 use Rattle.std.specs.Prelude.{◌≡◌, ℕ, List, [], Some, Result, Ok, Err}
-use Rattle.carry.specs.RecordRuns.{Answers, Leaves, NamesDevice, Writes, carried, run_of}
+use Rattle.carry.specs.RecordRuns.{Leaves, NamesDevice, Carries as CarriesBytes}
 use Rattle.carry.specs.declared.carrying.CarryError.{CarryError}
 use Rattle.carry.specs.declared.carrying.CarryError.TheVariants.{Unit as AtUnit, File as AtRecord, Device as AtWriter, Memory as NoMemory}
 use Rattle.tsmux_cli.specs.declared.request.CarryOptions.{CarryOptions}
@@ -18,13 +18,11 @@ carry_outcome (Err (AtRecord index fault)) = record_outcome index fault
 carry_outcome (Err (AtWriter sent)) = halted Write
 carry_outcome (Err (NoMemory index)) = halted Memory
 
--- a run of `carry`: for an input with known bytes, the output has the packets of its records before the first refused one, as `carried` gives them; the
--- line and the status are the answer's, and a device is named if a call of it failed
+-- a run of `carry`: the output has the packets of the records, before the first refused one, of the bytes that were read, as `carried` gives them; the bytes
+-- are the input's own, if these are known. The line and the status are the answer's, and a device is named if a call of it failed
 pub record Carries (c : CarryOptions) (input output faults : Device) (status : ℕ) : Type 0 where
   pub answer : Result ℕ CarryError
-  pub answers : (xs : List ℕ) → input.before.bytes ≡ Some xs → Answers (run_of c.id xs) answer
-  pub writes : (xs : List ℕ) → input.before.bytes ≡ Some xs →
-      Writes (carried c.hex c.pid c.id) (run_of c.id xs).units output.before.bytes output.after.bytes answer
+  pub carries : CarriesBytes c.hex c.pid c.id input.before.bytes output.before.bytes output.after.bytes answer
   pub leaves : (xs : List ℕ) → input.before.bytes ≡ Some xs → Leaves xs input.after.bytes answer
   pub device : NamesDevice answer input.before.failed input.after.failed output.before.failed output.after.failed
   pub reports : Reports faults (carry_outcome answer).report

@@ -15,15 +15,15 @@ pub record ReadsPlans (Taken : List ℕ → Type 0) (switch : Bool) (bytes : Lis
   pub taken : Taken after
 
 -- the state of reading after these bytes of a job
-abbrev pub StandsAt : (List ℕ → Type 0) → Bool → List ℕ → List ℕ → FrontState → Type 0
-StandsAt Taken switch bytes text Open = (text ≡ bytes) × Taken []
-StandsAt Taken switch bytes text (Plans plans) = ReadsPlans Taken switch bytes plans
-StandsAt Taken switch bytes text (Fault fault) = (more : List ℕ) → Err (fault_view fault) ≡ job_of switch (bytes ++ more)
+abbrev pub IsStateAfter : (List ℕ → Type 0) → Bool → List ℕ → List ℕ → FrontState → Type 0
+IsStateAfter Taken switch bytes text Open = (text ≡ bytes) × Taken []
+IsStateAfter Taken switch bytes text (Plans plans) = ReadsPlans Taken switch bytes plans
+IsStateAfter Taken switch bytes text (Fault fault) = (more : List ℕ) → Err (fault_view fault) ≡ job_of switch (bytes ++ more)
 
 -- these bytes of a job have come
 pub record TakesJob (Taken : List ℕ → Type 0) (switch : Bool) (bytes : List ℕ) (has_switch : Bool) (text : List ℕ) (state : FrontState) : Type 0 where
   pub same : has_switch ≡ switch
-  pub stands : StandsAt Taken switch bytes text state
+  pub state_is : IsStateAfter Taken switch bytes text state
 
 -- the plans of the job, and a taker of all bytes after them
 pub record ConcludesPlans (Taken : List ℕ → Type 0) (wanted : Result JobView JobFaultView) (plans : JobPlans) : Type 0 where

@@ -11,3 +11,4 @@ pub mod MuxJobs
 pub mod Multiplexing
 pub mod Planning
 pub mod Monitoring
+pub mod Laws

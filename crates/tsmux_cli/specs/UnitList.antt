@@ -45,13 +45,13 @@ pub record ReadSoFar (xs : List ℕ) (done : List (ℕ × AccessUnit)) (left : L
   pub is : units_in xs ≡ joined done (units_from (suc spare) (length done) left)
 
 -- all but the last ones of these bytes have come: whole units and an open record, or the first record that is none
-abbrev pub StandsOn : List ℕ → List ℕ → List (ℕ × AccessUnit) → OpenRecord → Option RecordFault → Type 0
-StandsOn xs left units begun None = IsOpen begun × ReadSoFar xs units (come_of begun ++ left)
-StandsOn xs left units begun (Some f) = Err (f.index, f.fault) ≡ units_in xs
+abbrev pub IsReadUpTo : List ℕ → List ℕ → List (ℕ × AccessUnit) → OpenRecord → Option RecordFault → Type 0
+IsReadUpTo xs left units begun None = IsOpen begun × ReadSoFar xs units (come_of begun ++ left)
+IsReadUpTo xs left units begun (Some f) = Err (f.index, f.fault) ≡ units_in xs
 
 -- these bytes have come, whatever bytes follow
 abbrev pub TakesRecords : List ℕ → List (ℕ × AccessUnit) → OpenRecord → Option RecordFault → Type 0
-TakesRecords bytes units begun fault = (more : List ℕ) → StandsOn (bytes ++ more) more units begun fault
+TakesRecords bytes units begun fault = (more : List ℕ) → IsReadUpTo (bytes ++ more) more units begun fault
 
 -- the units are returned, or the faulty record
 abbrev pub IsList : Units → Result (List (ℕ × AccessUnit)) RecordFault → Type 0

@@ -61,7 +61,8 @@ impl<T: RestTaker + Drop> JobTaker<T> {
     fn read_text(&mut self) -> Result<(), Halt>
         ensures taken { (switch : Bool) (bytes : List ℕ) → self.old.state ≡ Open
             → TakesJob (T.has_taken self.old.rest) switch bytes self.old.switch self.old.text.items self.old.state
-            → OnOk result (TakesJob (T.has_taken self.new.rest) switch bytes self.new.switch self.new.text.items self.new.state) }
+            → OnOk result (TakesJob (T.has_taken self.new.rest) switch bytes self.new.switch
+            self.new.text.items self.new.state) }
         ensures memory { IfErr result (λ halt. halt ≡ Halt.Memory) }
     {
         match plans_at_front(self.alloc, self.switch, &self.text) {
@@ -87,7 +88,8 @@ impl<T: RestTaker + Drop> JobTaker<T> {
     fn take_text(&mut self, bytes: &[u8]) -> Result<(), Halt>
         ensures taken { (switch : Bool) (before : List ℕ) → self.old.state ≡ Open
             → TakesJob (T.has_taken self.old.rest) switch before self.old.switch self.old.text.items self.old.state
-            → OnOk result (TakesJob (T.has_taken self.new.rest) switch (before ++ bytes.now) self.new.switch self.new.text.items self.new.state) }
+            → OnOk result (TakesJob (T.has_taken self.new.rest) switch
+            (before ++ bytes.now) self.new.switch self.new.text.items self.new.state) }
         ensures memory { IfErr result (λ halt. halt ≡ Halt.Memory) }
     {
         let Ok(()) = self.text.extend_from_slice(bytes) else {

@@ -5,7 +5,7 @@
 //! `planning`; `checking`; `multiplexing`, for a job with its units (`mux_jobs`) and, without `--slots`, the number of
 //! slots in `default_slots`; `monitoring`. A job is taken as its bytes arrive (`job_taker`), and so are the bytes after
 //! its plans (`rest_taker`, `unit_list`); the crate `checked_jobs` defines a job and its first fault. `program` is
-//! `run`.
+//! `run`; [`laws`] states what `mux` wrote if its status is 0.
 #![tactic(auto)]
 
 mod carrying;
@@ -15,6 +15,7 @@ mod default_slots;
 mod demultiplexing;
 mod finding_lines;
 mod job_taker;
+pub mod laws;
 mod monitoring;
 mod multiplexing;
 mod mux_jobs;

@@ -9,7 +9,7 @@ ghost use Rattle.tsmux_cli.specs.Multiplexing.{Muxes};
 ghost use Rattle.devices.specs.Runs.{LacksMemory, Performs};
 ghost use Rattle.tsmux_cli.specs.Planning.{MakesPlan};
 ghost use Rattle.devices.specs.Lines.{Reports};
-ghost use Rattle.devices.specs.Usage.{TellsUsage};
+ghost use Rattle.devices.specs.Usage.{ReportsUsage};
 ghost use Rattle.tsmux_cli.specs.Options.{known_after, known_words, usage_text};
 ghost use Rattle.tsmux_cli.specs.Request.{asked};
 ghost use Rattle.word_faults.specs.UsageReport.{Prints, is_version, usage_report, version_text};
@@ -82,7 +82,7 @@ pub fn run<R: Source, W: Sink, E: Sink>(
         (writes W.Sink output.old output.new) (writes E.Sink faults.old faults.new) result }
     // Anything else: the first word that cannot be taken, and the usage.
     ensures usage { asked words.now ≡ None → is_version (map (λ s. s.now) words.now) ≡ false →
-        TellsUsage (usage_report (known_words (known_after (map (λ s. s.now) words.now))) (map (λ s. s.now) words.now)
+        ReportsUsage (usage_report (known_words (known_after (map (λ s. s.now) words.now))) (map (λ s. s.now) words.now)
         usage_text) (reads R.Source input.old input.new) (writes W.Sink output.old output.new)
         (writes E.Sink faults.old faults.new) result
         ⊎ LacksMemory (reads R.Source input.old input.new) (writes W.Sink output.old output.new)

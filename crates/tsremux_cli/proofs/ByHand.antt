@@ -15,7 +15,7 @@ use Rattle.tsremux_cli.specs.declared.figures.Figures.{Figures}
 use Rattle.tsremux_cli.specs.declared.figures.Remuxed.{Remuxed}
 use Rattle.tsremux_cli.specs.declared.figures.Remuxed.TheVariants.{Whole, Ended}
 
--- a plan is made, or none
+-- A plan is made, or no plan is made.
 pub plan_made : (description plan : List ℕ) (input written faults : Device) (status : ℕ) → input.before.bytes ≡ Some description →
     written.before.bytes ≡ Some [] → written.after.bytes ≡ Some plan → Performs MakesPlan input written faults status → status ≡ 0 →
     PlansFor description faults (Ok plan)
@@ -29,14 +29,14 @@ pub none_made : (description : List ℕ) (input written : Device) (p0 p1 p2 : Po
     written.before.bytes ≡ Some [] → Performs MakesPlan input written (between p0 p1) status → 0 < status → SaysWhy description status (between p1 p2) →
     PlansFor description (between p0 p2) (Err status)
 none_made description input written p0 p1 p2 status begins empty runs fails why =
-    record { written = written; told = p1; runs = record { input = input; begins = begins; empty = empty; runs = runs }; fails = fails; why = why }
+    record { written = written; so_far = p1; runs = record { input = input; begins = begins; empty = empty; runs = runs }; fails = fails; why = why }
 
--- there is no description
+-- There is no description.
 pub no_description : (h : Hand) (files : Files) (input faults : Device) (status : ℕ) → ReadsAll files (h.description ∷ []) faults (Err status) →
     IsUntouched input → ReadsJob h files input faults (Err status)
 no_description h files input faults status stops unread = inr (inl (record { stops = stops; unread = unread }))
 
--- no plan
+-- There is no plan.
 pub no_plan : (h : Hand) (files : Files) (input : Device) (p0 p1 p2 : Port) (description lent : List ℕ) (status : ℕ) →
     ReadsAll files (h.description ∷ []) (between p0 p1) (Ok description) → lent ≡ description → ReadsPlan files h.plan lent (between p1 p2) (Err status) →
     IsUntouched input → ReadsJob h files input (between p0 p2) (Err status)
@@ -49,7 +49,7 @@ no_plan h files input p0 p1 p2 description lent status described same stops unre
       unread = unread;
     })))
 
--- no records
+-- There are no records.
 pub no_records : (h : Hand) (files : Files) (input : Device) (p0 p1 p2 p3 : Port) (description lent plan : List ℕ) (status : ℕ) →
     ReadsAll files (h.description ∷ []) (between p0 p1) (Ok description) → lent ≡ description → ReadsPlan files h.plan lent (between p1 p2) (Ok plan) →
     ReadsRecords files h.records input (between p2 p3) (Err status) → ReadsJob h files input (between p0 p3) (Err status)
@@ -64,7 +64,7 @@ no_records h files input p0 p1 p2 p3 description lent plan status described same
       stops = stops;
     })))
 
--- all three are read
+-- The description, the plan and the records are read.
 all_read : (h : Hand) (files : Files) (input : Device) (p0 p1 p2 p3 p4 : Port) (description lent plan records shown : List ℕ) (result : Result (List ℕ) ℕ) →
     ReadsAll files (h.description ∷ []) (between p0 p1) (Ok description) → lent ≡ description → ReadsPlan files h.plan lent (between p1 p2) (Ok plan) →
     ReadsRecords files h.records input (between p2 p3) (Ok records) → shown ≡ records → Joins description plan shown (between p3 p4) result →
@@ -96,7 +96,7 @@ pub no_room : (h : Hand) (files : Files) (input : Device) (p0 p1 p2 p3 p4 : Port
 no_room h files input p0 p1 p2 p3 p4 description lent plan records shown status described same planned recorded lends joins =
     inl (all_read h files input p0 p1 p2 p3 p4 description lent plan records shown (Err status) described same planned recorded lends joins)
 
--- the packets of the job
+-- The packets of the job
 pub none_muxed : (h : Hand) (files : Files) (input packets faults : Device) (status : ℕ) → ReadsJob h files input faults (Err status) → IsUntouched packets →
     MuxesByHand h files input packets faults (Ended status)
 none_muxed h files input packets faults status reads unwritten = inl (record { reads = reads; unwritten = unwritten })
@@ -107,7 +107,7 @@ pub not_all_muxed : (h : Hand) (files : Files) (input packets : Device) (p0 p1 p
 not_all_muxed h files input packets p0 p1 p2 p3 job shown status reads same muxed why =
     inr (record {
       job = job;
-      told = p1;
+      so_far = p1;
       later = p2;
       reads = reads;
       muxed = subst (λ (xs : List ℕ). MuxesBytes xs packets (between p1 p2) (Err status)) same muxed;
@@ -119,13 +119,13 @@ pub all_muxed : (h : Hand) (files : Files) (input packets : Device) (p0 p1 p2 : 
     MuxesByHand h files input packets (between p0 p2) (Whole figures 0)
 all_muxed h files input packets p0 p1 p2 job shown figures reads same muxed = record {
   job = job;
-  told = p1;
+  so_far = p1;
   reads = reads;
   muxed = subst (λ (xs : List ℕ). MuxesBytes xs packets (between p1 p2) (Ok figures)) same muxed;
   status_is = refl;
 }
 
--- what words ask for
+-- The service that words request
 pub by_hand : (words : List Text) (description : Text) (plan records : Option Text) (files : Files) (input packets faults : Device) (result : Remuxed) →
     Some description ≡ description_of words → plan ≡ plan_of words → records ≡ records_of words →
     MuxesByHand (hand description plan records) files input packets faults result → WritesFor words files input packets faults result

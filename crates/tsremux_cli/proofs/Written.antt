@@ -4,7 +4,7 @@ use Rattle.word_faults.specs.CommandLine.{Text}
 use Rattle.devices.specs.Devices.{Device, Port, between, IsUntouched}
 use Rattle.devices.specs.Files.{Files, IsAsKnown}
 use Rattle.devices.specs.Lines.{Reports}
-use Rattle.named_files.specs.Reports.{TellsOf, terminal_line, uncreated_text}
+use Rattle.named_files.specs.Reports.{ReportsText, terminal_line, uncreated_text}
 use Rattle.tsremux_cli.specs.Outputs.{Concludes, Finishes, ToFile, ToOutput, WritesOutput, output_name}
 use Rattle.tsjob_cli.specs.Command.{Outputs, output_file}
 use Rattle.tsremux_cli.specs.Program.{Answers, WritesTo}
@@ -19,7 +19,7 @@ pub concluded : (words : List Text) (quiet : Bool) (files : Files) (input output
 concluded words quiet files input output before mid after result status is makes concludes =
     record {
       result = result;
-      told = mid;
+      so_far = mid;
       makes = makes;
       concludes =
           subst (λ (b : Bool). Concludes b output_name result (between mid after) status) is concludes;
@@ -36,7 +36,7 @@ pub to_output : (shows : Option Bool) (shown : Bool) (words : List Text) (files 
     WritesOutput words files input output faults status → ToOutput shows words files input output faults status
 to_output shows shown words files input output faults status known is writes = inr (subst (λ (b : Bool). IsAsKnown shows b) is known, writes)
 
--- a known fact about a value is a fact about an equal value
+-- A known fact about a value is a fact about an equal value.
 pub known_as : (keeps : Option Bool) (b b' : Bool) → IsAsKnown keeps b → b ≡ b' → IsAsKnown keeps b'
 known_as keeps b b' known is = subst (λ (c : Bool). IsAsKnown keeps c) is known
 
@@ -51,18 +51,18 @@ to_file creates keeps name words quiet files input file before mid after result 
       file = file;
       empty = empty;
       result = result;
-      told = mid;
+      so_far = mid;
       makes = makes;
       finishes = subst (λ (b : Bool). Finishes keeps b name result (between mid after) status) is finishes;
     })
 
 pub to_none : (creates keeps : Option Bool) (name : Text) (words : List Text) (files : Files) (input faults : Device) (status : ℕ) → IsAsKnown creates false →
     IsUntouched input →
-    TellsOf name uncreated_text faults → status ≡ 3 → ToFile creates keeps name words files input faults status
-to_none creates keeps name words files input faults status uncreated unread tells is =
-    inr (record { uncreated = uncreated; unread = unread; tells = tells; status_is = is })
+    ReportsText name uncreated_text faults → status ≡ 3 → ToFile creates keeps name words files input faults status
+to_none creates keeps name words files input faults status uncreated unread reports_text is =
+    inr (record { uncreated = uncreated; unread = unread; reports_text = reports_text; status_is = is })
 
--- the name and the words are those that are asked for
+-- The name and the words are the requested name and words.
 pub answered : (outputs : Outputs) (words job : List Text) (name : Option Text) (files : Files) (input output faults : Device) (status : ℕ) →
     name ≡ output_file words →
     job ≡ job_words words → WritesTo outputs name job files input output faults status → Answers outputs words files input output faults status
@@ -70,7 +70,7 @@ answered outputs words job name files input output faults status named is writes
     inl (subst (λ (n : Option Text). WritesTo outputs n (job_words words) files input output faults status) named
     (subst (λ (ws : List Text). WritesTo outputs name ws files input output faults status) is writes))
 
--- sorted words
+-- Sorted words
 pub of_sorted : (outputs : Outputs) (words sorted : List Text) (files : Files) (input output faults : Device) (status : ℕ) → words ≡ sorted →
     Answers outputs words files input output faults status → Answers outputs sorted files input output faults status
 of_sorted outputs words sorted files input output faults status is a = subst (λ (ws : List Text). Answers outputs ws files input output faults status) is a

@@ -52,10 +52,10 @@ pub record WritesPlan (description plan : List ℕ) (faults : Device) : Type 0 w
 -- `tsmux plan` ends otherwise, and the words for that follow its line
 pub record WritesNone (description : List ℕ) (faults : Device) (status : ℕ) : Type 0 where
   pub written : Device
-  pub told : Port
-  pub runs : RunsPlan description written (between faults.before told) status
+  pub so_far : Port
+  pub runs : RunsPlan description written (between faults.before so_far) status
   pub fails : 0 < status
-  pub why : SaysWhy description status (between told faults.after)
+  pub why : SaysWhy description status (between so_far faults.after)
 
 abbrev pub PlansFor : List ℕ → Device → Result (List ℕ) ℕ → Type 0
 PlansFor description faults (Ok plan) = WritesPlan description plan faults
@@ -159,9 +159,9 @@ ReadsJob h files input faults (Err status) =
 -- all are written
 pub record WritesPackets (h : Hand) (files : Files) (input packets faults : Device) (figures : Figures) (status : ℕ) : Type 0 where
   pub job : List ℕ
-  pub told : Port
-  pub reads : ReadsJob h files input (between faults.before told) (Ok job)
-  pub muxed : MuxesBytes job packets (between told faults.after) (Ok figures)
+  pub so_far : Port
+  pub reads : ReadsJob h files input (between faults.before so_far) (Ok job)
+  pub muxed : MuxesBytes job packets (between so_far faults.after) (Ok figures)
   pub status_is : status ≡ 0
 
 -- there is no job: nothing is written
@@ -172,10 +172,10 @@ pub record HasNone (h : Hand) (files : Files) (input packets faults : Device) (s
 -- there is one, and `tsmux mux` does not write all its packets: the words for that come after its line
 pub record StopsWithin (h : Hand) (files : Files) (input packets faults : Device) (status : ℕ) : Type 0 where
   pub job : List ℕ
-  pub told : Port
+  pub so_far : Port
   pub later : Port
-  pub reads : ReadsJob h files input (between faults.before told) (Ok job)
-  pub muxed : MuxesBytes job packets (between told later) (Err status)
+  pub reads : ReadsJob h files input (between faults.before so_far) (Ok job)
+  pub muxed : MuxesBytes job packets (between so_far later) (Err status)
   pub why : SaysWhy job status (between later faults.after)
 
 abbrev pub MuxesByHand : Hand → Files → Device → Device → Device → Remuxed → Type 0

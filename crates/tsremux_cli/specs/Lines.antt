@@ -25,6 +25,6 @@ abbrev pub held_line : Text → Figures → Text
 held_line name figures = name ++ (figures_text figures ++ held_text)
 
 -- the output is reported, unless only refusals are, or memory for the line runs out
-abbrev pub TellsHeld : Bool → Text → Figures → Device → Type 0
-TellsHeld true name figures faults = IsUntouched faults
-TellsHeld false name figures faults = Reports faults (held_line name figures) ⊎ IsUntouched faults
+abbrev pub ReportsHeld : Bool → Text → Figures → Device → Type 0
+ReportsHeld true name figures faults = IsUntouched faults
+ReportsHeld false name figures faults = Reports faults (held_line name figures) ⊎ IsUntouched faults

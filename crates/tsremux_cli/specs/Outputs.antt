@@ -4,8 +4,8 @@ use Rattle.word_faults.specs.CommandLine.{Text}
 use Rattle.devices.specs.Devices.{Device, IsUntouched, Port, between}
 use Rattle.devices.specs.Files.{Files, IsAsKnown}
 use Rattle.devices.specs.Lines.{Reports}
-use Rattle.tsremux_cli.specs.Lines.{TellsHeld}
-use Rattle.named_files.specs.Reports.{TellsOf, terminal_line, uncreated_text, unnamed_text}
+use Rattle.tsremux_cli.specs.Lines.{ReportsHeld}
+use Rattle.named_files.specs.Reports.{ReportsText, terminal_line, uncreated_text, unnamed_text}
 use Rattle.tsremux_cli.specs.Packets.{WritesFor}
 use Rattle.tsremux_cli.specs.Words.{is_quiet}
 use Rattle.tsremux_cli.specs.declared.figures.Remuxed.{Remuxed}
@@ -15,7 +15,7 @@ use Rattle.tsremux_cli.specs.declared.figures.Remuxed.TheVariants.{Whole, Ended}
 
 -- the promises for the packets are reported, if all are written
 abbrev pub Concludes : Bool → Text → Remuxed → Device → ℕ → Type 0
-Concludes quiet name (Whole figures ended) faults status = (status ≡ ended) × TellsHeld quiet name figures faults
+Concludes quiet name (Whole figures ended) faults status = (status ≡ ended) × ReportsHeld quiet name figures faults
 Concludes quiet name (Ended ended) faults status = (status ≡ ended) × IsUntouched faults
 
 abbrev pub output_name : Text
@@ -23,9 +23,9 @@ output_name = codes "standard output"
 
 pub record WritesOutput (words : List Text) (files : Files) (input output faults : Device) (status : ℕ) : Type 0 where
   pub result : Remuxed
-  pub told : Port
-  pub makes : WritesFor words files input output (between faults.before told) result
-  pub concludes : Concludes (is_quiet words) output_name result (between told faults.after) status
+  pub so_far : Port
+  pub makes : WritesFor words files input output (between faults.before so_far) result
+  pub concludes : Concludes (is_quiet words) output_name result (between so_far faults.after) status
 
 -- no packets go to a terminal
 pub record IsTerminal (shows : Option Bool) (input output faults : Device) (status : ℕ) : Type 0 where
@@ -44,8 +44,8 @@ ToOutput shows words files input output faults status =
 -- the promises for the packets are reported, if all are written and the file has its name
 abbrev pub Finishes : Option Bool → Bool → Text → Remuxed → Device → ℕ → Type 0
 Finishes keeps quiet name (Whole figures ended) faults status =
-    (IsAsKnown keeps true × ((status ≡ ended) × TellsHeld quiet name figures faults))
-    ⊎ (IsAsKnown keeps false × ((status ≡ 3) × TellsOf name unnamed_text faults))
+    (IsAsKnown keeps true × ((status ≡ ended) × ReportsHeld quiet name figures faults))
+    ⊎ (IsAsKnown keeps false × ((status ≡ 3) × ReportsText name unnamed_text faults))
 Finishes keeps quiet name (Ended ended) faults status = (status ≡ ended) × IsUntouched faults
 
 -- the packets go to a new file
@@ -54,15 +54,15 @@ pub record WritesFile (creates keeps : Option Bool) (name : Text) (words : List 
   pub file : Device
   pub empty : (bytes : List ℕ) → file.before.bytes ≡ Some bytes → bytes ≡ []
   pub result : Remuxed
-  pub told : Port
-  pub makes : WritesFor words files input file (between faults.before told) result
-  pub finishes : Finishes keeps (is_quiet words) name result (between told faults.after) status
+  pub so_far : Port
+  pub makes : WritesFor words files input file (between faults.before so_far) result
+  pub finishes : Finishes keeps (is_quiet words) name result (between so_far faults.after) status
 
 -- the file can't be created: nothing is read
 pub record HasNoFile (creates : Option Bool) (name : Text) (input faults : Device) (status : ℕ) : Type 0 where
   pub uncreated : IsAsKnown creates false
   pub unread : IsUntouched input
-  pub tells : TellsOf name uncreated_text faults
+  pub reports_text : ReportsText name uncreated_text faults
   pub status_is : status ≡ 3
 
 abbrev pub ToFile : Option Bool → Option Bool → Text → List Text → Files → Device → Device → ℕ → Type 0

@@ -39,6 +39,6 @@ pub record Remuxes (words : List Text) (files : Files) (input packets faults : D
   pub bytes : List ℕ
   pub job_status : ℕ
   -- the second writer between both
-  pub told : Port
-  pub makes : MakesJob words files input (between faults.before told) bytes job_status
-  pub goes_on : GoesOn bytes job_status packets (between told faults.after) result
+  pub so_far : Port
+  pub makes : MakesJob words files input (between faults.before so_far) bytes job_status
+  pub goes_on : GoesOn bytes job_status packets (between so_far faults.after) result

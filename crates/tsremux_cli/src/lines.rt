@@ -53,7 +53,7 @@ pub(crate) fn report_held<E: Sink>(
     figures: Figures,
     faults: &mut E,
 )
-    ensures { spec.TellsHeld quiet name.now figures (writes E.Sink faults.old faults.new) }
+    ensures { spec.ReportsHeld quiet name.now figures (writes E.Sink faults.old faults.new) }
 {
     if quiet {
         return;

@@ -62,7 +62,8 @@ pub(crate) fn mux_bytes<W: Sink, E: Sink>(
     output: &mut W,
     faults: &mut E,
 ) -> Result<Figures, u8>
-    ensures { spec.MuxesBytes bytes.now (writes W.Sink output.old output.new) (writes E.Sink faults.old faults.new) result }
+    ensures { spec.MuxesBytes bytes.now (writes W.Sink output.old output.new)
+        (writes E.Sink faults.old faults.new) result }
 {
     let mut job = Counted::new(bytes);
     mux_job(alloc, &mut job, output, faults)

@@ -75,7 +75,8 @@ fn finish<F: OutputFiles, E: Sink>(
     file: F::Writer,
     faults: &mut E,
 ) -> u8
-    ensures { spec.Finishes (F.keeps files.now name.now) quiet name.now remuxed (writes E.Sink faults.old faults.new) result }
+    ensures { spec.Finishes (F.keeps files.now name.now) quiet name.now remuxed
+        (writes E.Sink faults.old faults.new) result }
 {
     match remuxed {
         Remuxed::Whole { figures, status } => {
@@ -103,7 +104,8 @@ pub(crate) fn remux_to_file<F: NamedFiles + OutputFiles, R: Source, E: Sink>(
     input: &mut R,
     faults: &mut E,
 ) -> u8
-    ensures { spec.ToFile (F.creates files.now name.now) (F.keeps files.now name.now) name.now (map (λ s. s.now) words.now)
+    ensures { spec.ToFile (F.creates files.now name.now) (F.keeps files.now name.now) name.now
+        (map (λ s. s.now) words.now)
         (files_of (F.contents_of files.now) (F.opens files.now) F.never_fails)
         (reads R.Source input.old input.new) (writes E.Sink faults.old faults.new) result }
 {

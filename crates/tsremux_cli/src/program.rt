@@ -58,7 +58,8 @@ fn answer<F: NamedFiles + OutputFiles, R: Source, W: Sink, E: Sink>(
     output: &mut W,
     faults: &mut E,
 ) -> u8
-    ensures { spec.Answers (outputs_of (F.creates files.now) (F.keeps files.now) (F.shows files.now)) (map (λ s. s.now) words.now)
+    ensures { spec.Answers (outputs_of (F.creates files.now) (F.keeps files.now) (F.shows files.now))
+        (map (λ s. s.now) words.now)
         (files_of (F.contents_of files.now) (F.opens files.now) F.never_fails)
         (reads R.Source input.old input.new) (writes W.Sink output.old output.new)
         (writes E.Sink faults.old faults.new) result }
@@ -87,7 +88,8 @@ fn run_sorted<F: NamedFiles + OutputFiles, R: Source, W: Sink, E: Sink>(
     faults: &mut E,
 ) -> u8
     ensures remux { are_taken (map (λ s. s.now) words.now) ≡ true →
-        spec.Answers (outputs_of (F.creates files.now) (F.keeps files.now) (F.shows files.now)) (map (λ s. s.now) words.now)
+        spec.Answers (outputs_of (F.creates files.now) (F.keeps files.now) (F.shows files.now))
+        (map (λ s. s.now) words.now)
         (files_of (F.contents_of files.now) (F.opens files.now) F.never_fails)
         (reads R.Source input.old input.new) (writes W.Sink output.old output.new)
         (writes E.Sink faults.old faults.new) result }
@@ -120,7 +122,8 @@ pub fn run<F: NamedFiles + OutputFiles, R: Source, W: Sink, E: Sink>(
     // Words that can be taken: what `tsmux mux` writes of the job that `tsjob` writes for them, or of the files of a
     // service by hand.
     ensures remux { are_taken (sorted_words (map (λ s. s.now) words.now)) ≡ true →
-        spec.Answers (outputs_of (F.creates files.now) (F.keeps files.now) (F.shows files.now)) (sorted_words (map (λ s. s.now) words.now))
+        spec.Answers (outputs_of (F.creates files.now) (F.keeps files.now) (F.shows files.now))
+        (sorted_words (map (λ s. s.now) words.now))
         (files_of (F.contents_of files.now) (F.opens files.now) F.never_fails)
         (reads R.Source input.old input.new) (writes W.Sink output.old output.new)
         (writes E.Sink faults.old faults.new) result }

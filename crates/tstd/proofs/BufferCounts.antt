@@ -1,4 +1,4 @@
--- Bytes of a main buffer: counted, and dropped.
+-- The bytes of a main buffer: counting and removing them.
 use Rattle.std.proofs.Common.{◌≡◌, ℕ, ◌+◌, ◌<◌, ◌≤◌, nat_lt, nat_le, true, false, List, [], ◌∷◌, ◌++◌, length, drop, get_or, filter, refl, arith, add-one, inl}
 use Rattle.std.proofs.Common.{inr}
 use Rattle.std.proofs.lemmas.List.{drop_all}
@@ -8,7 +8,7 @@ use Rattle.std.proofs.lemmas.Bool.Decides.{nat_tests}
 use Rattle.tstd.specs.declared.buffered_units.BufferedUnit.{BufferedUnit}
 use Rattle.tstd.specs.BufferedUnits.{is_buffered, buffered_bytes, all_buffered, all_bytes, all_until}
 
--- one more of those from i on
+-- The bytes of the units from i on are the bytes of unit i and of the later units.
 pub bytes_next : (units : List BufferedUnit) (i : ℕ) (d : BufferedUnit) → i < length units → all_bytes (drop i units) ≡ (get_or units i d).bytes
     + all_bytes (drop (i + 1) units)
 unfolding all_bytes
@@ -21,7 +21,7 @@ unfolding all_until
 until_next units i d n below early rest =
     rw (drop-cons units i d below, le-leb n (get_or units i d).until early) (rw (add-one i) at rest)
 
--- the end of a tally
+-- No unit is left to count.
 pub bytes_end : (units : List BufferedUnit) (i : ℕ) → length units ≤ i → all_bytes (drop i units) ≡ 0
 unfolding all_bytes
 bytes_end units i over = rw (drop_all i units over) refl
@@ -30,7 +30,7 @@ pub until_end : (units : List BufferedUnit) (i n : ℕ) → length units ≤ i �
 unfolding all_until
 until_end units i n over = rw (drop_all i units over) refl
 
--- bytes that have gone are not there later
+-- Dropping units that are removed by the moment m changes no later fullness.
 pub there_filtered : (m x : ℕ) (units : List BufferedUnit) → m ≤ x → all_buffered x (filter (is_buffered m) units) ≡ all_buffered x units
 unfolding all_buffered
 there_filtered m x [] le = refl
@@ -42,7 +42,7 @@ there_filtered m x (unit ∷ units) le = elim (cases_Bool (is_buffered m unit)) 
     gone_later : (m x : ℕ) (unit : BufferedUnit) → m ≤ x → is_buffered m unit ≡ false → buffered_bytes x unit ≡ 0
     gone_later m x unit le gone = grind (arith, nat_tests)
 
--- what has not gone is there
+-- All bytes of the units that are kept are in the buffer.
 pub filtered_there : (m : ℕ) (units : List BufferedUnit) → all_buffered m (filter (is_buffered m) units) ≡ all_bytes (filter (is_buffered m) units)
 unfolding all_buffered all_bytes
 filtered_there m [] = refl
@@ -59,7 +59,7 @@ fewer_bytes m (unit ∷ units) = elim (cases_Bool (is_buffered m unit)) [
   | inr gone ↦ rw gone (omega (arith, fewer_bytes m units))
 ]
 
--- before any goes all are there
+-- Before the first removal all bytes are in the buffer.
 pub early_there : (m next : ℕ) (units : List BufferedUnit) → m < next → all_until next units ≡ true → all_buffered m units ≡ all_bytes units
 unfolding all_buffered all_bytes all_until
 early_there m next [] lt early = refl
@@ -71,7 +71,7 @@ early_there m next (unit ∷ units) lt early =
     one : (m : ℕ) (unit : BufferedUnit) → m < unit.until → buffered_bytes m unit ≡ unit.bytes
     one m unit lt = grind (arith, nat_tests)
 
--- one more at the end
+-- One more unit at the end.
 pub there_pushed : (x : ℕ) (units : List BufferedUnit) (unit : BufferedUnit) → all_buffered x (units ++ (unit ∷ [])) ≡ all_buffered x units
     + buffered_bytes x unit
 unfolding all_buffered
@@ -92,10 +92,10 @@ until_pushed next n (s ∷ units) unit le last early =
     let first : n ≤ s.until = omega (arith, leb-true next s.until parts.0) in
     and_from (nat_le n s.until) (all_until n (units ++ (unit ∷ []))) (le-leb n s.until first) (until_pushed next n units unit le last parts.1)
 
--- no bytes are there
+-- A unit of 0 bytes adds nothing.
 pub none_there : (x until : ℕ) → buffered_bytes x (record { until = until; bytes = 0 }) ≡ 0
 none_there x until = elim (cases_Bool (nat_lt x until)) [ inl a ↦ rw a refl | inr a ↦ rw a refl ]
 
--- of no bytes none is there
+-- A unit without bytes adds nothing.
 pub nothing_there : (x : ℕ) (unit : BufferedUnit) → unit.bytes ≤ 0 → buffered_bytes x unit ≡ 0
 nothing_there x unit none = elim (cases_Bool (nat_lt x unit.until)) [ inl a ↦ rw a (omega (arith, none)) | inr a ↦ rw a refl ]

@@ -1,11 +1,11 @@
--- Bytes that arrive in a row.
+-- Bytes that arrive at a constant rate.
 use Rattle.std.proofs.Common.{◌≡◌, ℕ, zero, suc, ◌+◌, ◌-◌, ◌*◌, ◌^◌, ◌<◌, ◌≤◌, max, List, ◌∷◌, ◌++◌, length, refl, ap, arith, add-one, zero-add}
 use Rattle.std.proofs.Math.Nat.{mul-le-mul_left}
 use Rattle.clock27.specs.Arrival.{bytes_from}
 use Rattle.tstd.specs.declared.queue.Queue.{Queue}
 use Rattle.tstd.specs.Queues.{arrived, all_arrived}
 
--- one byte more of those up to `end`
+-- The next byte of the bytes up to `end` arrives.
 pub row_step : (q : Queue) (drain byte end : ℕ) → byte < end →
     all_arrived (arrived q (byte * drain)) (bytes_from drain (byte + 1) (end - (byte + 1))) ≡ all_arrived q (bytes_from drain byte (end - byte))
 unfolding bytes_from
@@ -14,19 +14,19 @@ row_step q drain byte end below =
     let s : byte + 1 ≡ suc byte = add-one byte in
     rw e (rw s refl)
 
--- bytes that arrive at a rate leave at no more than one a step after them
+-- Byte number b leaves at (b + 1) * 2^57 at the latest.
 pub row_pace : (byte drain last step : ℕ) → drain ≤ 2 ^ 56 → step ≤ 2 ^ 56 → last ≤ byte * 2 ^ 57 →
     max (byte * drain) last + step ≤ (byte + 1) * 2 ^ 57
 row_pace byte drain last step slow short paced = omega (arith, mul-le-mul_left byte slow, short, paced)
 
--- none is left
+-- No byte is left before `end`.
 pub row_end : (q : Queue) (drain byte end : ℕ) → end ≤ byte → q ≡ all_arrived q (bytes_from drain byte (end - byte))
 unfolding bytes_from
 row_end q drain byte end le =
     let e : end - byte ≡ 0 = omega arith in
     rw e refl
 
--- rows after one another
+-- Two rows of bytes, the second after the first.
 pub row_split : (r i a b : ℕ) → bytes_from r i (a + b) ≡ bytes_from r i a ++ bytes_from r (i + a) b
 unfolding bytes_from
 row_split r i zero b = let e : i + 0 ≡ i = omega arith in rw (zero-add b, e) refl

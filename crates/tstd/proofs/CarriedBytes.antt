@@ -1,4 +1,4 @@
--- The bytes that a PID carries agree with the PES packets of units.
+-- The payload bytes of a PID agree with the PES packets of its units.
 use Rattle.std.proofs.Common.{◌≡◌, ℕ, zero, suc, ◌+◌, ◌≤◌, ◌<◌, ◌==◌, ◌||◌, not, nat_eq, Bool, true, false, Option, Some, None, List, [], ◌∷◌, ◌++◌, length}
 use Rattle.std.proofs.Common.{drop, get_or, sum_by, refl, sym, arith, add-one, is_some}
 use Rattle.std.specs.List.{starts_with, concat, list_all}
@@ -14,7 +14,7 @@ use Rattle.pes_packet.specs.Units.{units_of, pes_packets_of}
 use Rattle.pes_packet.specs.Marks.{field_size}
 use Rattle.tstd.specs.Carried.{timed_pes_packets}
 
--- a stamp on the wire stays as it is
+-- Reducing a time stamp to 33 bits a second time does not change it.
 wire_again : (a : ℕ) → on_wire (on_wire a) ≡ on_wire a
 wire_again a = omega arith
 
@@ -23,7 +23,7 @@ pub header_wire : (id size : ℕ) (marks : Marks) (pts dts : ℕ) →
 unfolding pes_header_bytes
 header_wire id size marks pts dts = rw (wire_again pts, wire_again dts) refl
 
--- an entry of the stream, or of another
+-- The PES packets of a stream from unit i on, if unit i belongs to the stream.
 pub texts_first : (id base0 number i : ℕ) (units : List (ℕ × AccessUnit)) (u : ℕ × AccessUnit) → i < length units → u ≡ get_or units i u →
     (u.0 == number) ≡ true →
     concat (pes_packets_of id base0 (units_of number (drop i units))) ≡ pes_packet_bytes id base0 u.1
@@ -39,24 +39,24 @@ pub texts_none : (id base0 number i : ℕ) (units : List (ℕ × AccessUnit)) �
     concat (pes_packets_of id base0 (units_of number (drop i units))) ≡ []
 texts_none id base0 number i units over = rw (drop_all i units over) refl
 
--- what passes for all passes for each
+-- If a test is true for all elements, it is true for each element.
 pub all_at : {X : Type 0} (p : X → Bool) (xs : List X) (i : ℕ) (d : X) → i < length xs → list_all p xs ≡ true → p (get_or xs i d) ≡ true
 all_at p [] i d below all = absurd (omega (arith, below))
 all_at p (x ∷ xs) zero d below all = (and_parts (p x) (list_all p xs) all).0
 all_at p (x ∷ xs) (suc i) d below all = all_at p xs i d (omega (arith, below)) (and_parts (p x) (list_all p xs) all).1
 
--- of this stream, so it fits
+-- A unit of the stream fits into a PES packet.
 pub own_fits : (own fits : Bool) → own ≡ true → (not own || fits) ≡ true → fits ≡ true
 own_fits own fits is either = rw is at either
 
--- a beginning is no longer than the whole
+-- A beginning is no longer than the whole list.
 pub beginning_few : (expected part : List ℕ) → starts_with nat_eq expected part ≡ true → length part ≤ length expected
 beginning_few expected [] e = omega arith
 beginning_few [] (x ∷ part) e = absurd (let no : ⊥ = cc in no)
 beginning_few (b ∷ expected) (x ∷ part) e =
     let rest = beginning_few expected part (and_parts (nat_eq x b) (starts_with nat_eq expected part) e).1 in omega (arith, rest)
 
--- the PES packets of units are as long as timing sees them
+-- The PES packets of units are as long as the timing model says.
 pub sizes_joined : (id base0 : ℕ) (units : List AccessUnit) →
     length (concat (pes_packets_of id base0 units)) ≡ sum_by (λ t. t.size) (timed_pes_packets id base0 units)
 sizes_joined id base0 [] = refl
@@ -65,7 +65,7 @@ sizes_joined id base0 (u ∷ units) =
     (timed_pes_packets id base0 units))
     (omega (arith, length-append (pes_packet_bytes id base0 u) (concat (pes_packets_of id base0 units)), sizes_joined id base0 units))
 
--- no text is left: the payloads have to end
+-- After the last PES packet, the payloads agree if and only if they end too.
 pub end_agrees : (o : Option ℕ) (b : Bool) (ahead rest : List ℕ) → ahead ≡ given o rest → is_some o ≡ not b → starts_with nat_eq [] ahead ≡ b
 end_agrees None true ahead rest is ends = rw is refl
 end_agrees None false ahead rest is ends = cc

@@ -16,15 +16,14 @@ use Rattle.tstd.proofs.QueueStates.{passed-step, passed-last, passed-longest}
 use Rattle.tstd.specs.DepartureWalk.{left_from, residence_from, left_ahead, walk_residence, packets_ahead}
 use Rattle.tstd.proofs.ByteRows.{row_split, length-row}
 
--- a packet is the bytes before its payload, and the payload
+-- A packet's 188 bytes are the bytes before its payload and the payload.
 packet_row : (rx index size : ℕ) → size ≤ 188 →
     bytes_from rx (188 * index) 188 ≡ bytes_from rx (188 * index) (188 - size) ++ bytes_from rx (188 * index + (188 - size)) size
 packet_row rx index size few =
     let e : (188 - size) + size ≡ 188 = omega arith in
     ap (bytes_from rx (188 * index)) (sym e) ∙ row_split rx (188 * index) (188 - size) size
 
--- of lists of departures one after another: those of the first two are the front, and those of the second the front's
--- end
+-- In three joined lists of departures, the last m of the first n + m are the second list.
 front_end : (a b c : List ℕ) (n m : ℕ) → length a ≡ n → length b ≡ m → drop n (take (n + m) (a ++ (b ++ c))) ≡ b
 front_end a b c n m la lb =
     let both : length (a ++ b) ≡ n + m = length-append a b ∙ rw (la, lb) refl in
@@ -36,7 +35,7 @@ after_front a b c n m la lb =
     let both : length (a ++ b) ≡ n + m = length-append a b ∙ rw (la, lb) refl in
     rw (sym (append_assoc a b c)) (drop_at (a ++ b) c (n + m) both)
 
--- the walk goes into a packet
+-- The walk enters a packet: the departures ahead are the departures of its payload and of the later packets.
 pub into_packet : (step last rx index size : ℕ) (packets : List Packet) → size ≤ 188 →
     left_from step (last_left step last (bytes_from rx (188 * index) (188 - size))) rx (188 * index + (188 - size)) size packets
     ≡ pes_left step rx last (record { slot = index; size = size } ∷ packets)
@@ -62,7 +61,7 @@ into_packet step last rx index size packets few =
     in
     rw (all, split, payload, following) refl
 
--- and its bytes before the payload have passed the buffer
+-- The bytes of a packet are the bytes before its payload, then the payload.
 pub longest_in_packet : (step last rx index size : ℕ) (packets : List Packet) → size ≤ 188 →
     bytes_from rx (188 * index) (188 - size) ++ (bytes_from rx (188 * index + (188 - size)) size ++ arrivals rx (slots_of packets))
     ≡ arrivals rx (slots_of (record { slot = index; size = size } ∷ packets))
@@ -71,7 +70,7 @@ longest_in_packet step last rx index size packets few =
     sym (ap (λ (ts : List ℕ). ts ++ arrivals rx (slots_of packets)) (packet_row rx index size few)
     ∙ append_assoc (bytes_from rx (188 * index) (188 - size)) (bytes_from rx (188 * index + (188 - size)) size) (arrivals rx (slots_of packets)))
 
--- a payload byte is given
+-- The walk gives the departure of one payload byte.
 pub byte_given : (step last rx byte left : ℕ) (packets : List Packet) → 0 < left →
     left_from step last rx byte left packets
     ≡ (max (byte * rx) last + step) ∷ left_from step (max (byte * rx) last + step) rx (byte + 1) (left - 1) packets
@@ -110,7 +109,7 @@ packet_longest q rx byte index size packets few =
     (passed-longest q front (row ++ arrivals rx (slots_of packets))
     ∙ ap (λ (ts : List ℕ). max q.longest_residence (greatest_residence q.step q.last ts)) (longest_in_packet q.step q.last rx index size packets few))
 
--- the first of the packets ahead, which is one of the PID
+-- The next packet is on the PID.
 pub go_into : (w : Departures) (chunk : List ℕ) (chunks : List (List ℕ)) (size : ℕ) (q : Queue) → w.left ≡ 0 → w.packets.now ≡ chunk ∷ chunks →
     size_in w.pid (packet_at chunk) ≡ Some size → size ≤ 188 → q ≡ all_arrived w.queue (bytes_from w.rx (188 * w.index) (188 - size)) →
     left_from q.step q.last w.rx (188 * w.index + (188 - size)) size (packets_from w.pid (w.index + 1) chunks) ≡ left_ahead w
@@ -125,7 +124,7 @@ unfolding walk_residence packets_from
 go_into_longest w chunk chunks size q none all is few state =
     rw (state, none, all, is) (packet_longest w.queue w.rx w.byte w.index size (packets_from w.pid (w.index + 1) chunks) few)
 
--- or which is none
+-- The next packet is not on the PID.
 pub go_past : (w : Departures) (chunk : List ℕ) (chunks : List (List ℕ)) → w.packets.now ≡ chunk ∷ chunks → size_in w.pid (packet_at chunk) ≡ None →
     packets_from w.pid (w.index + 1) chunks ≡ packets_ahead w
 unfolding packets_from
@@ -135,7 +134,7 @@ pub nothing : {A : Type 0} (xs : List A) → length xs ≡ 0 → xs ≡ []
 nothing [] e = refl
 nothing (x ∷ xs) e = cc
 
--- the end of the walk
+-- At the end of the walk no departure is left.
 pub walk_ended : (w : Departures) → w.left ≡ 0 → length w.packets.now ≡ 0 → left_ahead w ≡ []
 unfolding left_ahead packets_from bytes_from departures last_left of_payloads arrivals
 walk_ended w none last = rw (none, nothing w.packets.now last) refl
@@ -144,7 +143,7 @@ pub walk_longest : (w : Departures) → w.left ≡ 0 → length w.packets.now �
 unfolding walk_residence packets_from bytes_from greatest_residence arrivals
 walk_longest w none last = rw (none, nothing w.packets.now last) (omega arith)
 
--- a byte of the walk
+-- The walk gives the next byte's departure.
 pub walk_given : (w : Departures) (q : Queue) (time : ℕ) → 0 < w.left → time ≡ max (w.byte * w.rx) w.queue.last + w.queue.step →
     q ≡ arrived w.queue (w.byte * w.rx) → left_ahead w ≡ time ∷ left_from q.step q.last w.rx (w.byte + 1) (w.left - 1) (packets_ahead w)
 unfolding left_ahead

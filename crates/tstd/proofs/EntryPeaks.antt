@@ -15,14 +15,14 @@ use Rattle.tstd.specs.BufferedUnits.{one_buffered}
 use Rattle.tstd.specs.Entry.{peak_ahead}
 use Rattle.tstd.proofs.RisingTimes.{climbs_following, greatest_same, greatest_ext}
 
--- a whole moment lies before a stamp exactly where it lies before the first whole moment that does not
+-- A moment is before a time stamp if and only if it is before the first whole moment at or after the stamp.
 pub gone_test : (x limit : ℕ) → nat_lt (x * 720000) limit ≡ nat_lt x ((limit + 719999) / 720000)
 gone_test x limit = elim (cases_lt x ((limit + 719999) / 720000)) [
   | inl before ↦ lt-ltb (x * 720000) limit (omega (arith, before)) ∙ sym (lt-ltb x ((limit + 719999) / 720000) before)
   | inr after ↦ le-ltb (x * 720000) limit (omega (arith, after)) ∙ sym (le-ltb x ((limit + 719999) / 720000) after)
 ]
 
--- a byte that has entered is counted where it has not gone
+-- A byte that has entered is counted until its removal.
 one_kept : (rate r due d x : ℕ) → d ≤ x → (let n : ℕ = cond (is_in_main_buffer rate r x due d) 1 0 in n) ≡ one_buffered (removal_time rate r due) x
 one_kept rate r due d x le =
     rw (le-leb d x le, gone_test x (due * rate * r)) refl
@@ -35,7 +35,7 @@ held_early rate r x (pes_packet ∷ pes_packets) left all =
     let rest = held_early rate r x pes_packets (drop pes_packet.size left) (All-drop (λ d. x < d) pes_packet.size left all) in
     omega (arith, first, rest)
 
--- the first byte of a text, and its other bytes
+-- The first byte of a PES packet, and its other bytes.
 held_byte : (rate r due m : ℕ) (pes_packets : List PesPacket) (d : ℕ) (ds : List ℕ) (x : ℕ) → d ≤ x →
     mb_fullness rate r x (record { dts = due; size = suc m; front = 0 } ∷ pes_packets) (d ∷ ds)
     ≡ one_buffered (removal_time rate r due) x + mb_fullness rate r x (record { dts = due; size = m; front = 0 } ∷ pes_packets) ds
@@ -43,7 +43,7 @@ unfolding mb_fullness
 held_byte rate r due m pes_packets d ds x le =
     rw (sum_by-cons (λ e. cond (is_in_main_buffer rate r x due e) 1 0) d (take m ds)) (omega (arith, one_kept rate r due d x le))
 
--- a byte enters
+-- One byte enters.
 pub byte_entered : (rate r due m : ℕ) (pes_packets : List PesPacket) (before after : ℕ → ℕ) (d : ℕ) (ds : List ℕ) → Climbs (suc d) ds →
     ((x : ℕ) → d ≤ x → after x ≡ before x + one_buffered (removal_time rate r due) x) →
     peak_ahead before rate r (record { dts = due; size = suc m; front = 0 } ∷ pes_packets) (d ∷ ds)
@@ -59,7 +59,7 @@ byte_entered rate r due m pes_packets before after d ds climbs counted =
     (λ x le. let low : d ≤ x = omega (arith, le) in omega (arith, held_byte rate r due m pes_packets d ds x low, counted x low)) in
     omega (arith, now, none, rest)
 
--- a text has entered
+-- A whole PES packet has entered.
 pub text_entered : (rate r due : ℕ) (pes_packets : List PesPacket) (before : ℕ → ℕ) (left : List ℕ) →
     peak_ahead before rate r (record { dts = due; size = 0; front = 0 } ∷ pes_packets) left ≡ peak_ahead before rate r pes_packets left
 text_entered rate r due pes_packets before left =
@@ -67,18 +67,18 @@ text_entered rate r due pes_packets before left =
     (λ x. before x + mb_fullness rate r x pes_packets left) left
     (λ x. unfold mb_fullness in omega arith)
 
--- a byte that has entered by the last moment that is not after a stamp has entered by the stamp
+-- A byte enters by a time stamp if and only if it enters by the last whole moment that is not after the stamp.
 pub in_time_test : (x limit : ℕ) → nat_le (x * 720000) limit ≡ nat_le x (limit / 720000)
 in_time_test x limit = elim (cases_lt (limit / 720000) x) [
   | inl after ↦ lt-leb (x * 720000) limit (omega (arith, after)) ∙ sym (lt-leb x (limit / 720000) after)
   | inr by ↦ le-leb (x * 720000) limit (omega (arith, by)) ∙ sym (le-leb x (limit / 720000) by)
 ]
 
--- the same of a unit that is due then
+-- A unit's last byte leaves in time if and only if it leaves by the unit's last moment.
 pub left_test : (rate drain due last : ℕ) → nat_le (last * 720000) (due * rate * drain) ≡ nat_le last (due_moment rate drain due)
 left_test rate drain due last = in_time_test last (due * rate * drain)
 
--- a quotient by parts
+-- A quotient and its remainder, scaled.
 scaled : (limit q r rbx : ℕ) → limit ≡ q * 720000 + r → limit * rbx ≡ (q * rbx) * 720000 + r * rbx
 scaled limit q r rbx is = rw is (omega arith)
 
@@ -108,7 +108,7 @@ first_by_parts rate rx rbx due =
     rw (same, ceiling (due * rate * rx % 720000 * rbx))
     (sym (quotients (due * rate * rx * rbx) (due * rate * rx / 720000 * rbx) (due * rate * rx % 720000 * rbx) 719999 (by_parts (due * rate * rx) rbx)))
 
--- whether a unit has left in time, of one whose bytes have all come, and of one whose bytes have not
+-- Whether a unit has left in time: a unit whose bytes have all arrived, and a unit with missing bytes.
 pub left_whole : (rate drain due size last moment : ℕ) (ahead : List ℕ) (in_time : Bool) → nat_le size (length ahead) ≡ true →
     list_all (λ d. nat_le (d * 720000) (due * rate * drain)) (take size ahead) ≡ nat_le (last * 720000) (due * rate * drain) →
     moment ≡ due_moment rate drain due → in_time ≡ nat_le last moment → has_left rate drain (record { dts = due; size = size; front = 0 }) ahead ≡ in_time

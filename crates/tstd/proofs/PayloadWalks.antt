@@ -1,4 +1,4 @@
--- A walk over payload bytes through a multiplexing buffer, or none.
+-- A walk over payload bytes through the optional multiplexing buffer.
 use Rattle.std.proofs.Common.{◌≡◌, ℕ, suc, ◌*◌, ◌^◌, ◌≤◌, List, ◌∷◌, arith}
 use Rattle.clock27.specs.Peak.{Climbs}
 use Rattle.tstd.specs.declared.payload_bytes.PayloadBytes.{PayloadBytes}
@@ -7,14 +7,14 @@ use Rattle.tstd.specs.PayloadBytes.{bytes_ahead, last_of}
 use Rattle.tstd.proofs.RisingTimes.{ahead_climbs}
 use Rattle.tstd.proofs.PassedBytes.{passed_climb}
 
--- what a walk gives climbs
+-- The times that a walk gives rise.
 pub bytes_climb : (w : PayloadBytes) → Climbs (suc (last_of w)) (bytes_ahead w)
 unfolding bytes_ahead
 bytes_climb w =
     passed_climb w.multiplexing w.transport.queue.last (w.transport.byte * 2 ^ 58) (left_ahead w.transport) w.within
     (ahead_climbs w.transport w.transport.positive)
 
--- the next time that a walk gives is later than the last
+-- The next time of a walk is not before its last time.
 pub next_climbs : (w : PayloadBytes) (time : ℕ) (rest : List ℕ) → bytes_ahead w ≡ time ∷ rest → last_of w ≤ time
 unfolding Climbs
 next_climbs w time rest ahead =

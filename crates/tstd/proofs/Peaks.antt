@@ -1,4 +1,4 @@
--- The greatest fullness of a buffer is known from the longest residence of a byte in it.
+-- The greatest fullness of a buffer follows from the longest residence of a byte in it.
 use Rattle.std.proofs.Common.{◌≡◌, ◌∙◌, ℕ, ◌*◌, ◌≤◌, ◌<◌, max, Option, Some, None, List, [], ◌∷◌, length, refl, ap, arith}
 use Rattle.std.proofs.Math.Nat.{mul-pos}
 use Rattle.std.proofs.lemmas.List.{length-append}
@@ -28,7 +28,7 @@ pub residence_peak : (step longest_residence : ℕ) (ts : List ℕ) → 0 < step
     IsPeak (λ x. fullness x ts (departures step 0 ts)) (bytes_within step longest_residence)
 residence_peak step longest_residence ts pos climbs is = rw (is, most_residence step 0 ts pos) (peak_law step 0 ts pos climbs)
 
--- no more bytes are there than have arrived
+-- A buffer never has more bytes than arrive.
 pub peak_few : (most : ℕ) (ts ds : List ℕ) → IsPeak (λ x. fullness x ts ds) most → most ≤ length ts
 peak_few most ts ds peak = omega (arith, peak.reached, fullness_le peak.moment ts ds)
 
@@ -38,7 +38,7 @@ length-arrivals r [] = refl
 length-arrivals r (s ∷ slots) = length-append (bytes_from r (188 * s) 188) (arrivals r slots)
     ∙ omega (arith, length-row r (188 * s) 188, length-arrivals r slots)
 
--- of the packets of a program's tables
+-- The peaks of the buffers of a program's tables.
 pub tables_peak : (rate : ℕ) (slots : List ℕ) (q p : Queue) (n m : ℕ) → 0 < rate → Climbs 0 slots → q.step ≡ 2 * rate → p.step ≡ 25 * rate →
     q ≡ all_arrived (record { step = 2 * rate; last = 0; longest_residence = 0 }) (arrivals 2000000 slots) →
     p ≡ all_arrived (record { step = 25 * rate; last = 0; longest_residence = 0 }) (departures (2 * rate) 0 (arrivals 2000000 slots)) →
@@ -58,7 +58,7 @@ tables_peak rate slots q p n m some climbs step step' passed passed' is is' =
           (longest_arrived (25 * rate) p (departures (2 * rate) 0 (arrivals 2000000 slots)) passed'));
     }
 
--- so there are no more bytes than came
+-- The buffers of a program's tables never have more bytes than arrive.
 pub tables_bytes : (rate : ℕ) (slots : List ℕ) (f : SystemFullness) → IsSystemFullness rate slots f →
     (f.transport ≤ 188 * length slots) × (f.system ≤ 188 * length slots)
 tables_bytes rate slots f is =
@@ -68,7 +68,7 @@ tables_bytes rate slots f is =
     (departures (25 * rate) 0 (departures (2 * rate) 0 (arrivals 2000000 slots))) is.system in
     (omega (arith, all, first), omega (arith, all, second, length-departures (2 * rate) 0 (arrivals 2000000 slots)))
 
--- of the payload bytes of a PID that pass a multiplexing buffer
+-- The peak of the multiplexing buffer that the payload bytes of a PID pass.
 pub video_peak : (o : Option Queue) (rate rx rbx n : ℕ) (packets : List Packet) → 0 < rate → 0 < rx → 0 < rbx →
     residence_in o [] ≡ (rx * rate, greatest_residence (rx * rate) 0 (multiplexing_entered rate rx rbx packets)) → n ≡ peak_in o →
     IsPeak (λ x. multiplexing_fullness rate rx rbx x packets) n
@@ -84,6 +84,6 @@ video_peak (Some q) rate rx rbx n packets some drain leak is most =
     rw (most, step) (residence_peak (rx * rate) q.longest_residence (multiplexing_entered rate rx rbx packets) pos
     (left_climbs (rbx * rate) (rx * rbx) packets (mul-pos leak some)) (omega (arith, longest)))
 
--- the numbers of a stream's multiplexing buffer are in their ranges
+-- The numbers of a stream's multiplexing buffer are in their ranges.
 pub leak_range : (s : DescribedStream) (b : MultiplexingBuffer) → IsStream s → s.multiplexing ≡ Some b → IsMultiplexingBuffer s.rx b
 leak_range s b stream is = All-head (IsMultiplexingBuffer s.rx) b [] (rw is at stream.multiplexing)

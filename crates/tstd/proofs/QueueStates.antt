@@ -1,4 +1,4 @@
--- Bytes that pass a buffer: its state is the departures' definition.
+-- Bytes that pass a buffer: its state agrees with the definition of departures.
 use Rattle.std.proofs.Common.{◌≡◌, ◌∙◌, ℕ, max, List, [], ◌∷◌, ◌++◌, refl, arith}
 use Rattle.clock27.specs.Departure.{last_left}
 use Rattle.tstd.specs.declared.queue.Queue.{Queue}
@@ -13,7 +13,7 @@ unfolding last_left
 passed-last q [] = refl
 passed-last q (t ∷ ts) = passed-last (arrived q t) ts
 
--- the longest residence of these bytes and of those after them
+-- The longest residence of earlier and later bytes.
 pub passed-longest : (q : Queue) (ts us : List ℕ) →
     max (all_arrived q ts).longest_residence (greatest_residence q.step (last_left q.step q.last ts) us) ≡ max q.longest_residence
     (greatest_residence q.step q.last (ts ++ us))

@@ -1,4 +1,4 @@
--- Times that climb.
+-- Times that rise.
 use Rattle.std.proofs.Common.{◌≡◌, ℕ, zero, suc, ◌-◌, ◌≤◌, ◌<◌, List, [], ◌∷◌, ◌++◌, take, drop, refl, sym, arith, All}
 use Rattle.std.proofs.Math.Nat.{le_trans}
 use Rattle.std.proofs.lemmas.List.{take-append-drop}
@@ -18,13 +18,13 @@ unfolding Climbs
 climbs_low low from [] le climbs = tt
 climbs_low low from (t ∷ ts) le climbs = (le_trans le climbs.0, climbs.1)
 
--- other times after the first ones, where they climb as those that were there
+-- Rising times still rise if their end is replaced by times that rise from the same start.
 climbs_put : (from : ℕ) (es ds xs : List ℕ) → Climbs from (es ++ ds) → ((low : ℕ) → Climbs low ds → Climbs low xs) → Climbs from (es ++ xs)
 unfolding Climbs
 climbs_put from [] ds xs climbs same = same from climbs
 climbs_put from (e ∷ es) ds xs climbs same = (climbs.0, climbs_put (suc e) es ds xs climbs.1 same)
 
--- without some of the first ones
+-- Rising times still rise without some of the first times.
 climbs_fewer : (from k : ℕ) (es xs : List ℕ) → Climbs from (es ++ xs) → Climbs from (drop k es ++ xs)
 unfolding Climbs
 climbs_fewer from zero es xs climbs = climbs
@@ -48,14 +48,14 @@ left_climb step last rx byte left packets pos =
     (rw (sym (departures-append step last row rest)) (departures_climb step last (row ++ rest) pos))
     (payloads_climb packets (departures step (last_left step last row) rest))
 
--- payload bytes leave a buffer one after another
+-- Payload bytes leave a buffer one after another.
 pub left_climbs : (step r : ℕ) (packets : List Packet) → 0 < step → Climbs 0 (pes_left step r 0 packets)
 left_climbs step r packets pos =
     let low : 0 ≤ 1 = omega arith in
     let times = arrivals r (slots_of packets) in
     climbs_low 0 1 (of_payloads packets (departures step 0 times)) low (payloads_climb packets (departures step 0 times) 1 (departures_climb step 0 times pos))
 
--- what a walk gives climbs
+-- The times that a walk gives rise.
 pub ahead_climbs : (w : Departures) → 0 < w.queue.step → Climbs (suc w.queue.last) (left_ahead w)
 unfolding left_ahead
 ahead_climbs w pos = left_climb w.queue.step w.queue.last w.rx w.byte w.left (packets_ahead w) pos
@@ -68,7 +68,7 @@ climbs_following x from (t ∷ ts) lt climbs =
     let next : x < suc t = omega arith in
     All-cons (λ t. x < t) t ts here (climbs_following x (suc t) ts next climbs.1)
 
--- the greatest at times that climb looks at nothing before
+-- The greatest value at rising times does not depend on values before their start.
 pub greatest_same : (f g : ℕ → ℕ) (from : ℕ) (ds : List ℕ) → Climbs from ds → ((x : ℕ) → from ≤ x → f x ≡ g x) → greatest_at f ds ≡ greatest_at g ds
 unfolding Climbs greatest_at
 greatest_same f g from [] climbs same = refl
@@ -80,7 +80,7 @@ unfolding greatest_at
 greatest_ext f g [] same = refl
 greatest_ext f g (d ∷ ds) same = omega (arith, same d, greatest_ext f g ds same)
 
--- the next time that a walk gives is later than the last
+-- The next time of a walk is not before its last time.
 pub head_climbs : (w : Departures) (time : ℕ) (rest : List ℕ) → 0 < w.queue.step → left_ahead w ≡ time ∷ rest → w.queue.last ≤ time
 unfolding Climbs
 head_climbs w time rest pos ahead =

@@ -45,7 +45,7 @@ packets_few pid index [] = omega arith
 packets_few pid index (chunk ∷ chunks) =
     listed_few index (length chunks) (size_in pid (packet_at chunk)) (packets_from pid (index + 1) chunks) (packets_few pid (index + 1) chunks)
 
--- no more payload bytes leave than the packets have
+-- No more payload bytes leave than the packets have.
 pub payloads_few : (packets : List Packet) (ds : List ℕ) → length (of_payloads packets ds) ≤ sum_by (λ p. p.size) packets
 unfolding of_payloads
 payloads_few [] ds = omega arith
@@ -59,7 +59,7 @@ payloads_few (p ∷ packets) ds =
       payloads_few packets (drop 188 ds),
     ))
 
--- nor more than there are bytes
+-- No more payload bytes leave than bytes leave.
 pub payload_count : (packets : List Packet) (ds : List ℕ) → length (of_payloads packets ds) ≤ length ds
 unfolding of_payloads
 payload_count [] ds = omega arith
@@ -72,7 +72,7 @@ payload_count (p ∷ packets) ds = omega (
   payload_count packets (drop 188 ds),
 )
 
--- at the end of a walk nothing is given
+-- At the end of a walk no departure is given.
 pub none_given : (o : Option ℕ) (rest ahead : List ℕ) → ahead ≡ [] → ahead ≡ given o rest → o ≡ None
 none_given None rest ahead none is = refl
 none_given (Some time) rest ahead none is = cc
@@ -86,7 +86,7 @@ plain_most before peak first rate rx rate' rx' pes_packets left left' none start
     (λ x. omega (arith, none x)) in
     omega (arith, rw (start, same_rate, same_rx, same) at is, all)
 
--- what a walk from an empty buffer to its end has found
+-- A walk that starts with an empty buffer has found the peak when it ends.
 pub most_found_all : {A : Type 0} (walk walk' : PayloadBytes) (buffer buffer' : MainBuffer A) (rate rx : ℕ) (pes_packets : List PesPacket) (left : List ℕ) →
     ((x : ℕ) → fullness_at buffer x ≡ 0) → buffer.peak ≡ 0 → walk.rate ≡ rate → drain_of walk ≡ rx → bytes_ahead walk ≡ left → bytes_ahead walk' ≡ [] →
     peak_of walk' buffer' [] ≡ peak_of walk buffer pes_packets → buffer'.peak ≡ greatest_at (λ x. mb_fullness rate rx x pes_packets left) left
@@ -96,7 +96,7 @@ most_found_all walk walk' buffer buffer' rate rx pes_packets left none start sam
     same
     (let e : peak_of walk' buffer' [] ≡ max buffer'.peak 0 = rw ended refl in sym e ∙ is)
 
--- ---- over the bytes
+-- Packets in all bytes of the stream
 
 packet_of : Entry → Packet
 packet_of entry = record { slot = entry.index; size = length (payload_of entry.packet) }
@@ -170,7 +170,7 @@ sizes_next pid index chunks (Ok packet) rest = elim (cases_Bool (is_of_pid pid p
   | inr other ↦ rw other rest
 ]
 
--- the sizes of a PID's payloads add up to their bytes
+-- The sizes of a PID's payloads add up to the length of the joined payloads.
 pub sizes_same : (pid index : ℕ) (chunks : List (List ℕ)) → sum_by (λ p. p.size) (packets_from pid index chunks) ≡ length (payloads_from pid chunks)
 unfolding packets_from payloads_from
 sizes_same pid index [] = refl

@@ -25,7 +25,7 @@ use Rattle.tstd.specs.Refusals.{is_declared, all_carried}
 use Rattle.tstd.proofs.CarriedBytes.{beginning_few, sizes_joined}
 use Rattle.tstd.proofs.StreamPackets.{packets_same, payloads_same, tables_same, sizes_same}
 
--- an entry of a list with one more at its end
+-- An element of a list with one more at its end.
 pub pushed : {X : Type 0} (xs : List X) (v : X) (n : ℕ) (f : X) → slice_get (xs ++ (v ∷ [])) n ≡ Some f →
     (slice_get xs n ≡ Some f) ⊎ ((n ≡ length xs) × (v ≡ f))
 pushed [] v zero f e = inr (refl, cc)
@@ -38,13 +38,13 @@ got [] n p d e = absurd (let no : ⊥ = cc in no)
 got (x ∷ xs) zero p d e = cc
 got (x ∷ xs) (suc n) p d e = got xs n p d e
 
--- and it is there
+-- The element at an index within the list is found.
 pub gets : {X : Type 0} (xs : List X) (n : ℕ) (d : X) → n < length xs → slice_get xs n ≡ Some (get_or xs n d)
 gets [] n d below = absurd (omega (arith, below))
 gets (x ∷ xs) zero d below = refl
 gets (x ∷ xs) (suc n) d below = gets xs n d (omega (arith, below))
 
--- one program more
+-- The next program is measured.
 pub systems_next : (rate : ℕ) (bytes : List ℕ) (chunks : List (List ℕ)) (all : List DescribedProgram) (found : List SystemFullness) (v : SystemFullness)
     (u : DescribedProgram) (pmt_pid i : ℕ) →
     chunks ≡ cut_packets bytes → length found ≡ i → u ≡ get_or all i u → pmt_pid ≡ u.pmt_pid → IsSystemFullness rate (tables_from pmt_pid 0 chunks) v →
@@ -62,7 +62,7 @@ systems_next rate bytes chunks all found v u pmt_pid i cut count at pid is befor
       (subst (λ (slots : List ℕ). IsSystemFullness rate slots v) same is)
 ]
 
--- one stream more
+-- The next stream is measured.
 pub streams_next : (rate base0 : ℕ) (units : List (ℕ × AccessUnit)) (bytes : List ℕ) (chunks : List (List ℕ)) (all : List DescribedStream)
     (found : List StreamFullness) (v : StreamFullness) (u : DescribedStream) (i : ℕ) →
     chunks ≡ cut_packets bytes → length found ≡ i → u ≡ get_or all i u → IsStreamFullness rate base0 u (units_of i units) (packets_from u.pid 0 chunks) v →
@@ -85,7 +85,7 @@ streams_next rate base0 units bytes chunks all found v u i cut count at is befor
       subst (λ (n : ℕ). IsStreamFullness rate base0 s (units_of n units) (packets_on s.pid bytes) f) (sym place) third
 ]
 
--- the first of the streams from i on
+-- All streams from i on carry their units if and only if stream i and all later streams carry their units.
 pub carried_next : (d : Described) (units : List (ℕ × AccessUnit)) (bytes : List ℕ) (all : List DescribedStream) (u : DescribedStream) (i : ℕ) →
     i < length all → u ≡ get_or all i u →
     all_carried d units bytes i (drop i all) ≡
@@ -123,7 +123,7 @@ unfolding late_from
 late_done d units bytes all i None over = rw (drop_all i all over) refl
 late_done d units bytes all i (Some l) over = refl
 
--- payloads that are a beginning are no longer
+-- The payloads of a stream that carries its units are no longer than its PES packets.
 pub enough : (pid id base0 : ℕ) (units : List AccessUnit) (bytes : List ℕ) (chunks : List (List ℕ)) → chunks ≡ cut_packets bytes →
     carries pid id base0 units bytes ≡ true →
     sum_by (λ p. p.size) (packets_from pid 0 chunks) ≤ sum_by (λ t. t.size) (timed_pes_packets id base0 units)
@@ -132,13 +132,13 @@ enough pid id base0 units bytes chunks cut is =
     let few = beginning_few (concat (pes_packets_of id base0 units)) (payloads_on pid bytes) is in
     omega (arith, few, ap length part, sizes_same pid 0 chunks, sizes_joined id base0 units)
 
--- the bytes of a stream's packets, packet by packet
+-- Whether a stream carries its units, judged packet by packet.
 pub carries_same : (pid id base0 : ℕ) (units : List AccessUnit) (bytes : List ℕ) (chunks : List (List ℕ)) → chunks ≡ cut_packets bytes →
     starts_with nat_eq (concat (pes_packets_of id base0 units)) (payloads_from pid chunks) ≡ carries pid id base0 units bytes
 carries_same pid id base0 units bytes chunks cut =
     ap (starts_with nat_eq (concat (pes_packets_of id base0 units))) (ap (payloads_from pid) cut ∙ sym (payloads_same pid 0 (cut_packets bytes)))
 
--- a unit within the declaration of its stream can be a PES packet of it
+-- A unit within the declaration of its stream fits into a PES packet.
 fits_stream : (id size largest : ℕ) → IsStreamId id → (id < 224 → largest ≤ 65522) → largest ≤ 4000000 → (nat_le 1 size && nat_le size largest) ≡ true →
     fits_packet id size ≡ true
 fits_stream id size largest (inl e) short long within =

@@ -16,7 +16,7 @@ use Rattle.tstd.specs.Queues.{arrived, all_arrived}
 use Rattle.tstd.proofs.RisingTimes.{climbs_low}
 use Rattle.tstd.proofs.QueueStates.{passed-step, passed-last}
 
--- one byte more of those up to `end` passes both
+-- The next byte of the bytes up to `end` passes both buffers.
 pub pass_step : (q p : Queue) (byte end : ℕ) → byte < end →
     all_arrived (arrived p (max (byte * 2000000) q.last + q.step))
     (departures q.step (max (byte * 2000000) q.last + q.step) (bytes_from 2000000 (byte + 1) (end - (byte + 1))))
@@ -33,11 +33,11 @@ pass_end q p byte end le =
     let e : end - byte ≡ 0 = omega arith in
     rw e refl
 
--- a byte leaves the first no more than one of its steps after one before it
+-- Byte number b leaves the first buffer at (b + 1) * 2^34 at the latest.
 pub pass_pace : (byte last step : ℕ) → step ≤ 2 ^ 33 → last ≤ byte * 2 ^ 34 → max (byte * 2000000) last + step ≤ (byte + 1) * 2 ^ 34
 pass_pace byte last step short paced = omega (arith, short, paced)
 
--- the first of the packets from i on enters them
+-- Packet i enters the buffers if it carries tables.
 pub tables_own : (pmt_pid i : ℕ) (chunks : List (List ℕ)) (d : List ℕ) → i < length chunks → is_of_tables pmt_pid (packet_at (get_or chunks i d)) ≡ true →
     tables_from pmt_pid i (drop i chunks) ≡ i ∷ tables_from pmt_pid (i + 1) (drop (i + 1) chunks)
 unfolding tables_from
@@ -56,14 +56,14 @@ pub tables_end : (pmt_pid i : ℕ) (chunks : List (List ℕ)) → length chunks 
 unfolding tables_from
 tables_end pmt_pid i chunks over = rw (drop_all i chunks over) refl
 
--- a packet passes the first
+-- A packet passes the first buffer.
 pub packet_arrives : (q : Queue) (from i : ℕ) (slots : List ℕ) → from ≡ 188 * i →
     all_arrived (all_arrived q (bytes_from 2000000 from 188)) (arrivals 2000000 slots) ≡ all_arrived q (arrivals 2000000 (i ∷ slots))
 unfolding arrivals
 packet_arrives q from i slots at =
     rw at (sym (fold-append arrived q (bytes_from 2000000 (188 * i) 188) (arrivals 2000000 slots)))
 
--- and the second
+-- A packet passes the second buffer.
 pub packet_passes : (q p : Queue) (from i : ℕ) (slots : List ℕ) → from ≡ 188 * i →
     (let r = all_arrived q (bytes_from 2000000 from 188) in
     all_arrived (all_arrived p (departures q.step q.last (bytes_from 2000000 from 188))) (departures r.step r.last (arrivals 2000000 slots)))
@@ -75,7 +75,7 @@ packet_passes q p from i slots at =
     rw (at, passed-step q row, passed-last q row, departures-append q.step q.last row rest)
     (sym (fold-append arrived p (departures q.step q.last row) (departures q.step (last_left q.step q.last row) rest)))
 
--- the packets' indices climb, and there are no more of them than packets
+-- The indices of the packets rise.
 tables_climb : (pmt_pid index : ℕ) (chunks : List (List ℕ)) → Climbs index (tables_from pmt_pid index chunks)
 unfolding Climbs tables_from
 tables_climb pmt_pid index [] = tt

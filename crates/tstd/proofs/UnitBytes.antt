@@ -1,4 +1,4 @@
--- The bytes of a text, taken one after another.
+-- The bytes of a PES packet, taken one after another.
 use Rattle.std.proofs.Common.{◌≡◌, ℕ, zero, suc, ◌+◌, ◌*◌, ◌≤◌, max, nat_le, nat_eq, ◌&&◌, ◌||◌, Bool, true, false, List, [], ◌∷◌, length, take, drop, refl, ap}
 use Rattle.std.proofs.Common.{subst, sym, inl, inr, arith}
 use Rattle.std.specs.List.{list_all}
@@ -18,7 +18,7 @@ use Rattle.tstd.proofs.RisingTimes.{greatest_ext}
 use Rattle.tstd.proofs.PayloadWalks.{bytes_climb}
 use Rattle.tstd.proofs.EntryPeaks.{byte_entered, text_entered}
 
--- a walk at its end
+-- At its end a walk finds no new peak.
 pub most_none : {A : Type 0} (walk walk' : PayloadBytes) (buffer : MainBuffer A) (pes_packets pes_packets' : List PesPacket) → bytes_ahead walk ≡ [] →
     bytes_ahead walk' ≡ [] →
     peak_of walk' buffer pes_packets ≡ peak_of walk buffer pes_packets'
@@ -34,7 +34,7 @@ one_byte : (before after : ℕ → ℕ) (peak peak' rate rx rate' rx' due m d : 
 one_byte before after peak peak' rate rx rate' rx' due m d pes_packets left left' ahead climbs same_rx same_rate counted best =
     rw (ahead, same_rx, same_rate) (omega (arith, best, byte_entered rate rx due m pes_packets before after d left' climbs counted))
 
--- a byte goes from one buffer into the other
+-- A byte moves from one buffer into the next.
 pub most_byte : {A : Type 0} (walk walk' : PayloadBytes) (buffer buffer' : MainBuffer A) (due m d : ℕ) (pes_packets : List PesPacket) →
     bytes_ahead walk ≡ d ∷ bytes_ahead walk' → last_of walk' ≡ d → drain_of walk' ≡ drain_of walk → walk'.rate ≡ walk.rate →
     ((x : ℕ) → d ≤ x → fullness_at buffer' x ≡ fullness_at buffer x + one_buffered buffer.current.until x) →
@@ -51,13 +51,13 @@ most_byte walk walk' buffer buffer' due m d pes_packets ahead last drain rate th
     one_byte (fullness_at buffer) (fullness_at buffer') buffer.peak buffer'.peak walk.rate (drain_of walk) walk'.rate (drain_of walk') due m d pes_packets
     (bytes_ahead walk) (bytes_ahead walk') ahead climbs drain rate counted best
 
--- the text is whole
+-- The PES packet is whole.
 pub most_whole : {A : Type 0} (walk : PayloadBytes) (buffer : MainBuffer A) (due : ℕ) (pes_packets : List PesPacket) →
     peak_of walk buffer pes_packets ≡ peak_of walk buffer (record { dts = due; size = 0; front = 0 } ∷ pes_packets)
 most_whole walk buffer due pes_packets =
     ap (max buffer.peak) (sym (text_entered walk.rate (drain_of walk) due pes_packets (fullness_at buffer) (bytes_ahead walk)))
 
--- a text begins
+-- A PES packet begins.
 pub most_begun : {A : Type 0} (walk : PayloadBytes) (buffer buffer' : MainBuffer A) (pes_packets : List PesPacket) →
     ((x : ℕ) → fullness_at buffer' x ≡ fullness_at buffer x) →
     buffer'.peak ≡ buffer.peak → peak_of walk buffer' pes_packets ≡ peak_of walk buffer pes_packets
@@ -66,7 +66,7 @@ most_begun walk buffer buffer' pes_packets there peak =
     (λ x. fullness_at buffer x + mb_fullness walk.rate (drain_of walk) x pes_packets (bytes_ahead walk)) (bytes_ahead walk) (λ x. omega (arith, there x)) in
     omega (arith, peak, ahead)
 
--- the next of a list's entries
+-- Whether the first i + 1 elements pass a test.
 pub all_next : (p : ℕ → Bool) (i : ℕ) (ds : List ℕ) (d : ℕ) (rest : List ℕ) → drop i ds ≡ d ∷ rest →
     list_all p (take (suc i) ds) ≡ (list_all p (take i ds) && p d)
 all_next p zero [] d rest e = cc
@@ -89,14 +89,14 @@ there_next zero (x ∷ ds) d rest e = omega arith
 there_next (suc i) [] d rest e = absurd (let no : ⊥ = cc in no)
 there_next (suc i) (x ∷ ds) d rest e = omega (arith, there_next i ds d rest e)
 
--- there is none
+-- No element is left.
 pub none_next : (i : ℕ) (ds : List ℕ) → i ≤ length ds → drop i ds ≡ [] → length ds ≡ i
 none_next zero [] le e = refl
 none_next zero (x ∷ ds) le e = cc
 none_next (suc i) [] le e = omega (arith, le)
 none_next (suc i) (x ∷ ds) le e = let rest : i ≤ length ds = omega (arith, le) in ap suc (none_next i ds rest e)
 
--- all are in time where the last is
+-- All bytes are in time if the last byte is.
 pub last_decides : (b : Bool) (last d limit : ℕ) → last ≤ d → ((b || nat_le (last * 720000) limit) && nat_le (d * 720000) limit) ≡ nat_le (d * 720000) limit
 last_decides b last d limit le = elim (cases_Bool (nat_le (d * 720000) limit)) [
   | inl in_time ↦

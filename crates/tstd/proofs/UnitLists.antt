@@ -18,7 +18,7 @@ use Rattle.pes_packet.specs.Marks.{field_size}
 use Rattle.pes_packet.specs.Units.{units_of}
 use Rattle.tstd.specs.Carried.{timed_pes_packets}
 
--- an entry of the stream, with its stamp and the size of its PES packet
+-- A unit of the stream adds a PES packet with its time stamp and size.
 pub texts_own : (id base0 stream i due size : ℕ) (units : List (ℕ × AccessUnit)) (u : ℕ × AccessUnit) → i < length units → u ≡ get_or units i u →
     (u.0 == stream) ≡ true →
     due ≡ u.1.dts → size ≡ length (pes_packet_bytes id base0 u.1) →
@@ -26,17 +26,17 @@ pub texts_own : (id base0 stream i due size : ℕ) (units : List (ℕ × AccessU
     timed_pes_packets id base0 (units_of stream (drop (i + 1) units))
 texts_own id base0 stream i due size units u below at own stamp is = rw (drop-cons units i u below, add-one i, sym at, own, stamp, is) refl
 
--- of another
+-- A unit of another stream adds no PES packet.
 pub texts_other : (id base0 stream i : ℕ) (units : List (ℕ × AccessUnit)) (u : ℕ × AccessUnit) → i < length units → u ≡ get_or units i u →
     (u.0 == stream) ≡ false →
     timed_pes_packets id base0 (units_of stream (drop i units)) ≡ timed_pes_packets id base0 (units_of stream (drop (i + 1) units))
 texts_other id base0 stream i units u below at other = rw (drop-cons units i u below, add-one i, sym at, other) refl
 
--- none is left
+-- No unit is left.
 pub texts_end : (id base0 stream i : ℕ) (units : List (ℕ × AccessUnit)) → length units ≤ i → timed_pes_packets id base0 (units_of stream (drop i units)) ≡ []
 texts_end id base0 stream i units over = rw (drop_all i units over) refl
 
--- the first late one of those so far, of this one, and of those after it
+-- The first late unit among the earlier units, the current unit and the later units.
 pub late_next : (late : Option ℕ) (is : Bool) (number : ℕ) (later : Option ℕ) →
     option_or (option_or late (if is then Some number else None)) (later) ≡ option_or late (cond is (Some number) later)
 late_next None true number later = refl
@@ -51,7 +51,7 @@ pub size_next : (pes_packet : PesPacket) (pes_packets : List PesPacket) → sum_
     + sum_by (λ t. t.size) pes_packets
 size_next pes_packet pes_packets = sum_by-cons (λ t. t.size) pes_packet pes_packets
 
--- a text, and those after it
+-- The first late unit, after one more PES packet is judged.
 pub late_more : (rate rx slots number size front due : ℕ) (late : Option ℕ) (is : Bool) (pes_packets : List PesPacket) (left left' : List ℕ) (rate' rx' : ℕ) →
     rate' ≡ rate → rx' ≡ rx →
     is ≡ (is_due rate' slots (record { dts = due; size = size; front = 0 }) && not (has_left rate' rx' (record { dts = due; size = size; front = 0 }) left)) →
@@ -62,7 +62,7 @@ unfolding first_late
 late_more rate rx slots number size front due late is pes_packets left left' rate' rx' same_rate same_rx decided rest =
     rw (late_next late is number (first_late rate rx slots (number + 1) pes_packets left'), decided, rest, same_rate, same_rx, add-one number) refl
 
--- the main buffer holds the bytes of a PES packet alone, whatever is in front of them
+-- The main buffer holds the bytes of PES packets only, whatever bytes are in front of them.
 pub peak_front : {A : Type 0} (walk : PayloadBytes) (buffer : MainBuffer A) (due size front : ℕ) (pes_packets : List PesPacket) →
     peak_of walk buffer (record { dts = due; size = size; front = 0 } ∷ pes_packets) ≡ peak_of walk buffer
     (record { dts = due; size = size; front = front } ∷ pes_packets)
@@ -72,7 +72,7 @@ peak_front walk buffer due size front pes_packets = refl
 pub fewer_left : (size total : ℕ) (left : List ℕ) → length left ≤ size + total → length (drop size left) ≤ total
 fewer_left size total left le = omega (arith, length-drop size left, le)
 
--- the first late unit on the scale of a walk is that on the scale which the walk has
+-- The first late unit on the scale of a walk is the first late unit on the stream's scale.
 pub late_found : (rate rate' drain drain' slots slots' : ℕ) (late : Option ℕ) (pes_packets : List PesPacket) (left left' : List ℕ) → rate' ≡ rate →
     drain' ≡ drain → slots' ≡ slots → left' ≡ left →
     late ≡ first_late rate' drain' slots' 0 pes_packets left' → late ≡ first_late rate drain slots 0 pes_packets left

@@ -32,10 +32,13 @@ pub struct PayloadBytes<'a> {
 fn pass(multiplexing: &mut Option<Queue>, entered: u128) -> u128
     requires entered { entered < 2 ^ 123 }
     requires within { IsWithin multiplexing.old (2 ^ 123) }
-    ensures passed { (times : List ℕ) → passed multiplexing.old (entered ∷ times) ≡ result ∷ passed multiplexing.new times }
-    ensures residence { (times : List ℕ) → residence_in multiplexing.new times ≡ residence_in multiplexing.old (entered ∷ times) }
+    ensures passed { (times : List ℕ) →
+        passed multiplexing.old (entered ∷ times) ≡ result ∷ passed multiplexing.new times }
+    ensures residence { (times : List ℕ) →
+        residence_in multiplexing.new times ≡ residence_in multiplexing.old (entered ∷ times) }
     ensures last { last_in multiplexing.new entered ≡ result }
-    ensures within { (m n : ℕ) → IsWithin multiplexing.old m → m + 2 ^ 57 ≤ n → entered + 2 ^ 57 ≤ n → IsWithin multiplexing.new n }
+    ensures within { (m n : ℕ) → IsWithin multiplexing.old m → m + 2 ^ 57 ≤ n → entered + 2 ^ 57 ≤ n →
+        IsWithin multiplexing.new n }
 {
     match multiplexing {
         None => entered,

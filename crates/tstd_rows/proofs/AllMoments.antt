@@ -1,4 +1,4 @@
--- The figures of a view are those over all moments.
+-- The figures of a view are the greatest values over all moments.
 use Rattle.std.proofs.Common.{◌≡◌, ◌∙◌, sym, ℕ, ◌*◌, cond, nat_lt, List, [], ◌∷◌, ◌++◌, length, refl, inl, inr, arith}
 use Rattle.std.proofs.lemmas.Bool.{cases_lt, lt-ltb, le-ltb}
 use Rattle.std.proofs.lemmas.List.{append-nil, length-append}
@@ -18,7 +18,7 @@ use Rattle.tstd_rows.specs.ConstantRate.{with_bytes_of_last}
 use Rattle.tstd_rows.specs.ViewLaws.{FiguresLaw}
 use Rattle.tstd_rows.proofs.UnitBytes.{sizes, last_due, unit_more, bytes_more, sizes_more, sizes_last, due_more, due_last}
 
--- the units of a stream, each due when its bytes go
+-- The units of a stream, each due when its bytes are removed
 unfoldable units_in : List Part → List PesPacket
 units_in [] = []
 units_in (Passes ts ∷ before) = units_in before
@@ -46,7 +46,7 @@ many_in step (Carries ts ∷ before) =
     )
 many_in step (Begins due ∷ before) = omega (arith, many_in step before, sizes_more due.until 0 (units_in before))
 
--- on a scale of one moment a unit's bytes go at its stamp
+-- If times are counted in stamps, the bytes of a unit are removed at its stamp.
 gone_at : (x due : ℕ) → nat_lt (x * 720000) (due * 720000 * 1) ≡ nat_lt x due
 gone_at x due = elim (cases_lt x due) [
   | inl before ↦ lt-ltb (x * 720000) (due * 720000 * 1) (omega (arith, before)) ∙ sym (lt-ltb x due before)

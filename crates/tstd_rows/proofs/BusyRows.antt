@@ -1,4 +1,4 @@
--- Rows of bytes that a buffer is looked at with.
+-- The test whether a buffer is empty depends only on the first byte of a row.
 use Rattle.std.proofs.Common.{◌≡◌, ◌∙◌, sym, ℕ, zero, suc, ◌+◌, ◌*◌, ◌/◌, ◌<◌, List, ◌++◌, refl, ap, arith}
 use Rattle.arrival.specs.declared.row.Row.{Row}
 use Rattle.arrival.specs.Rows.{times_in_row, times_of}

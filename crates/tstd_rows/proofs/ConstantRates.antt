@@ -1,4 +1,4 @@
--- A stream at a constant rate: its parts, and the model of finished bytes.
+-- A stream at a constant rate: its parts, and its figures in the model of finished bytes
 use Rattle.std.proofs.Common.{◌≡◌, ◌∙◌, sym, ℕ, ◌+◌, ◌-◌, ◌*◌, ◌/◌, ◌≤◌, cond, List, [], ◌∷◌, ◌++◌, length, drop, Option, Some, None, refl, ap, inl, inr, arith}
 use Rattle.std.proofs.Common.{All}
 use Rattle.std.proofs.lemmas.Bool.{cases_lt, lt-leb, le-leb}
@@ -29,7 +29,7 @@ use Rattle.tstd_rows.specs.History.Part.{Passes}
 use Rattle.tstd_rows.proofs.UnitBytes.{sizes, last_due, unit_more, bytes_more, sizes_with, due_more, due_last}
 use Rattle.tstd_rows.specs.ConstantRate.{StreamPacket, begun, parts_of, packets_of, with_payload, units_of, ConstantRateLaw, InTimeLaw}
 
--- ---- one packet more
+-- One more packet
 
 arrivals-append : (r : ℕ) (ss ts : List ℕ) → arrivals r (ss ++ ts) ≡ arrivals r ss ++ arrivals r ts
 unfolding arrivals
@@ -41,7 +41,7 @@ arrivals_one : (r s : ℕ) → arrivals r (s ∷ []) ≡ bytes_from r (188 * s) 
 unfolding arrivals
 arrivals_one r s = append-nil (bytes_from r (188 * s) 188)
 
--- the bytes of a packet before its payload, and those of its payload
+-- The bytes of a packet are the bytes before its payload, then the bytes of its payload.
 in_two : (r slot size : ℕ) → size ≤ 188 → bytes_from r (188 * slot) 188 ≡ bytes_from r (188 * slot) (188 - size)
     ++ bytes_from r (188 * slot + (188 - size)) size
 in_two r slot size le =
@@ -52,7 +52,7 @@ slots_more : (before : List StreamPacket) (p : StreamPacket) → slots_of (packe
 unfolding packets_of
 slots_more before p = map-append (λ (q : Packet). q.slot) (packets_of before) (record { slot = p.slot; size = p.size } ∷ [])
 
--- a unit that begins changes no arrival and no departure
+-- A unit that begins changes no arrival and no departure.
 begun_arrivals : (rate rx : ℕ) (begins : Option ℕ) (parts : List Part) → arrivals_of (begun rate rx begins parts) ≡ arrivals_of parts
 unfolding begun arrivals_of
 begun_arrivals rate rx None parts = refl
@@ -87,7 +87,7 @@ same_arrivals rate rx (p ∷ before) all =
       arrivals_one rx p.slot,
     ) refl
 
--- departures of payloads, of packets in two parts
+-- The payloads of two lists of packets leave in turn.
 left-append : (rate r prev : ℕ) (ps qs : List Packet) → pes_left rate r prev (ps ++ qs) ≡ pes_left rate r prev ps
     ++ pes_left rate r (last_left rate prev (arrivals r (slots_of ps))) qs
 unfolding last_left arrivals of_payloads
@@ -103,7 +103,7 @@ left-append rate r prev (p ∷ ps) qs =
     (sym (append_assoc (drop (188 - p.size) (departures rate prev first)) (pes_left rate r (last_left rate prev first) ps)
     (pes_left rate r (last_left rate (last_left rate prev first) (arrivals r (slots_of ps))) qs)))
 
--- of one packet
+-- The payload of one packet leaves after the bytes of the packet before it.
 left_one : (rate r prev : ℕ) (p : Packet) → p.size ≤ 188 →
     pes_left rate r prev (p ∷ [])
     ≡ departures rate (last_left rate prev (bytes_from r (188 * p.slot) (188 - p.size))) (bytes_from r (188 * p.slot + (188 - p.size)) p.size)
@@ -121,7 +121,7 @@ left_one rate r prev p le =
     )
     (drop_at (departures rate prev first) (departures rate (last_left rate prev first) payload) (188 - p.size) many)
 
--- the payload of a packet leaves after the bytes before it
+-- The payload of a packet leaves after the bytes before it.
 payload_after : (rate rx : ℕ) (before : List StreamPacket) (p : StreamPacket) → p.size ≤ 188 → All (λ p. p.size ≤ 188) before →
     left_after rate (begun rate rx p.begins (Passes (bytes_from rx (188 * p.slot) (188 - p.size)) ∷ parts_of rate rx before))
     (bytes_from rx (188 * p.slot + (188 - p.size)) p.size)
@@ -153,9 +153,9 @@ same_left rate rx (p ∷ before) all =
       left-append rate rx 0 (packets_of before) (record { slot = p.slot; size = p.size } ∷ []),
     ) refl
 
--- ---- units
+-- Units
 
--- the bytes of all units are those of all payloads
+-- The bytes of all units are the bytes of all payloads.
 left_one_length : (rate r prev : ℕ) (p : Packet) → p.size ≤ 188 → length (pes_left rate r prev (p ∷ [])) ≡ p.size
 left_one_length rate r prev p le =
     let first = bytes_from r (188 * p.slot) (188 - p.size) in
@@ -180,7 +180,7 @@ same_length rate rx (p ∷ before) all =
       sizes_with p.begins p.size (units_of before),
     ))
 
--- ---- the moment from which a unit's bytes are gone
+-- The moment at which the bytes of a unit are removed
 
 until_begun : (rate rx : ℕ) (begins : Option ℕ) (size : ℕ) (parts : List Part) (units : List PesPacket) →
     until_of parts ≡ removal_time rate rx (last_due units) →
@@ -196,7 +196,7 @@ same_until rate rx (p ∷ before) =
     until_begun rate rx p.begins p.size (Passes (bytes_from rx (188 * p.slot) (188 - p.size)) ∷ parts_of rate rx before) (units_of before)
     (same_until rate rx before)
 
--- bytes that have entered are those that the model keeps
+-- The bytes of a unit that have entered are the bytes that the model keeps.
 entered_kept : (rate r due x : ℕ) (ds : List ℕ) → entered (removal_time rate r due) x ds ≡ kept rate r x due ds
 unfolding kept
 entered_kept rate r due x [] = refl
@@ -245,7 +245,7 @@ same_main rate rx x (p ∷ before) all =
       left-append rate rx 0 (packets_of before) (packet ∷ []),
     ) (sym model)
 
--- ---- the figures
+-- The figures of a stream at a constant rate
 
 pub constant_rate_law : ConstantRateLaw
 constant_rate_law rate rx packets some drained all climbs =

@@ -1,4 +1,4 @@
--- Bytes at an even pace that pass a buffer in which each finds room.
+-- Bytes at an even pace that pass a buffer, where each finds room
 use Rattle.std.proofs.Common.{◌≡◌, ◌∙◌, sym, ℕ, zero, suc, ◌+◌, ◌-◌, ◌*◌, ◌/◌, ◌<◌, ◌≤◌, max, false, List, [], ◌++◌, None, refl, ap, arith}
 use Rattle.std.specs.Option.{option_to_list}
 use Rattle.std.proofs.Math.Nat.{div-one, add-mul-div_right, div-lt_iff_lt-mul}
@@ -18,7 +18,7 @@ use Rattle.tstd_rows.specs.WatchedQueues.{all_entered, ended_by}
 use Rattle.tstd_rows.specs.declared.even_bytes.EvenBytes.{EvenBytes}
 use Rattle.tstd_rows.specs.declared.watched_queue.WatchedQueue.{WatchedQueue}
 
--- of those that come no slower than they leave the last stays longest
+-- If bytes arrive no slower than they leave, the last byte stays longest.
 stays_fast : (step prev from pace parts n : ℕ) → 0 < parts → pace ≤ step * parts →
     greatest_residence step prev (times_in_row from pace parts (suc n)) ≡ max (from / parts) prev + suc n * step - (from + n * pace) / parts
 unfolding greatest_residence times_in_row
@@ -41,7 +41,7 @@ stays_fast step prev from pace parts (suc n) some fast =
     larger : (a b c : ℕ) → b ≡ c → a ≤ c → max a b ≡ c
     larger a b c e le = omega (arith, e, le)
 
--- where none waits each stays as long as it takes to leave
+-- If no byte waits, each stays as long as a byte takes to leave.
 stays_free : (step prev from pace parts n : ℕ) → 0 < parts → step * parts ≤ pace → prev ≤ from / parts →
     greatest_residence step prev (times_in_row from pace parts (suc n)) ≡ step
 unfolding greatest_residence times_in_row
@@ -51,14 +51,14 @@ stays_free step prev from pace parts (suc n) some slow free =
     let rest = stays_free step (from / parts + step) (from + pace) pace parts n some slow (apart_one from pace parts step some slow) in
     rw e (omega (arith, rest))
 
--- a row of so many bytes that leave a step apart
+-- The last of n bytes that leave a step apart from `first + step` on leaves at `first + n * step`.
 last_even : (first step n : ℕ) → 0 < n → first + n * step ≡ (first + step + (n - 1) * step) / 1
 last_even first step zero some = absurd (omega (arith, some))
 last_even first step (suc n) some =
     let k : suc n - 1 ≡ n = omega arith in
     rw (k, div-one (first + step + n * step)) (omega arith)
 
--- they come no slower than they leave
+-- Bytes that arrive no slower than they leave, leave a step apart.
 pub fast_even : (step prev : ℕ) (even : EvenBytes) (times : List ℕ) → AreEven even times → even.pace ≤ step * even.parts →
     AreEven (record { first = max even.first prev + step; last = max even.first prev + even.bytes * step; pace = step; parts = 1; bytes = even.bytes })
     (departures step prev times)
@@ -97,7 +97,7 @@ fast_even_longest step prev even times is fast =
         let k : suc n - 1 ≡ n = omega arith in
         rw k (stays_fast step prev is.from even.pace even.parts n is.some_parts fast)
 
--- they come no faster, and the first does not wait
+-- Bytes that arrive no faster than they leave, and whose first byte does not wait, leave at the pace of their arrival.
 pub free_even : (step prev : ℕ) (even : EvenBytes) (times : List ℕ) → AreEven even times → step * even.parts ≤ even.pace → prev ≤ even.first →
     AreEven (record { first = even.first + step; last = even.last + step; pace = even.pace; parts = even.parts; bytes = even.bytes })
     (departures step prev times)
@@ -144,11 +144,11 @@ free_even_longest step prev even times is slow free =
     row_stays zero some free' = absurd (omega (arith, some))
     row_stays (suc n) some free' = stays_free step prev is.from even.pace even.parts n is.some_parts slow free'
 
--- the first comes no later than the last
+-- The first byte of a row arrives no later than the last.
 pub even_rises : (from pace parts n : ℕ) → 0 < parts → from / parts ≤ (from + n * pace) / parts
 even_rises from pace parts n some = div_le from (from + n * pace) parts some (omega arith)
 
--- where none stays longer than as many take to leave as there is room for, each finds room
+-- If no byte stays longer than a full buffer takes to empty, each finds room.
 all_room : (step size prev : ℕ) (ts : List ℕ) → 0 < step → greatest_residence step prev ts ≤ size * step → AreOver false step size prev ts
 all_room step size prev ts pos le =
     let e : (size + 1) * step ≡ size * step + step = omega arith in
@@ -156,7 +156,7 @@ all_room step size prev ts pos le =
     let few : bytes_within step (greatest_residence step prev ts) < size + 1 = (div-lt_iff_lt-mul pos).1 less in
     none_over step size prev ts (omega (arith, few, most_residence step prev ts pos))
 
--- so they pass
+-- After these bytes, the longest stay is the greatest of the stays so far.
 longest_passed : (q : Queue) (ts : List ℕ) → (all_arrived q ts).longest_residence ≡ max q.longest_residence (greatest_residence q.step q.last ts)
 unfolding greatest_residence
 longest_passed q ts =

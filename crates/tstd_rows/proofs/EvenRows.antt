@@ -1,4 +1,4 @@
--- Bytes that arrive at an even pace leave at one, or first at one and then at another.
+-- Bytes that arrive at an even pace leave at one pace, or first at the pace of the buffer and then at the pace of their arrival.
 use Rattle.std.proofs.Common.{◌≡◌, ◌∙◌, sym, ℕ, zero, suc, ◌+◌, ◌-◌, ◌*◌, ◌/◌, ◌<◌, ◌≤◌, max, List, [], ◌∷◌, ◌++◌, length, refl, ap, arith}
 use Rattle.std.proofs.Math.Nat.{div-one, add-mul-div_right, div-mul-le_self, div-lt_iff_lt-mul, div-le_of_le-mul, mul-le-mul_left}
 use Rattle.std.proofs.lemmas.Nat.{le-div}
@@ -11,13 +11,13 @@ use Rattle.arrival.proofs.Rows.{row-append}
 pub div_le : (a b k : ℕ) → 0 < k → a ≤ b → a / k ≤ b / k
 div_le a b k some le = le-div (a / k) b k some (omega (arith, div-mul-le_self a k, le))
 
--- n bytes on, where they come no slower than they leave
+-- If bytes arrive no slower than they leave, n bytes arrive within n steps.
 pub soon : (from pace parts step n : ℕ) → 0 < parts → pace ≤ step * parts → (from + n * pace) / parts ≤ from / parts + n * step
 soon from pace parts step n some fast =
     let le : from + n * pace ≤ from + n * step * parts = omega (arith, mul-le-mul_left n fast) in
     omega (arith, div_le (from + n * pace) (from + n * step * parts) parts some le, add-mul-div_right from (n * step) some)
 
--- and where they come no faster
+-- If bytes arrive no faster than they leave, n bytes take at least n steps to arrive.
 pub apart : (from pace parts step n : ℕ) → 0 < parts → step * parts ≤ pace → from / parts + n * step ≤ (from + n * pace) / parts
 apart from pace parts step n some slow =
     let le : from + n * step * parts ≤ from + n * pace = omega (arith, mul-le-mul_left n slow) in
@@ -35,7 +35,7 @@ apart_one from pace parts step some slow =
     let le : from / parts + step ≤ (from + 1 * pace) / parts = omega (arith, apart from pace parts step 1 some slow) in
     rw e at le
 
--- each of n bytes arrives before the one before it has left
+-- Whether each of n bytes arrives before the byte before it has left
 abbrev pub Waits : ℕ → ℕ → ℕ → ℕ → ℕ → ℕ → Type 0
 Waits step prev from pace parts n = (j : ℕ) → j < n → (from + j * pace) / parts ≤ prev + j * step
 
@@ -55,7 +55,7 @@ waits_next step prev from pace parts n waits j below =
     let there : (from + suc j * pace) / parts ≤ prev + suc j * step = waits (suc j) some in
     rw (e, f) at there
 
--- so they leave a step apart
+-- Bytes that wait leave a step apart.
 pub waits_left : (step prev from pace parts n : ℕ) → Waits step prev from pace parts n →
     departures step prev (times_in_row from pace parts n) ≡ times_in_row (prev + step) step 1 n
 unfolding departures times_in_row
@@ -75,11 +75,11 @@ waits_last step prev from pace parts (suc n) waits =
     let sum : prev + step + n * step ≡ prev + suc n * step = omega arith in
     ap (λ (m : ℕ). last_left step (m + step) (times_in_row (from + pace) pace parts n)) e ∙ rest ∙ sum
 
--- where they come no slower than they leave, and the first waits
+-- If bytes arrive no slower than they leave and the first waits, all wait.
 pub waits_fast : (step prev from pace parts n : ℕ) → 0 < parts → pace ≤ step * parts → from / parts ≤ prev → Waits step prev from pace parts n
 waits_fast step prev from pace parts n some fast first j below = omega (arith, soon from pace parts step j some fast, first)
 
--- where they come slower, as far as they gain on one another
+-- Bytes that arrive slower than they leave wait until they have made up for the wait of the first byte.
 pub waits_slow : (step prev from gain parts n : ℕ) → 0 < parts → ((j : ℕ) → j < n → j * gain < (prev + 1) * parts - from) →
     Waits step prev from (step * parts + gain) parts n
 waits_slow step prev from gain parts n some room j below =
@@ -90,7 +90,7 @@ waits_slow step prev from gain parts n some room j below =
     div_below : (a k b : ℕ) → 0 < k → a < b * k → a / k < b
     div_below a k b some less = (div-lt_iff_lt-mul some).1 less
 
--- where none waits each leaves a step after it arrives
+-- If no byte waits, each leaves a step after it arrives.
 pub frees_left : (step prev from pace parts n : ℕ) → 0 < parts → step * parts ≤ pace → prev ≤ from / parts →
     departures step prev (times_in_row from pace parts n) ≡ times_in_row (from + step * parts) pace parts n
 unfolding departures times_in_row
@@ -115,14 +115,14 @@ frees_last step prev from pace parts (suc n) some slow free =
     let rest = frees_last step (from / parts + step) (from + pace) pace parts n some slow next in
     rw g (ap (λ (m : ℕ). last_left step (m + step) (times_in_row (from + pace) pace parts (suc n))) e ∙ rest)
 
--- or none is there
+-- A row that may be empty leaves in this way too.
 frees_rest : (step prev from pace parts n : ℕ) → 0 < parts → step * parts ≤ pace → (0 < n → prev ≤ from / parts) →
     departures step prev (times_in_row from pace parts n) ≡ times_in_row (from + step * parts) pace parts n
 unfolding departures times_in_row
 frees_rest step prev from pace parts zero some slow free = refl
 frees_rest step prev from pace parts (suc n) some slow free = frees_left step prev from pace parts (suc n) some slow (free (omega arith))
 
--- the first a wait, and of the others none
+-- The first `a` bytes wait, and the rest of the bytes do not.
 pub in_two_left : (step prev from pace parts a b : ℕ) → 0 < parts → step * parts ≤ pace → Waits step prev from pace parts a →
     (0 < b → prev + a * step ≤ (from + a * pace) / parts) →
     departures step prev (times_in_row from pace parts (a + b)) ≡ times_in_row (prev + step) step 1 a
@@ -149,7 +149,7 @@ in_two_last step prev from pace parts a b some slow waits free =
     )
     (frees_last step (prev + a * step) (from + a * pace) pace parts b some slow free)
 
--- a row that is not empty leaves as it would after a byte that leaves no later than its first arrives
+-- A row that is not empty leaves as it would after a byte that leaves no later than the first byte of the row arrives.
 from_first : (step prev from pace parts n : ℕ) →
     departures step prev (times_in_row from pace parts (suc n)) ≡ departures step (max (from / parts) prev) (times_in_row from pace parts (suc n))
 unfolding departures times_in_row
@@ -166,7 +166,7 @@ pub no_bytes : (from pace parts n : ℕ) → times_in_row from pace parts (n - n
 unfolding times_in_row
 no_bytes from pace parts n = let e : n - n ≡ 0 = omega arith in rw e refl
 
--- all of a row that comes no slower than it leaves
+-- A row that arrives no slower than it leaves, leaves a step apart.
 pub fast_left : (step prev from pace parts n first : ℕ) (none : List ℕ) → 0 < n → 0 < parts → pace ≤ step * parts → first ≡ max (from / parts) prev →
     none ≡ [] →
     times_in_row (first + step) step 1 n ++ none ≡ departures step prev (times_in_row from pace parts n)
@@ -185,7 +185,7 @@ fast_last step prev from pace parts (suc n) first pos some fast e =
     rw e (sym (last_from_first step prev from pace parts n
     ∙ waits_last step (max (from / parts) prev) from pace parts (suc n) (waits_fast step (max (from / parts) prev) from pace parts (suc n) some fast here)))
 
--- all of one that comes no faster, by what its bytes gain on one another
+-- In a row that arrives no faster than it leaves, bytes wait until they have made up for the wait of the first byte.
 gained : (step prev from pace parts a : ℕ) → 0 < parts → step * parts ≤ pace → (prev + 1) * parts - from ≤ a * (pace - step * parts) →
     prev + a * step ≤ (from + a * pace) / parts
 gained step prev from pace parts a some slow enough =
@@ -227,7 +227,7 @@ pub slow_wait_last : (step prev from pace parts n : ℕ) → 0 < parts → step 
     prev + n * step ≡ last_left step prev (times_in_row from pace parts n)
 slow_wait_last step prev from pace parts n some slow room = sym (waits_last step prev from pace parts n (waits_gain step prev from pace parts n some slow room))
 
--- none of a row leaves later than if all had arrived at its end
+-- The last byte of a row leaves no later than if all had arrived at the end of the row.
 pub last_soon : (step prev from pace parts n latest : ℕ) → 0 < parts → from + n * pace ≤ latest * parts →
     last_left step prev (times_in_row from pace parts n) ≤ max latest prev + n * step
 unfolding last_left times_in_row

@@ -1,4 +1,4 @@
--- What bytes do to an excess that all find no room, or all find some.
+-- What bytes do to an excess if all find room, or if none finds room
 use Rattle.std.proofs.Common.{◌≡◌, ◌∙◌, sym, ℕ, zero, suc, ◌+◌, ◌/◌, max, true, false, List, [], ◌∷◌, ◌++◌, Option, Some, None, if◌then◌else◌, refl, ap, arith}
 use Rattle.std.proofs.Common.{append_assoc}
 use Rattle.std.proofs.lemmas.List.{append-nil}
@@ -25,7 +25,7 @@ ended-append step size prev under_way (t ∷ ts) us =
     ap (λ (es : List Excess). first ++ es) (ended-append step size (max t prev + step) (after_byte step size prev under_way t) ts us)
     ∙ sym (append_assoc first _ _)
 
--- with none under way bytes that find room change nothing
+-- If there is no current excess, bytes that find room change nothing.
 none_after : (step size prev : ℕ) (ts : List ℕ) → AreOver false step size prev ts → excess_after step size prev None ts ≡ None
 unfolding excess_after AreOver
 none_after step size prev [] room = refl
@@ -36,7 +36,7 @@ unfolding excesses_ended AreOver
 none_ended step size prev [] room = refl
 none_ended step size prev (t ∷ ts) room = rw room.0 (none_ended step size (max t prev + step) ts room.1)
 
--- the first of them ends it
+-- The first byte that finds room ends the current excess.
 pub room_after : (step size prev : ℕ) (under_way : Option Excess) (t : ℕ) (ts : List ℕ) → AreOver false step size prev (t ∷ ts) →
     excess_after step size prev under_way (t ∷ ts) ≡ None
 unfolding excess_after AreOver
@@ -48,7 +48,7 @@ unfolding excesses_ended AreOver
 room_ended step size prev under_way t ts room =
     rw (room.0, none_ended step size (max t prev + step) ts room.1) (append-nil (option_to_list under_way))
 
--- bytes that find none end nothing
+-- Bytes that find no room end no excess.
 pub over_ended : (step size prev : ℕ) (under_way : Option Excess) (ts : List ℕ) → AreOver true step size prev ts →
     excesses_ended step size prev under_way ts ≡ []
 unfolding excesses_ended AreOver
@@ -56,7 +56,7 @@ over_ended step size prev under_way [] over = refl
 over_ended step size prev under_way (t ∷ ts) over =
     rw over.0 (over_ended step size (max t prev + step) (Some (grown step size prev under_way t)) ts over.1)
 
--- one that is under way grows by them
+-- Bytes that find no room increase the current excess.
 grows : (step size prev begin peak : ℕ) (ts : List ℕ) → AreOver true step size prev ts →
     excess_after step size prev (Some (record { begin = begin; end = room_again step size prev; peak = peak })) ts
     ≡ Some (record { begin = begin; end = room_again step size (last_left step prev ts); peak = max peak (most_found step prev ts) })
@@ -84,7 +84,7 @@ grows_with step size prev e t ts over =
     rw over.0 (grows step size (max t prev + step) e.begin (max e.peak (found step prev t)) ts over.1
     ∙ ap (λ (n : ℕ). Some (record { begin = e.begin; end = room_again step size (last_left step (max t prev + step) ts); peak = n })) m)
 
--- so for the bytes of a row
+-- A row without bytes changes no excess, a row with room ends the excess, and a row without room begins or increases an excess.
 pub no_row_after : (step size prev : ℕ) (under_way : Option Excess) (from pace parts n : ℕ) → n ≡ 0 →
     under_way ≡ excess_after step size prev under_way (times_in_row from pace parts n)
 unfolding times_in_row excess_after
@@ -135,7 +135,7 @@ unfolding times_in_row
 row_grows step size prev e from pace parts zero some over = absurd (some refl)
 row_grows step size prev e from pace parts (suc n) some over = grows_with step size prev e (from / parts) (times_in_row (from + pace) pace parts n) over
 
--- of bytes in two parts
+-- The excess after two lists of bytes is the excess after both as one list.
 pub in_two_after : (step size prev last : ℕ) (under_way between : Option Excess) (ts us all : List ℕ) → ts ++ us ≡ all → last ≡ last_left step prev ts →
     between ≡ excess_after step size prev under_way ts → excess_after step size last between us ≡ excess_after step size prev under_way all
 in_two_after step size prev last under_way between ts us all e l b = rw (sym e, l, b) (sym (after-append step size prev under_way ts us))
@@ -145,7 +145,7 @@ pub in_two_ended : (step size prev last : ℕ) (under_way between : Option Exces
     excesses_ended step size prev under_way ts ++ excesses_ended step size last between us ≡ excesses_ended step size prev under_way all
 in_two_ended step size prev last under_way between ts us all e l b = rw (sym e, l, b) (sym (ended-append step size prev under_way ts us))
 
--- one of the parts ends none
+-- If the second list of bytes ends no excess, the first list ends all.
 pub first_ended : (es es' all : List Excess) → es ++ es' ≡ all → es' ≡ [] → es ≡ all
 first_ended es es' all e none = sym (append-nil es) ∙ rw none at e
 

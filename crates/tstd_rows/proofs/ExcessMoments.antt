@@ -35,10 +35,10 @@ lasts_either x (e ∷ es) es' (inr later) = elim (lasts_either x es es' later) [
   | inr right ↦ inr right
 ]
 
--- the excess under way has begun by then, and ends when there is room after the last byte
-Stands : ℕ → ℕ → ℕ → ℕ → Option Excess → Type 0
-Stands step size prev from None = Unit {0}
-Stands step size prev from (Some e) = (e.begin ≤ from) × (e.end ≡ room_again step size prev)
+-- The current excess has begun by then, and it ends when there is room after the last byte.
+IsOpenExcess : ℕ → ℕ → ℕ → ℕ → Option Excess → Type 0
+IsOpenExcess step size prev from None = Unit {0}
+IsOpenExcess step size prev from (Some e) = (e.begin ≤ from) × (e.end ≡ room_again step size prev)
 
 size_sum : (size step : ℕ) → 0 < size → (size - 1) * step + step ≡ size * step
 size_sum size step some =
@@ -49,7 +49,7 @@ size_sum size step some =
 some_step : (size step : ℕ) → 0 < size → step ≤ size * step
 some_step size step some = omega (arith, size_sum size step some)
 
--- levels and sizes
+-- If the level exceeds the size, the last byte leaves more than `size` steps later.
 over_level : (step size prev x : ℕ) → 0 < step → 0 < size → size < level step (prev - x) → x + size * step < prev
 over_level step size prev x pos some less = elim (cases_lt (x + size * step) prev) [
   | inl is ↦ is
@@ -76,14 +76,14 @@ over_is step size prev t pos some over = elim (cases_lt t (room_again step size 
     true_not_false : {b : Bool} → b ≡ true → b ≡ false → ⊥
     true_not_false e f = cc
 
--- a byte that arrives by then is over, where so many are there
+-- A byte that has arrived finds no room, if the buffer then holds more bytes than its size.
 over_then : (step size prev t x : ℕ) → 0 < step → 0 < size → t ≤ x → size < level step ((max t prev + step) - x) → is_over step size prev t ≡ true
 over_then step size prev t x pos some come less =
     let late = over_level step size (max t prev + step) x pos some less in
     let more : size * step ≤ (prev - t) + (step - 1) = omega (arith, late, come, some_step size step some) in
     lt-ltb size (found step prev t) (omega (arith, le-div size ((prev - t) + (step - 1)) step pos more))
 
--- all excesses from there on
+-- The excesses that these bytes end, and the current excess after them
 abbrev all_from : ℕ → ℕ → ℕ → Option Excess → List ℕ → List Excess
 all_from step size prev under_way ts = excesses_ended step size prev under_way ts ++ option_to_list (excess_after step size prev under_way ts)
 
@@ -97,11 +97,11 @@ all_room : (step size prev t : ℕ) (under_way : Option Excess) (ts : List ℕ) 
 unfolding excesses_ended excess_after
 all_room step size prev t under_way ts e = rw e (append_assoc (option_to_list under_way) _ _)
 
-stands_grown : (step size prev from t : ℕ) (under_way : Option Excess) → Stands step size prev from under_way → from ≤ t →
-    Stands step size (max t prev + step) t (Some (grown step size prev under_way t))
-unfolding Stands grown
-stands_grown step size prev from t None stands le = (omega arith, refl)
-stands_grown step size prev from t (Some e) stands le = (omega (arith, stands.0, le), refl)
+open_grown : (step size prev from t : ℕ) (under_way : Option Excess) → IsOpenExcess step size prev from under_way → from ≤ t →
+    IsOpenExcess step size (max t prev + step) t (Some (grown step size prev under_way t))
+unfolding IsOpenExcess grown
+open_grown step size prev from t None is_open le = (omega arith, refl)
+open_grown step size prev from t (Some e) is_open le = (omega (arith, is_open.0, le), refl)
 
 grown_begin : (step size prev : ℕ) (e : Excess) (t : ℕ) → (grown step size prev (Some e) t).begin ≡ e.begin
 unfolding grown
@@ -120,7 +120,7 @@ all_none : (step size prev : ℕ) (under_way : Option Excess) → all_from step 
 unfolding excesses_ended excess_after
 all_none step size prev under_way = refl
 
--- one that lasts is there at the end too
+-- If the current excess lasts at x, an excess of the list lasts at x.
 keeps : (step size prev x : ℕ) (e : Excess) (ts : List ℕ) → e.end ≡ room_again step size prev → e.begin ≤ x → x < e.end →
     OneLasts x (all_from step size prev (Some e) ts)
 keeps step size prev x e [] ends begun lasts = rw (all_none step size prev (Some e)) (lasts_one x e [] begun lasts)
@@ -132,43 +132,44 @@ keeps step size prev x e (t ∷ ts) ends begun lasts = elim (cases_Bool (is_over
   | inr room ↦ rw (all_room step size prev t (Some e) ts room) (lasts_one x e (all_from step size (max t prev + step) None ts) begun lasts)
 ]
 
--- there is one under way
+-- Whether there is a current excess
 IsUnderWay : Option Excess → Type 0
 IsUnderWay None = ⊥
 IsUnderWay (Some e) = Unit {0}
 
--- one that is under way lasts while it has begun and there is no room
-stands_keeps : (step size prev from x : ℕ) (under_way : Option Excess) (ts : List ℕ) → Stands step size prev from under_way → IsUnderWay under_way → from ≤ x →
+-- A current excess lasts at any later moment before there is room again.
+open_keeps : (step size prev from x : ℕ) (under_way : Option Excess) (ts : List ℕ) → IsOpenExcess step size prev from under_way → IsUnderWay under_way →
+    from ≤ x →
     x < room_again step size prev →
     OneLasts x (all_from step size prev under_way ts)
-unfolding Stands IsUnderWay
-stands_keeps step size prev from x None ts stands is le less = absurd is
-stands_keeps step size prev from x (Some e) ts stands is le less =
-    keeps step size prev x e ts stands.1 (omega (arith, stands.0, le)) (omega (arith, stands.1, less))
+unfolding IsOpenExcess IsUnderWay
+open_keeps step size prev from x None ts is_open is le less = absurd is
+open_keeps step size prev from x (Some e) ts is_open is le less =
+    keeps step size prev x e ts is_open.1 (omega (arith, is_open.0, le)) (omega (arith, is_open.1, less))
 
 under_way_some : (e : Excess) → IsUnderWay (Some e)
 unfolding IsUnderWay
 under_way_some e = tt
 
-stands_none : (step size prev from : ℕ) → Stands step size prev from None
-unfolding Stands
-stands_none step size prev from = tt
+open_none : (step size prev from : ℕ) → IsOpenExcess step size prev from None
+unfolding IsOpenExcess
+open_none step size prev from = tt
 
--- where the buffer holds too many
-too_many : (step size : ℕ) → 0 < step → 0 < size → (ts : List ℕ) (prev from x : ℕ) (under_way : Option Excess) → Stands step size prev from under_way →
+-- If the buffer holds too many bytes, an excess lasts.
+too_many : (step size : ℕ) → 0 < step → 0 < size → (ts : List ℕ) (prev from x : ℕ) (under_way : Option Excess) → IsOpenExcess step size prev from under_way →
     Rises from ts → from ≤ x →
     (size < level step (prev - x) → IsUnderWay under_way) → size < fullness x ts (departures step prev ts) + level step (prev - x) →
     OneLasts x (all_from step size prev under_way ts)
 unfolding Rises fullness departures
-too_many step size pos some [] prev from x under_way stands rises le is less =
+too_many step size pos some [] prev from x under_way is_open rises le is less =
     let here : size < level step (prev - x) = omega (arith, less) in
-    stands_keeps step size prev from x under_way [] stands (is here) le (omega (arith, over_level step size prev x pos some here, size_sum size step some))
-too_many step size pos some (t ∷ ts) prev from x under_way stands rises le is less = elim (cases_lt x t) [
+    open_keeps step size prev from x under_way [] is_open (is here) le (omega (arith, over_level step size prev x pos some here, size_sum size step some))
+too_many step size pos some (t ∷ ts) prev from x under_way is_open rises le is less = elim (cases_lt x t) [
   | inl before ↦
       let all : All (λ s. x < s) (t ∷ ts) = All-cons (λ s. x < s) t ts before (rises_after x t ts before rises.1) in
       let none = fullness_before x (t ∷ ts) (departures step prev (t ∷ ts)) all in
       let here : size < level step (prev - x) = omega (arith, less, none) in
-      stands_keeps step size prev from x under_way (t ∷ ts) stands (is here) le
+      open_keeps step size prev from x under_way (t ∷ ts) is_open (is here) le
       (omega (arith, over_level step size prev x pos some here, size_sum size step some))
   | inr come ↦
       let next : size < fullness x ts (departures step (max t prev + step) ts) + level step ((max t prev + step) - x) =
@@ -177,12 +178,12 @@ too_many step size pos some (t ∷ ts) prev from x under_way stands rises le is 
         | inl over ↦
             rw (all_over step size prev t under_way ts over)
             (too_many step size pos some ts (max t prev + step) t x (Some (grown step size prev under_way t))
-            (stands_grown step size prev from t under_way stands rises.0) rises.1 come
+            (open_grown step size prev from t under_way is_open rises.0) rises.1 come
             (λ h. under_way_some (grown step size prev under_way t)) next)
         | inr room ↦
             rw (all_room step size prev t under_way ts room)
             (lasts_right x (option_to_list under_way) (all_from step size (max t prev + step) None ts)
-            (too_many step size pos some ts (max t prev + step) t x None (stands_none step size (max t prev + step) t) rises.1 come
+            (too_many step size pos some ts (max t prev + step) t x None (open_none step size (max t prev + step) t) rises.1 come
             (λ h. absurd (true_not_false (over_then step size prev t x pos some come h) room)) next))
       ]
 ]
@@ -194,17 +195,17 @@ pub over_law : OverLaw
 over_law step size ts x pos some rises less =
     let z : 0 - x ≡ 0 = omega arith in
     let none : level step (0 - x) ≡ 0 = rw z (level_none step pos) in
-    too_many step size pos some ts 0 0 x None (stands_none step size 0 0) rises (omega arith) (λ h. absurd (omega (arith, h, none))) (omega (arith, less, none))
+    too_many step size pos some ts 0 0 x None (open_none step size 0 0) rises (omega arith) (λ h. absurd (omega (arith, h, none))) (omega (arith, less, none))
 
--- where one lasts there is no room
-stands_full : (step size prev from x : ℕ) (under_way : Option Excess) → 0 < step → 0 < size → Stands step size prev from under_way →
+-- If an excess lasts, there is no room.
+open_full : (step size prev from x : ℕ) (under_way : Option Excess) → 0 < step → 0 < size → IsOpenExcess step size prev from under_way →
     OneLasts x (option_to_list under_way) → size ≤ level step (prev - x)
-unfolding Stands OneLasts
-stands_full step size prev from x None pos some stands one = absurd one
-stands_full step size prev from x (Some e) pos some stands (inl lasts) = full_level step size prev x pos some (omega (arith, lasts.1, stands.1))
-stands_full step size prev from x (Some e) pos some stands (inr none) = absurd none
+unfolding IsOpenExcess OneLasts
+open_full step size prev from x None pos some is_open one = absurd one
+open_full step size prev from x (Some e) pos some is_open (inl lasts) = full_level step size prev x pos some (omega (arith, lasts.1, is_open.1))
+open_full step size prev from x (Some e) pos some is_open (inr none) = absurd none
 
--- the excess under way begins later
+-- Whether the current excess, if any, begins after x
 Later : ℕ → Option Excess → Type 0
 Later x None = Unit {0}
 Later x (Some e) = x < e.begin
@@ -224,7 +225,7 @@ later_lasts x None later one = absurd one
 later_lasts x (Some e) later (inl lasts) = omega (arith, later, lasts.0)
 later_lasts x (Some e) later (inr none) = absurd none
 
--- so do all excesses of bytes that arrive later
+-- No excess of bytes that arrive after x lasts at x.
 none_lasts : (step size x : ℕ) (ts : List ℕ) (prev : ℕ) (under_way : Option Excess) → Later x under_way → All (λ t. x < t) ts →
     OneLasts x (all_from step size prev under_way ts) → ⊥
 none_lasts step size x [] prev under_way later all one = later_lasts x under_way later (rw (all_none step size prev under_way) at one)
@@ -240,30 +241,30 @@ none_lasts step size x (t ∷ ts) prev under_way later all one = elim (cases_Boo
       ]
 ]
 
-no_room : (step size : ℕ) → 0 < step → 0 < size → (ts : List ℕ) (prev from x : ℕ) (under_way : Option Excess) → Stands step size prev from under_way →
+no_room : (step size : ℕ) → 0 < step → 0 < size → (ts : List ℕ) (prev from x : ℕ) (under_way : Option Excess) → IsOpenExcess step size prev from under_way →
     Rises from ts → from ≤ x →
     OneLasts x (all_from step size prev under_way ts) → size ≤ fullness x ts (departures step prev ts) + level step (prev - x)
 unfolding Rises fullness departures
-no_room step size pos some [] prev from x under_way stands rises le one =
-    omega (arith, stands_full step size prev from x under_way pos some stands (rw (all_none step size prev under_way) at one))
-no_room step size pos some (t ∷ ts) prev from x under_way stands rises le one = elim (cases_Bool (is_over step size prev t)) [
+no_room step size pos some [] prev from x under_way is_open rises le one =
+    omega (arith, open_full step size prev from x under_way pos some is_open (rw (all_none step size prev under_way) at one))
+no_room step size pos some (t ∷ ts) prev from x under_way is_open rises le one = elim (cases_Bool (is_over step size prev t)) [
   | inl over ↦ elim (cases_lt x t) [
     | inl before ↦
         let full = full_level step size prev x pos some (omega (arith, over_is step size prev t pos some over, before)) in
         omega (arith, full)
     | inr come ↦
         let rest = no_room step size pos some ts (max t prev + step) t x (Some (grown step size prev under_way t))
-        (stands_grown step size prev from t under_way stands rises.0) rises.1 come
+        (open_grown step size prev from t under_way is_open rises.0) rises.1 come
         (rw (all_over step size prev t under_way ts over) at one) in
         omega (arith, rest, one_in step x t prev pos come)
   ]
   | inr room ↦ elim
       (lasts_either x (option_to_list under_way) (all_from step size (max t prev + step) None ts) (rw (all_room step size prev t under_way ts room) at one)) [
-        | inl first ↦ omega (arith, stands_full step size prev from x under_way pos some stands first)
+        | inl first ↦ omega (arith, open_full step size prev from x under_way pos some is_open first)
         | inr rest ↦ elim (cases_lt x t) [
           | inl before ↦ absurd (none_lasts step size x ts (max t prev + step) None (later_none x) (rises_after x t ts before rises.1) rest)
           | inr come ↦
-              let full = no_room step size pos some ts (max t prev + step) t x None (stands_none step size (max t prev + step) t) rises.1 come rest in
+              let full = no_room step size pos some ts (max t prev + step) t x None (open_none step size (max t prev + step) t) rises.1 come rest in
               omega (arith, full, one_in step x t prev pos come)
         ]
       ]
@@ -273,4 +274,4 @@ pub full_law : FullLaw
 full_law step size ts x pos some rises one =
     let z : 0 - x ≡ 0 = omega arith in
     let none : level step (0 - x) ≡ 0 = rw z (level_none step pos) in
-    omega (arith, no_room step size pos some ts 0 0 x None (stands_none step size 0 0) rises (omega arith) one, none)
+    omega (arith, no_room step size pos some ts 0 0 x None (open_none step size 0 0) rises (omega arith) one, none)

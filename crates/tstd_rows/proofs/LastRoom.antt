@@ -1,4 +1,4 @@
--- The current unit waits: with the last of the units that wait, or after them.
+-- The current unit waits: joined to the last unit that waits, or after it
 use Rattle.std.proofs.Common.{◌≡◌, ◌∙◌, sym, ℕ, zero, suc, ◌+◌, ◌-◌, ◌<◌, ◌≤◌, Bool, true, false, if◌then◌else◌, List, [], ◌∷◌, ◌++◌, length, replicate, take}
 use Rattle.std.proofs.Common.{append_assoc, slice_index_or, slice_set, refl, ap, ap₂, arith}
 use Rattle.std.proofs.lemmas.List.{append-nil, length-append, length-replicate, replicate-append-replicate}
@@ -23,7 +23,7 @@ last_set [] i v len = absurd (omega (arith, len))
 last_set (x ∷ us) zero v len = ap (λ (vs : List BufferedUnit). v ∷ vs) (no_more us (omega (arith, len)))
 last_set (x ∷ us) (suc i) v len = ap (λ (vs : List BufferedUnit). x ∷ vs) (last_set us i v (omega (arith, len)))
 
--- a unit that is written as it was
+-- A unit that is written back unchanged leaves the list unchanged.
 pub same_set : (items : List BufferedUnit) (n : ℕ) (u : BufferedUnit) → n ≡ length items → 0 < length items → u ≡ slice_index_or items (n - 1) u →
     slice_set items (n - 1) u ≡ items
 same_set items n u is some last =
@@ -44,7 +44,7 @@ only_one u = append-nil (replicate u.bytes u.until)
 in_order : (f w x y : List ℕ) → f ++ ((w ++ x) ++ y) ≡ (f ++ w) ++ (x ++ y)
 in_order f w x y = ap (λ (l : List ℕ). f ++ l) (append_assoc w x y) ∙ sym (append_assoc f w (x ++ y))
 
--- units that wait, the last of them, and the current unit
+-- The rooms of the last unit that waits come just before the rooms of the current unit.
 split_last : (free : ℕ) (front : List BufferedUnit) (u current : BufferedUnit) →
     rooms_in free (front ++ u ∷ []) current ≡ (replicate free 0 ++ rooms_waiting front) ++ (replicate u.bytes u.until ++ replicate current.bytes current.until)
 split_last free front u current =
@@ -58,7 +58,7 @@ more u n = record { until = u.until; bytes = u.bytes + n }
 abbrev emptied : BufferedUnit → BufferedUnit
 emptied current = record { until = current.until; bytes = 0 }
 
--- 2. With the last of them
+-- 2. The current unit is joined to the last unit that waits
 
 joins_last : (from free : ℕ) (front : List BufferedUnit) (u current : BufferedUnit) → current.until ≤ u.until → 0 < u.bytes →
     raised from (rooms_in free (front ++ more u current.bytes ∷ []) (emptied current)) ≡ raised from (rooms_in free (front ++ u ∷ []) current)
@@ -123,7 +123,7 @@ both_fit free n most items u current is some last fits =
     let all = ap (λ (us : List BufferedUnit). length (rooms_waiting us)) (ends_in items (n - 1) u len last) in
     omega (arith, fits, count_in free items current, all, count_last (take (n - 1) items) u)
 
--- 3. After them
+-- 3. The current unit is added after the units that wait
 
 last_rooms : (free : ℕ) (items : List BufferedUnit) (current : BufferedUnit) →
     rooms_in free (items ++ current ∷ []) (emptied current) ≡ rooms_in free items current
@@ -136,7 +136,7 @@ pub after_them : (free : ℕ) (items items' : List BufferedUnit) (current : Buff
     rooms_in free items' (emptied current) ≡ rooms_in free items current
 after_them free items items' current is = ap (λ (us : List BufferedUnit). rooms_in free us (emptied current)) is ∙ last_rooms free items current
 
--- or memory has run out, and its bytes are dropped
+-- If memory has run out, the bytes of the current unit are dropped.
 pub last_fits : (free most : ℕ) (items items' : List BufferedUnit) (current : BufferedUnit) (done : Bool) →
     items' ≡ (if done then items ++ current ∷ [] else items) →
     length (rooms_in free items current) < most → length (rooms_in free items' (emptied current)) < most
@@ -147,7 +147,7 @@ last_fits free most items items' current false is fits =
     let same = ap (λ (us : List BufferedUnit). length (rooms_in free us (emptied current))) is in
     omega (arith, fits, same, count_in free items (emptied current), count_in free items current)
 
--- or it has no byte
+-- A current unit without bytes adds nothing.
 pub none_comes : (free : ℕ) (items items' : List BufferedUnit) (current : BufferedUnit) → items' ≡ items → current.bytes ≤ 0 →
     rooms_in free items' (emptied current) ≡ rooms_in free items current
 none_comes free items items' current is none =

@@ -1,4 +1,4 @@
--- The time that a byte takes to leave a multiplexing buffer.
+-- The time that a byte takes to leave a multiplexing buffer
 use Rattle.std.proofs.Common.{ℕ, ◌+◌, ◌-◌, ◌*◌, ◌/◌, ◌^◌, ◌<◌, ◌≤◌, arith}
 use Rattle.std.proofs.Math.Nat.{div-le_of_le-mul, le-div_iff_mul-le, mul-le-mul, mul-pos}
 use Rattle.tstd_rows.specs.VideoViewed.{leak_step}

@@ -1,4 +1,4 @@
--- The least that bytes find in a main buffer, piece by piece.
+-- The fewest bytes that a byte finds in a main buffer, piece by piece
 use Rattle.std.proofs.Common.{◌≡◌, ◌∙◌, sym, ℕ, suc, ◌+◌, ◌-◌, ◌*◌, ◌/◌, ◌≤◌, ◌<◌, min, max, List, [], ◌∷◌, ◌++◌, length, Option, Some, None, refl, ap, inl}
 use Rattle.std.proofs.Common.{inr, arith, All}
 use Rattle.std.proofs.Math.Nat.{le_trans}
@@ -14,9 +14,9 @@ use Rattle.tstd_rows.specs.Least.{lesser, least_found}
 use Rattle.tstd_rows.proofs.RowEntries.{entered_one, one_entered, row_next}
 use Rattle.tstd_rows.proofs.Pieces.{late_ones, none_stays, row_of_none}
 
--- ---- lists
+-- Lists of times
 
--- the later of times that rise
+-- The later times of a list that rises also rise.
 pub rises_later : (from : ℕ) (ts us : List ℕ) → Rises from (ts ++ us) → Rises from us
 unfolding Rises
 rises_later from [] us rises = rises
@@ -27,7 +27,7 @@ rises_later from (t ∷ []) us rises = low from t us rises.0 rises.1
     low from t (u ∷ us) le rises = (le_trans le rises.0, rises.1)
 rises_later from (t ∷ s ∷ ts) us rises = rises_later from (s ∷ ts) us (le_trans rises.0 rises.1.0, rises.1.1)
 
--- the last byte of a row
+-- From the last byte on, a row is the last byte alone.
 pub row_last : (row : Row) → 0 < row.bytes → times_of (other_bytes row (row.bytes - 1)) ≡ (row.from + (row.bytes - 1) * row.pace) / row.parts ∷ []
 unfolding times_in_row
 row_last row some =
@@ -35,9 +35,9 @@ row_last row some =
     let none : row.bytes - (row.bytes - 1 + 1) ≡ 0 = omega (arith, some) in
     rw none at next
 
--- ---- the least of more bytes
+-- The least number found by further bytes
 
--- where k bytes more of the unit are there already
+-- If k bytes of the unit are in the buffer already, the counting starts at k.
 pub found_shift : (before after : ℕ → ℕ) (until k n from : ℕ) (least : Option ℕ) (ts : List ℕ) → Rises from ts →
     ((x : ℕ) → from ≤ x → after x ≡ before x + k * one_buffered until x) →
     least_found after until n least ts ≡ least_found before until (k + n) least ts
@@ -58,7 +58,7 @@ found-append before until n least (t ∷ ts) us =
     let e : n + 1 + length ts ≡ n + suc (length ts) = omega arith in
     rw e at (found-append before until (n + 1) (lesser least (before t + n * one_buffered until t)) ts us)
 
--- a byte more before the others
+-- The first byte of a row finds the bytes before it, and the later bytes find it too.
 pub found_first : (before after : ℕ → ℕ) (until t : ℕ) (least : Option ℕ) (found : ℕ) (ts : List ℕ) → Rises t ts → found ≡ before t →
     ((x : ℕ) → t ≤ x → after x ≡ before x + one_buffered until x) →
     least_found after until 0 (lesser least found) ts ≡ least_found before until 0 least (t ∷ ts)
@@ -68,18 +68,18 @@ found_first before after until t least found ts rises is there =
     found_shift before after until 1 0 t (lesser least found) ts rises (λ x le. omega (arith, there x le))
     ∙ ap (λ (f : ℕ). least_found before until 1 (lesser least f) ts) here
 
--- what is not less than one so far changes nothing
+-- A number that is not less than the least so far leaves it unchanged.
 no_less : (least : Option ℕ) (m n : ℕ) → n ≤ m → lesser (lesser least m) n ≡ lesser least n
 unfolding lesser
 no_less None m n le = let e : min m n ≡ n = omega (arith, le) in ap Some e
 no_less (Some l) m n le = let e : min (min l m) n ≡ min l n = omega (arith, le) in ap Some e
 
--- ---- bytes that come too late
+-- Bytes that arrive after the removal of their unit
 
 gone : (until x : ℕ) → until ≤ x → one_buffered until x ≡ 0
 gone until x le = rw (le-ltb x until le) refl
 
--- the last of them finds the least
+-- The last byte of the row finds the fewest bytes.
 late_found : (after : ℕ → ℕ) (until n t u : ℕ) (least : Option ℕ) (ss : List ℕ) → until ≤ t → Rises t (ss ++ u ∷ []) →
     ((x y : ℕ) → x ≤ y → after y ≤ after x) → least_found after until n least (ss ++ u ∷ []) ≡ lesser least (after u)
 unfolding Rises least_found
@@ -99,7 +99,7 @@ rises_one : (t u : ℕ) → Rises t (u ∷ []) → t ≤ u
 unfolding Rises
 rises_one t u rises = rises.0
 
--- so the last one stands for all
+-- It suffices to test the last byte of the row.
 pub late_least : (after : ℕ → ℕ) (until t : ℕ) (least : Option ℕ) (row others : Row) (ss : List ℕ) → until ≤ t → Rises t (times_of row) →
     ((x y : ℕ) → x ≤ y → after y ≤ after x) → others ≡ other_bytes row (row.bytes - 1) → ss ++ times_of others ≡ times_of row →
     least_found after until 0 least (times_of others) ≡ least_found after until 0 least (times_of row)
@@ -120,7 +120,7 @@ late_least after until t least row others ss late rises falls is both = elim (ca
       ap (least_found after until 0 least) all
 ]
 
--- and makes no more
+-- Bytes after the removal of their unit do not raise the most.
 pub late_peak : (before after : ℕ → ℕ) (until peak peak' t : ℕ) (ts us : List ℕ) → until ≤ t → Rises t ts → Rises t us →
     ((x y : ℕ) → x ≤ y → after y ≤ after x) → ((x : ℕ) → t ≤ x → after x ≡ before x + one_buffered until x) →
     peak' ≡ max peak (before t + one_buffered until t) →
@@ -137,14 +137,14 @@ pub late_there : (before after : ℕ → ℕ) (until t x : ℕ) (ts us : List �
 late_there before after until t x ts us late le there =
     omega (arith, there x le, one_entered until x t ts le, none_stays until x ts (omega (arith, late, le)), none_stays until x us (omega (arith, late, le)))
 
--- ---- bytes that enter together
+-- Bytes that enter while no byte leaves
 
 pub bounded_least : (least : Option ℕ) (n : ℕ) → (m : ℕ) × (lesser least n ≡ Some m) × (m ≤ n)
 unfolding lesser
 bounded_least None n = (n, refl, omega arith)
 bounded_least (Some l) n = (min l n, refl, omega arith)
 
--- while none leaves none finds less than the first
+-- While no byte leaves, no byte finds fewer than the first byte finds.
 together_found : (after : ℕ → ℕ) (until limit now n m : ℕ) (ts us : List ℕ) → m ≤ now → ((x : ℕ) → x < limit → after x ≡ now) → All (λ s. s < limit) ts →
     least_found after until n (Some m) (ts ++ us) ≡ least_found after until (n + length ts) (Some m) us
 unfolding least_found lesser
@@ -173,7 +173,7 @@ piece_least before after after' until limit now t least found ts us rises early 
     ∙ ap (λ (l : Option ℕ). least_found after until 0 l (ts ++ us)) (sym b.1)
     ∙ found_first before after until t least found (ts ++ us) rises is there
 
--- none is left
+-- No byte remains.
 pub least_end : (before : ℕ → ℕ) (until : ℕ) (least most : Option ℕ) (ts : List ℕ) → ts ≡ [] → least_found before until 0 least ts ≡ most → least ≡ most
 unfolding least_found
 least_end before until least most [] e is = is

@@ -1,4 +1,4 @@
--- Bytes that enter a main buffer in two rows.
+-- Bytes that enter a main buffer in two rows
 use Rattle.std.proofs.Common.{◌≡◌, ◌∙◌, sym, ℕ, suc, ◌+◌, ◌≤◌, ◌<◌, max, List, [], ◌∷◌, ◌++◌, length, Option, None, refl, ap, arith, All}
 use Rattle.std.proofs.lemmas.List.Elements.{All-nil, All-cons, All-head, All-weaker}
 use Rattle.clock27.specs.Peak.{Climbs, greatest_at}
@@ -15,13 +15,13 @@ unfolding greatest_at
 greatest_at-append f [] us = omega arith
 greatest_at-append f (t ∷ ts) us = omega (arith, greatest_at-append f ts us)
 
--- times that climb rise
+-- Times that climb also rise.
 pub climbs_rises : (from : ℕ) (ts : List ℕ) → Climbs from ts → Rises from ts
 unfolding Climbs Rises
 climbs_rises from [] climbs = tt
 climbs_rises from (t ∷ ts) climbs = (climbs.0, climbs_rises t ts (climbs_low t (suc t) ts (omega arith) climbs.1))
 
--- the later of times that climb, and the first of these comes after all before
+-- The later times of a list that climbs also climb, and the first of them is later than all times before it.
 climbs_later : (from : ℕ) (ts us : List ℕ) → Climbs from (ts ++ us) → Climbs from us
 unfolding Climbs
 climbs_later from [] us climbs = climbs
@@ -40,7 +40,7 @@ all_by from u (t ∷ ts) us climbs =
     let here : t < u = All-head (λ s. t < s) u us later in
     All-cons (λ t. t ≤ u) t ts (omega (arith, here)) (all_by (suc t) u ts us climbs.1)
 
--- at the first ones nothing of the later ones has entered
+-- At the times of the first row, no byte of the second row has entered.
 first_same : (before : ℕ → ℕ) (until from : ℕ) (ts us : List ℕ) → Climbs from (ts ++ us) →
     greatest_at (λ x. before x + entered until x us) ts ≡ greatest_at before ts
 unfolding Climbs greatest_at
@@ -50,7 +50,7 @@ first_same before until from (t ∷ ts) us climbs =
     let none = none_entered until t us (suc t) (omega arith) (climbs_rises (suc t) us later) in
     omega (arith, none, first_same before until (suc t) ts us climbs.1)
 
--- and at the later ones all of the first have
+-- At the times of the second row, all bytes of the first row have entered.
 later_same : (before middle : ℕ → ℕ) (until from : ℕ) (ts us vs : List ℕ) → Climbs from (ts ++ us) →
     ((x : ℕ) → All (λ t. t ≤ x) ts → middle x ≡ before x + entered until x ts) →
     greatest_at (λ x. middle x + entered until x vs) us ≡ greatest_at (λ x. before x + entered until x (ts ++ vs)) us
@@ -60,7 +60,7 @@ later_same before middle until from ts (u ∷ us) vs climbs there =
     let here = there u (all_by from u ts us climbs) in
     omega (arith, here, entered-append until u ts vs, later_same before middle until from ts us vs (climbs_without from u ts us climbs) there)
 
--- the most at the entry of one of them
+-- The most bytes at the entries of two rows are the most at the entries of both as one row.
 pub most_of_two : (before middle : ℕ → ℕ) (until from : ℕ) (ts us : List ℕ) → Climbs from (ts ++ us) →
     ((x : ℕ) → All (λ t. t ≤ x) ts → middle x ≡ before x + entered until x ts) →
     max (max 0 (greatest_at (λ x. before x + entered until x ts) ts)) (greatest_at (λ x. middle x + entered until x us) us)
@@ -80,7 +80,7 @@ most_of_two before middle until from ts us climbs there =
         (λ x. omega (arith, entered-append until x ts us))
         ∙ first_same (λ x. before x + entered until x ts) until from ts us climbs
 
--- and the least that one of them finds
+-- The fewest bytes that the bytes of two rows find are the fewest for both as one row.
 pub least_of_two : (before middle : ℕ → ℕ) (until from : ℕ) (ts us : List ℕ) → Climbs from (ts ++ us) →
     ((x : ℕ) → All (λ t. t ≤ x) ts → middle x ≡ before x + entered until x ts) →
     least_found middle until 0 (least_found before until 0 None ts) us ≡ least_found before until 0 None (ts ++ us)

@@ -1,4 +1,4 @@
--- What the state of a buffer says of its fullness.
+-- What the state of a buffer says about its fullness
 use Rattle.std.proofs.Common.{◌≡◌, ℕ, ◌+◌, ◌-◌, ◌*◌, ◌/◌, ◌<◌, ◌≤◌, max, cond, List, [], ◌∷◌, ◌++◌, length, refl, inl, inr, arith, All}
 use Rattle.std.proofs.Math.Nat.{mul-le-mul_right, lt-mul-div-succ, div-eq_of_lt, add-div_right}
 use Rattle.std.proofs.lemmas.Bool.{cases_lt}
@@ -25,7 +25,7 @@ entered_law buffer ts us =
     let bytes : buffer.bytes + length ts + length us ≡ buffer.bytes + length (ts ++ us) = omega (arith, length-append ts us) in
     rw (last, most, bytes) refl
 
--- the bytes that leave in that time, the last of them included
+-- The number of bytes that leave in that time, including the last
 abbrev pub level : ℕ → ℕ → ℕ
 level step time = (time + (step - 1)) / step
 
@@ -44,7 +44,7 @@ level_one step time some le =
     let z : (time - 1) / step ≡ 0 = div-eq_of_lt (omega arith) in
     rw e (omega (arith, add-div_right (time - 1) pos, z))
 
--- at a moment no earlier than a byte's arrival it is one more of those that leave later, or none of them does
+-- At a moment at or after a byte's arrival, the byte adds one to the level if it is in the buffer.
 pub one_in : (step x t prev : ℕ) → 0 < step → t ≤ x →
     (let n : ℕ = cond (is_in_buffer x t (max t prev + step)) 1 0 in n) + level step (prev - x) ≡ level step ((max t prev + step) - x)
 one_in step x t prev pos come = elim (counted_one x t (max t prev + step)) [
@@ -67,7 +67,7 @@ one_in step x t prev pos come = elim (counted_one x t (max t prev + step)) [
   ]
 ]
 
--- so for all that have arrived, and those that were there before them
+-- The number of bytes in the buffer and the level of the bytes before them add up to the level after all bytes.
 levels : (step x prev : ℕ) (ts : List ℕ) → 0 < step → All (λ t. t ≤ x) ts →
     fullness x ts (departures step prev ts) + level step (prev - x) ≡ level step (last_left step prev ts - x)
 unfolding fullness departures last_left
@@ -81,7 +81,7 @@ level_law step x ts pos all =
     let all_of : fullness x ts (departures step 0 ts) + level step (0 - x) ≡ level step (last_left step 0 ts - x) = levels step x 0 ts pos all in
     omega (arith, rw e at all_of, level_none step pos)
 
--- a byte that arrives at t leaves after those that it finds
+-- A byte that arrives at t adds one to the level that it finds.
 pub level_after : (step t prev : ℕ) → 0 < step → level step ((max t prev + step) - t) ≡ level step (prev - t) + 1
 level_after step t prev pos =
     let e : (max t prev + step) - t ≡ (prev - t) + step = omega arith in
@@ -94,13 +94,13 @@ rises_after x from (t ∷ ts) lt rises =
     let here : x < t = omega (arith, rises.0) in
     All-cons (λ t. x < t) t ts here (rises_after x t ts here rises.1)
 
--- the most is found at some arrival
+-- The most bytes are found at an arrival.
 record Found (step prev from most : ℕ) (ts : List ℕ) : Type 0 where
   at : ℕ
   after : from ≤ at
   is : level step (prev - at) + fullness at ts (departures step prev ts) ≡ most
 
--- where the next byte finds no more than this one, it arrives later
+-- If the next byte finds no more bytes than this one, it arrives later.
 next_later : (step t u prev : ℕ) (ts : List ℕ) → 0 < step → t ≤ u → most_found step (max t prev + step) (u ∷ ts) ≤ found step prev t → t < u
 unfolding most_found
 next_later step t u prev ts pos le few = elim (cases_lt t u) [
@@ -130,7 +130,7 @@ most_reached step pos t (u ∷ ts) prev from rises = elim (cases_lt (found step 
       record { at = t; after = rises.0; is = omega (arith, one_in step t t prev pos same, level_after step t prev pos, none) }
 ]
 
--- and no byte stays longer than so many take to leave
+-- No byte stays longer than the greatest number of bytes found takes to leave.
 most_stays : (step : ℕ) → 0 < step → (most : ℕ) (ts : List ℕ) (prev : ℕ) → most_found step prev ts ≤ most → Stays (most * step) ts (departures step prev ts)
 unfolding Stays departures most_found
 most_stays step pos most [] prev le = tt

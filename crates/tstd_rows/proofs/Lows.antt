@@ -1,4 +1,4 @@
--- The least that the bytes of a part of a stream find in the main buffer is its least fullness meanwhile.
+-- The fewest bytes that the bytes of a part of a stream find in the main buffer are its least fullness during this part.
 use Rattle.std.proofs.Common.{◌≡◌, sym, ℕ, zero, suc, ◌+◌, ◌*◌, ◌≤◌, ◌<◌, min, ◌⊎◌, List, [], ◌∷◌, ◌++◌, length, Option, Some, None, refl, ap, inl, inr, arith}
 use Rattle.std.proofs.Common.{All}
 use Rattle.std.proofs.Math.Nat.{le_trans}
@@ -20,9 +20,9 @@ use Rattle.tstd_rows.specs.History.Part.{Passes, Carries, Begins}
 use Rattle.tstd_rows.specs.Lows.{LowsLaw, least_of, least_of_both}
 use Rattle.tstd_rows.proofs.Views.{payload_by, prev_le}
 
--- ---- bytes of a unit
+-- Bytes of a unit
 
--- later no more of them are there
+-- Later there are no more bytes of the unit.
 one_falls : (until x y : ℕ) → x ≤ y → one_buffered until y ≤ one_buffered until x
 one_falls until x y le = elim (cases_lt y until) [
   | inl there ↦ rw (lt-ltb y until there, lt-ltb x until (omega (arith, le, there))) (omega arith)
@@ -33,7 +33,7 @@ times_falls : (n until x y : ℕ) → x ≤ y → n * one_buffered until y ≤ n
 times_falls zero until x y le = omega arith
 times_falls (suc n) until x y le = omega (arith, one_falls until x y le, times_falls n until x y le)
 
--- once all payload bytes have entered the buffer only empties
+-- Once all payload bytes have entered, the buffer only empties.
 falls : (step : ℕ) (parts : List Part) (x y : ℕ) → All (λ d. d ≤ x) (payload_left step parts) → x ≤ y → main_fullness step parts y ≤ main_fullness step parts x
 unfolding payload_left main_fullness
 falls step [] x y all le = omega arith
@@ -47,9 +47,9 @@ falls step (Carries ts ∷ before) x y all le =
     omega (arith, first, all_entered (until_of before) x ds now, all_entered (until_of before) y ds then, times_falls (length ds) (until_of before) x y le)
 falls step (Begins due ∷ before) x y all le = falls step before x y all le
 
--- ---- what they find
+-- The numbers that bytes find
 
--- no more than the least so far
+-- The least number found is at most the least so far.
 found_le : (before : ℕ → ℕ) (until k m n : ℕ) (ds : List ℕ) → least_found before until k (Some m) ds ≡ Some n → n ≤ m
 unfolding least_found lesser
 found_le before until k m n [] is = one m n is
@@ -59,7 +59,7 @@ found_le before until k m n [] is = one m n is
 found_le before until k m n (d ∷ ds) is =
     omega (arith, found_le before until (k + 1) (min m (before d + k * one_buffered until d)) n ds is)
 
--- and never nothing
+-- If there is a least so far, a least number is found.
 found_some : (before : ℕ → ℕ) (until k m : ℕ) (ds : List ℕ) → least_found before until k (Some m) ds ≡ None → ⊥
 unfolding least_found lesser
 found_some before until k m [] is = cc
@@ -70,7 +70,7 @@ unfolding least_found lesser
 none_found P before until k [] is = All-nil P
 none_found P before until k (d ∷ ds) is = absurd (found_some before until (k + 1) (before d + k * one_buffered until d) ds is)
 
--- at a moment before the last of them enters no less is there
+-- At a moment before the last byte enters, the buffer holds no fewer bytes than the least number found.
 row_never : (before : ℕ → ℕ) (until k x n : ℕ) (least : Option ℕ) (ds : List ℕ) → ((y : ℕ) → x ≤ y → before y ≤ before x) →
     (All (λ d. d ≤ x) ds → ⊥) → least_found before until k least ds ≡ Some n → n ≤ before x + k * one_buffered until x + entered until x ds
 unfolding least_found
@@ -86,7 +86,7 @@ row_never before until k x n least (d ∷ ds) falls late is = elim (cases_lt x d
       omega (arith, rest, one_entered until x d ds in_time)
 ]
 
--- ---- one of two
+-- The least of two numbers
 
 both_some : (a : Option ℕ) (m n : ℕ) → least_of_both a (Some m) ≡ Some n → n ≤ m
 unfolding least_of_both
@@ -104,7 +104,7 @@ both_none None b is = (refl, is)
 both_none (Some m) None is = cc
 both_none (Some m) (Some n) is = cc
 
--- ---- a part of a stream
+-- A part of a stream
 
 cases_all : (x : ℕ) (ds : List ℕ) → All (λ d. d ≤ x) ds ⊎ (All (λ d. d ≤ x) ds → ⊥)
 cases_all x [] = inl (All-nil (λ d. d ≤ x))
@@ -116,7 +116,7 @@ cases_all x (d ∷ ds) = elim (cases_lt x d) [
   ]
 ]
 
--- one without a payload byte
+-- Parts without a least number have no payload byte.
 no_payload : (P : ℕ → Type 0) (step : ℕ) (recent before : List Part) → least_of step recent before ≡ None → All P (payload_left step before) →
     All P (payload_left step (recent ++ before))
 unfolding least_of payload_left
@@ -163,7 +163,7 @@ never_less step x n (Carries ts ∷ recent) before is all late =
         omega (arith, low m refl, first_some m (row_least step (recent ++ before) ts) n is)
 never_less step x n (Begins due ∷ recent) before is all late = never_less step x n recent before is all late
 
--- ---- where it is reached
+-- The moment of the least fullness
 
 lesser_case : (least : Option ℕ) (m n : ℕ) → lesser least m ≡ Some n → (least ≡ Some n) ⊎ (m ≡ n)
 unfolding lesser
@@ -188,7 +188,7 @@ one_at_most until x = elim (cases_lt x until) [
   | inr gone ↦ rw (le-ltb x until gone) (omega arith)
 ]
 
--- a byte of a row finds no more than that
+-- A byte of the row that finds at most n bytes, with its moment
 record FindsIt (P : ℕ → Type 0) (before : ℕ → ℕ) (until k from n : ℕ) (ds : List ℕ) : Type 0 where
   moment : ℕ
   later : from < moment
@@ -224,7 +224,7 @@ row_reached P before until k from n least (d ∷ ds) all climbs is =
           })
     ]
 
--- the payload bytes of the parts before
+-- A property of all payload bytes is a property of the payload bytes of the parts before.
 before_all : (P : ℕ → Type 0) (step : ℕ) (recent before : List Part) → All P (payload_left step (recent ++ before)) → All P (payload_left step before)
 unfolding payload_left
 before_all P step [] before all = all

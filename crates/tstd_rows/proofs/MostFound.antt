@@ -1,10 +1,10 @@
--- The most bytes that one of a row finds: those that come no slower than they leave, the last finds; else the first.
+-- The most bytes that a byte of a row finds: if they arrive no slower than they leave, the last byte finds the most; if not, the first.
 use Rattle.std.proofs.Common.{◌≡◌, ◌∙◌, sym, ℕ, zero, suc, ◌+◌, ◌-◌, ◌*◌, ◌/◌, ◌<◌, ◌≤◌, max, refl, arith}
 use Rattle.clock27.specs.Peak.{found, most_found}
 use Rattle.arrival.specs.Rows.{times_in_row}
 use Rattle.tstd_rows.proofs.EvenRows.{div_le, soon, soon_one, apart_one}
 
--- one that waits no longer finds no more
+-- A byte that waits no longer finds no more bytes.
 found_le : (step prev t prev' t' : ℕ) → 0 < step → prev - t ≤ prev' - t' → found step prev t ≤ found step prev' t'
 found_le step prev t prev' t' pos le =
     let more : (prev - t) + (step - 1) ≤ (prev' - t') + (step - 1) = omega (arith, le) in
@@ -58,7 +58,7 @@ most_slow step prev from pace parts (suc n) pos some slow =
     smaller : (a b c : ℕ) → b ≡ c → c ≤ a → max a b ≡ a
     smaller a b c e le = omega (arith, e, le)
 
--- of a row that is not empty
+-- In a row that is not empty and arrives no slower than it leaves, the last byte finds the most.
 pub row_most_fast : (step prev from pace parts n first : ℕ) → 0 < step → 0 < parts → pace ≤ step * parts → 0 < n → first ≡ max (from / parts) prev →
     found step (first + (n - 1) * step) ((from + (n - 1) * pace) / parts) ≡ most_found step prev (times_in_row from pace parts n)
 row_most_fast step prev from pace parts zero first pos some fast more e = absurd (omega (arith, more))

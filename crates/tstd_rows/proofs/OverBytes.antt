@@ -1,4 +1,4 @@
--- Which bytes of a row find no room.
+-- Which bytes of a row find no room
 use Rattle.std.proofs.Common.{◌≡◌, ◌∙◌, sym, ℕ, zero, suc, ◌+◌, ◌-◌, ◌*◌, ◌/◌, ◌<◌, ◌≤◌, max, true, false, List, [], ◌∷◌, refl, arith}
 use Rattle.std.proofs.Math.Nat.{add-mul-div_right, div-lt_iff_lt-mul, mul-le-mul_left}
 use Rattle.std.proofs.lemmas.Nat.{le-div}
@@ -10,7 +10,7 @@ use Rattle.tstd_rows.specs.Excesses.{AreOver}
 use Rattle.tstd_rows.proofs.EvenRows.{Waits, waits_last, fast_last}
 use Rattle.tstd_rows.proofs.MostFound.{row_most_fast, row_most_slow}
 
--- a byte finds room where so many leave before the one before it has
+-- A byte finds room if it arrives at most `size - 1` steps before the byte before it leaves.
 room_found : (step size prev t : ℕ) → 0 < step → 0 < size → prev ≤ t + (size - 1) * step → found step prev t ≤ size
 room_found step size prev t pos some le =
     let e : (size - 1) * step + step ≡ size * step = omega (arith, one_more (size - 1) step, sum) in
@@ -42,7 +42,7 @@ none_over step size prev (t ∷ ts) le =
     let here : found step prev t ≤ size = omega (arith, le) in
     (le-ltb size (found step prev t) here, none_over step size (max t prev + step) ts (omega (arith, le)))
 
--- each of n bytes arrives so many steps before the one before it leaves
+-- Whether each of n bytes arrives more than `size - 1` steps before the byte before it leaves
 abbrev pub Overtakes : ℕ → ℕ → ℕ → ℕ → ℕ → ℕ → ℕ → Type 0
 Overtakes step size prev from pace parts n = (j : ℕ) → j < n → (from + j * pace) / parts + (size - 1) * step < prev + j * step
 
@@ -67,7 +67,7 @@ all_over step size prev from pace parts (suc n) pos some over =
         let there : (from + suc j * pace) / parts + (size - 1) * step < prev + suc j * step = over (suc j) (omega (arith, below)) in
         rw (e, f) at there
 
--- whole parts
+-- A time in parts is rounded down to whole units.
 parts_less : (a b parts steps : ℕ) → 0 < parts → a + steps * parts < b * parts → a / parts + steps < b
 parts_less a b parts steps some less =
     let below : (a + steps * parts) / parts < b = (div-lt_iff_lt-mul some).1 less in
@@ -77,7 +77,7 @@ parts_more : (a b parts steps : ℕ) → 0 < parts → b * parts ≤ a + steps *
 parts_more a b parts steps some le =
     omega (arith, le-div b (a + steps * parts) parts some le, add-mul-div_right a steps some)
 
--- what j bytes gain
+-- The gain of j bytes and the time between their arrivals add up to j steps.
 gain_fast : (step pace parts j : ℕ) → pace ≤ step * parts → j * (step * parts - pace) + j * pace ≡ j * step * parts
 gain_fast step pace parts j fast =
     let e : step * parts - pace + pace ≡ step * parts = omega (arith, fast) in
@@ -90,7 +90,7 @@ gain_slow step pace parts j slow =
     let f : j * (pace - step * parts) + j * step * parts ≡ j * (pace - step * parts + step * parts) = omega arith in
     f ∙ rw e refl
 
--- of a row that comes no slower than it leaves the first a find room
+-- If the bytes of a row arrive no slower than they leave, the first `a` bytes find room.
 pub fast_room : (step size prev from pace parts a first : ℕ) → 0 < step → 0 < size → 0 < parts → pace ≤ step * parts → first ≡ max (from / parts) prev →
     ((j : ℕ) → j < a → j * (step * parts - pace) < from + (size - 1) * step * parts + 1 - first * parts) →
     AreOver false step size prev (times_in_row from pace parts a)
@@ -107,7 +107,7 @@ fast_room step size prev from pace parts (suc a) first pos some part fast e room
     let most' : found step (first + a * step) ((from + a * pace) / parts) ≡ most_found step prev (times_in_row from pace parts (suc a)) = rw k at most in
     none_over step size prev (times_in_row from pace parts (suc a)) (omega (arith, few, most'))
 
--- when the last of them leaves, where others come after it
+-- If more bytes follow, the first `a` bytes leave a step apart.
 fast_prev : (step size prev from pace parts a first : ℕ) → 0 < size → 0 < parts → pace ≤ step * parts → first ≡ max (from / parts) prev →
     from + (size - 1) * step * parts + 1 - first * parts ≤ a * (step * parts - pace) →
     last_left step prev (times_in_row from pace parts a) ≡ first + a * step
@@ -119,7 +119,7 @@ fast_prev step size prev from pace parts zero first some part fast e enough =
 fast_prev step size prev from pace parts (suc a) first some part fast e enough =
     sym (fast_last step prev from pace parts (suc a) first (omega arith) part fast e)
 
--- and the others find none
+-- The later bytes find no room.
 pub fast_over : (step size prev from pace parts a n first last : ℕ) → 0 < step → 0 < size → 0 < parts → pace ≤ step * parts → first ≡ max (from / parts) prev →
     (a < n → from + (size - 1) * step * parts + 1 - first * parts ≤ a * (step * parts - pace)) →
     last ≡ last_left step prev (times_in_row from pace parts a) →
@@ -136,7 +136,7 @@ fast_over step size prev from pace parts a n first last pos some part fast e eno
         let less : from + a * pace + j * pace + (size - 1) * step * parts < (last + j * step) * parts = rw at (omega (arith, rest, sum, more)) in
         parts_less (from + a * pace + j * pace) (last + j * step) parts ((size - 1) * step) part less
 
--- of one that comes no faster the first a find none
+-- If the bytes of a row arrive no faster than they leave, the first `a` bytes find no room.
 slow_overtakes : (step size prev from pace parts a : ℕ) → 0 < parts → step * parts ≤ pace →
     ((j : ℕ) → j < a → j * (pace - step * parts) < prev * parts - (from + (size - 1) * step * parts)) → Overtakes step size prev from pace parts a
 slow_overtakes step size prev from pace parts a part slow room j below =
@@ -151,7 +151,7 @@ pub slow_over : (step size prev from pace parts a : ℕ) → 0 < step → 0 < si
 slow_over step size prev from pace parts a pos some part slow room =
     all_over step size prev from pace parts a pos some (slow_overtakes step size prev from pace parts a part slow room)
 
--- and the others find room
+-- The later bytes find room.
 pub slow_room : (step size prev from pace parts a n last : ℕ) → 0 < step → 0 < size → 0 < parts → step * parts ≤ pace →
     ((j : ℕ) → j < a → j * (pace - step * parts) < prev * parts - (from + (size - 1) * step * parts)) →
     (a < n → prev * parts - (from + (size - 1) * step * parts) ≤ a * (pace - step * parts)) →

@@ -1,4 +1,4 @@
--- A packet enters: its first bytes, the rest of its header, the begin of a unit, and its payload, one after another.
+-- A packet enters its buffers: its first bytes, the rest of its header, the unit that begins, and its payload, in this order.
 use Rattle.std.proofs.Common.{◌≡◌, ◌∙◌, sym, ℕ, ◌+◌, ◌-◌, ◌*◌, ◌≤◌, ◌<◌, max, ◌&&◌, nat_le, nat_lt, Bool, true, false, List, ◌++◌, Option, None, refl, subst}
 use Rattle.std.proofs.Common.{ap, arith}
 use Rattle.std.proofs.lemmas.Bool.Decides.{nat_tests}
@@ -23,14 +23,14 @@ use Rattle.tstd_rows.specs.Entering.{bytes_main_least, bytes_main_most, bytes_tr
 use Rattle.tstd_rows.specs.Entering.{entered_part, entered_view, lead_in, size_of, takes_in, takes_part, unit_ended, with_first}
 use Rattle.tstd_rows.proofs.Rows.{bytes_held}
 
--- bytes among others that have times
+-- Bytes within a range that has times have times.
 pub within : (arrival : Arrival) (i j n : ℕ) → has_times arrival i 188 ≡ true → i ≤ j → j + n ≤ i + 188 → has_times arrival j n ≡ true
 unfolding has_times
 within Unknown i j n e first last = absurd cc
 within (AtRate rate) i j n e first last = grind (arith, nat_tests)
 within (OnLines lines) i j n e first last = grind (arith, nat_tests)
 
--- a packet is taken in
+-- A packet is taken in if its index and its bytes are within the bounds and have times.
 pub taken_in : (b : StreamBuffers) (h : Held) (arrival : Arrival) (p : Arriving) → IsHeld b h → p.index < last_index → b.view.transport.bytes ≤ last_bytes →
     has_times arrival (188 * p.index) 188 ≡ true → takes_in h arrival p ≡ true
 taken_in b h arrival p k early few times =
@@ -84,7 +84,7 @@ same_view e lead header payload main unit most main_most least p q r s t u v w =
 same_most : (a b c d x y z : ℕ) → d ≡ max (max a b) c → a ≡ x → b ≡ y → c ≡ z → d ≡ max (max x y) z
 same_most a b c d x y z is p q r = rw (sym p, sym q, sym r) is
 
--- what the parts of a packet are found to have ended, and to have held
+-- The excesses that the parts of a packet have ended, and the most bytes that the buffers have held
 pub record Parts (b0 b1 b2 b3 : StreamBuffers) (arrival : Arrival) (p : Arriving) (e : Entered)
     (size front count front_most header_most payload_most : ℕ) : Type 0 where
   pub first : (h : Held) → IsHeld b0 h → IsHeld b1 (after_lead h arrival p front)
@@ -121,7 +121,7 @@ packet_entered b0 b1 b2 b3 h arrival p e size lead count lead_most header_most p
     view ∙ ap (λ (n : ℕ). ended_first h arrival p n lead count) same ∙ ap (λ (n : ℕ). ended_first h arrival p (size_of p) n count) same'
     ∙ entered_in h arrival p count takes
 
--- up to the payload: what the buffers hold, and those of video
+-- The buffers before the payload, including the buffers of video
 pub record Steps (b0 b1 b2 b3 : StreamBuffers) (arrival : Arrival) (p : Arriving) (size lead : ℕ) : Type 0 where
   pub first : (h : Held) → IsHeld b0 h → IsHeld b1 (after_lead h arrival p lead)
   pub header : (h : Held) → IsHeld b1 h → IsHeld b2 (after_bytes h arrival false (188 * p.index + lead) (188 - size - lead))
@@ -131,7 +131,7 @@ pub record Steps (b0 b1 b2 b3 : StreamBuffers) (arrival : Arrival) (p : Arriving
       HoldsVideoOf b2 sizes (after_bytes h arrival false (188 * p.index + lead) (188 - size - lead))
   pub begin_video : (h : Held) (sizes : Option VideoSizes) → IsHeld b2 h → HoldsVideoOf b2 sizes h → HoldsVideoOf b3 sizes (after_begin h p.begins)
 
--- and what the buffers of video hold after it
+-- The buffers of video hold the packet after its payload, if each step of the packet keeps them.
 pub packet_video : (b0 b1 b2 b3 b4 : StreamBuffers) (sizes : Option VideoSizes) (h : Held) (arrival : Arrival) (p : Arriving) (size lead count : ℕ) →
     IsHeld b0 h → HoldsVideoOf b0 sizes h →
     takes_in h arrival p ≡ true → size ≡ size_of p → lead ≡ lead_in arrival p → Steps b0 b1 b2 b3 arrival p size lead →
@@ -159,7 +159,7 @@ unit_in : (sizes : Option VideoSizes) (h : Held) (arrival : Arrival) (p : Arrivi
 unfolding video_unit_of
 unit_in sizes h arrival p e = rw e refl
 
--- and what it has ended in them
+-- The results of the packet in the buffers of video are the results of its payload.
 pub packet_video_entered : (b0 b1 b2 b3 : StreamBuffers) (sizes : Option VideoSizes) (h : Held) (arrival : Arrival) (p : Arriving) (size lead count : ℕ)
     (found : VideoEnteredView) → IsHeld b0 h →
     HoldsVideoOf b0 sizes h → takes_in h arrival p ≡ true → size ≡ size_of p → lead ≡ lead_in arrival p → Steps b0 b1 b2 b3 arrival p size lead →
@@ -191,7 +191,7 @@ packet_video_unit b0 b1 b2 b3 sizes h arrival p size lead unit k v takes same sa
     ∙ ap (λ (n : ℕ). unit_with sizes h arrival p n lead) same ∙ ap (λ (n : ℕ). unit_with sizes h arrival p (size_of p) n) same'
     ∙ unit_in sizes h arrival p takes
 
--- ---- an access unit that begins within a payload
+-- An access unit that begins within a payload
 
 pub part_taken : (b : StreamBuffers) (h : Held) (arrival : Arrival) (p : UnitPart) → IsHeld b h → p.byte ≤ last_bytes → b.view.transport.bytes ≤ last_bytes →
     p.size ≤ 188 →

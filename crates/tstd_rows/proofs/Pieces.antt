@@ -1,4 +1,4 @@
--- Bytes that enter a main buffer while none leaves it, and bytes that come too late.
+-- Bytes that enter a main buffer while no byte leaves it, and bytes that enter after their unit is removed
 use Rattle.std.proofs.Common.{◌≡◌, ◌∙◌, sym, ℕ, zero, suc, ◌+◌, ◌-◌, ◌*◌, ◌/◌, ◌≤◌, ◌<◌, max, cond, List, [], ◌∷◌, ◌++◌, length, refl, ap, inl, inr, arith, All}
 use Rattle.std.proofs.Common.{true}
 use Rattle.std.proofs.Math.Seq.{take-append_seam, drop-append_seam}
@@ -18,7 +18,7 @@ use Rattle.tstd.proofs.RisingTimes.{greatest_ext}
 use Rattle.tstd_rows.specs.RowEntry.{has_entered, entered}
 use Rattle.tstd_rows.proofs.RowEntries.{row_next, rest_rises, entered_one, one_entered}
 
--- ---- lists
+-- Lists of times
 
 pub all_first : (P : ℕ → Type 0) (ts us : List ℕ) → All P (ts ++ us) → All P ts
 all_first P ts us all = rw (take-append_seam ts us) at (All-take P (length ts) (ts ++ us) all)
@@ -29,13 +29,13 @@ all_others P ts us all = rw (drop-append_seam ts us) at (All-drop P (length ts) 
 pub entered-append : (until x : ℕ) (ts us : List ℕ) → entered until x (ts ++ us) ≡ entered until x ts + entered until x us
 entered-append until x ts us = sum_by-append (λ t. cond (has_entered until x t) 1 0) ts us
 
--- all of them have entered
+-- All bytes of the list have entered.
 pub all_entered : (until x : ℕ) (ts : List ℕ) → All (λ t. t ≤ x) ts → entered until x ts ≡ length ts * one_buffered until x
 all_entered until x [] all = omega arith
 all_entered until x (t ∷ ts) all =
     omega (arith, one_entered until x t ts (All-head (λ t. t ≤ x) t ts all), all_entered until x ts (All-tail (λ t. t ≤ x) t ts all))
 
--- once their unit goes none is there
+-- Once their unit is removed, no bytes of it are in the buffer.
 pub none_stays : (until x : ℕ) (ts : List ℕ) → until ≤ x → entered until x ts ≡ 0
 none_stays until x [] gone = refl
 none_stays until x (t ∷ ts) gone = rw (sum_by-cons (λ s. cond (has_entered until x s) 1 0) t ts) (omega (arith, one until x t gone, none_stays until x ts gone))
@@ -48,7 +48,7 @@ unfolding times_in_row
 length-row from pace parts zero = refl
 length-row from pace parts (suc n) = omega (arith, length-row (from + pace) pace parts n)
 
--- the first byte of a row, and the others
+-- A row is its first byte and the rest of the row.
 pub row_first : (row : Row) (t : ℕ) → t ≡ (row.from + 0 * row.pace) / row.parts → 0 < row.bytes → times_of row ≡ t ∷ times_of (other_bytes row 1)
 row_first row t is some =
     let e : row.from + 0 * row.pace ≡ row.from = omega arith in
@@ -66,12 +66,12 @@ others_rise row rest t is others some = rw (is, others) (rest_rises row.from row
 pub one_less : (row rest : Row) → rest ≡ other_bytes row 1 → 0 < row.bytes → rest.bytes + 1 ≡ row.bytes
 one_less row rest others some = rw others (omega (arith, some))
 
--- its first byte, those that enter with it, and the others
+-- A row is its first byte, the bytes that enter together with it, and the rest of the row.
 pub in_three : (row rest first others : Row) (t : ℕ) → times_of row ≡ t ∷ times_of rest → times_of first ++ times_of others ≡ times_of rest →
     times_of row ≡ t ∷ times_of first ++ times_of others
 in_three row rest first others t one two = one ∙ ap (λ (ts : List ℕ). t ∷ ts) (sym two)
 
--- rows that make one row
+-- If two rows make one row, the numbers of their bytes add up.
 pub rows_bytes : (first others row : Row) → times_of first ++ times_of others ≡ times_of row → first.bytes + others.bytes ≡ row.bytes
 rows_bytes first others row same =
     let all : length (times_of first ++ times_of others) ≡ length (times_of row) = ap length same in
@@ -84,7 +84,7 @@ rows_bytes first others row same =
       length-row row.from row.pace row.parts row.bytes,
     )
 
--- ---- what is in the buffer falls
+-- The number of buffered bytes only falls.
 
 buffered_falls : (x y : ℕ) (unit : BufferedUnit) → x ≤ y → buffered_bytes y unit ≤ buffered_bytes x unit
 buffered_falls x y unit le = elim (cases_lt y unit.until) [
@@ -101,7 +101,7 @@ pub fullness_falls : (units : List BufferedUnit) (current : BufferedUnit) (x y :
     all_buffered y units + buffered_bytes y current ≤ all_buffered x units + buffered_bytes x current
 fullness_falls units current x y le = omega (arith, all_falls x y units le, buffered_falls x y current le)
 
--- before any goes all are there
+-- Before any unit is removed, all bytes are in the buffer.
 pub all_there : (units : List BufferedUnit) (current : BufferedUnit) (next x : ℕ) → x < next → x < current.until → all_until next units ≡ true →
     all_buffered x units + buffered_bytes x current ≡ all_bytes units + current.bytes
 all_there units current next x early stays until =
@@ -113,9 +113,9 @@ greatest_le f from most [] rises le = omega arith
 greatest_le f from most (t ∷ ts) rises le =
     omega (arith, le t rises.0, greatest_le f t most ts rises.1 (λ x after. le x (omega (arith, after, rises.0))))
 
--- ---- bytes that come too late
+-- Bytes that arrive after the removal of their unit
 
--- no later one makes more
+-- No later byte raises the most.
 pub late_ones : (after : ℕ → ℕ) (until peak t : ℕ) (ts : List ℕ) → until ≤ t → Rises t ts → ((x y : ℕ) → x ≤ y → after y ≤ after x) → after t ≤ peak →
     max peak (greatest_at (λ x. after x + entered until x ts) ts) ≡ peak
 late_ones after until peak t ts late rises falls le =
@@ -123,13 +123,13 @@ late_ones after until peak t ts late rises falls le =
     (λ x low. omega (arith, none_stays until x ts (omega (arith, late, low)), falls t x low, le)) in
     omega (arith, most)
 
--- ---- bytes that enter together
+-- Bytes that enter while no byte leaves
 
--- before its unit goes a byte is there
+-- A byte is in the buffer until its unit is removed.
 there_one : (until x : ℕ) → x < until → one_buffered until x ≡ 1
 there_one until x lt = rw (lt-ltb x until lt) refl
 
--- bytes that enter while no byte leaves, before `limit`: the most is with the last of them
+-- While bytes enter and no byte leaves, before `limit`, the last byte finds the most.
 pub entered_together : (before : ℕ → ℕ) (until limit peak now : ℕ) (ts us : List ℕ) (from : ℕ) → Rises from (ts ++ us) → now ≤ peak → limit ≤ until →
     ((t : ℕ) → from ≤ t → t < limit → before t ≡ now) → All (λ t. t < limit) ts →
     max (max peak (now + length ts)) (greatest_at (λ x. before x + length ts * one_buffered until x + entered until x us) us)
@@ -152,9 +152,9 @@ entered_together before until limit peak now (t ∷ ts) us from rises le within 
     (λ x. after x + length ts * one_buffered until x + entered until x us) us (λ x. omega arith) in
     omega (arith, rest, first, ext, here, one)
 
--- ---- a piece of a row: its first byte, and those that enter with it
+-- A piece of a row: its first byte, and the bytes that enter together with it
 
--- some enter together
+-- After a piece of bytes, the most so far is the number at the entry of its last byte, or an earlier number.
 pub piece_peak : (before after after' : ℕ → ℕ) (until limit peak peak' peak'' now t : ℕ) (ts us : List ℕ) → Rises t (ts ++ us) → limit ≤ until → t < limit →
     ((x : ℕ) → t ≤ x → after x ≡ before x + one_buffered until x) → peak' ≡ max peak (before t + one_buffered until t) →
     ((x : ℕ) → x < limit → after x ≡ now) → All (λ s. s < limit) ts →

@@ -1,4 +1,4 @@
--- Times that rise.
+-- Times that rise
 use Rattle.std.proofs.Common.{ℕ, zero, suc, ◌+◌, ◌/◌, ◌≤◌, List, [], ◌∷◌, arith}
 use Rattle.std.proofs.lemmas.List.Elements.{All-head, All-tail}
 use Rattle.arrival.specs.Rows.{times_in_row}

@@ -1,4 +1,4 @@
--- Bytes that go to the elementary stream buffer, and the times at which it has room for those that come next.
+-- Bytes that go to the elementary stream buffer, and the times at which it has room for the next bytes
 use Rattle.std.proofs.Common.{◌≡◌, ◌∙◌, sym, ℕ, zero, suc, ◌+◌, ◌-◌, ◌*◌, ◌<◌, ◌≤◌, ◌^◌, max, min, List, [], ◌∷◌, ◌++◌, length, replicate, take, drop}
 use Rattle.std.proofs.Common.{append_assoc, slice_index_or, refl, ap, ap₂, arith}
 use Rattle.std.proofs.lemmas.List.{append-nil, drop-replicate, take-replicate, length-append, length-replicate, replicate-append-replicate}
@@ -10,7 +10,7 @@ use Rattle.tstd_rows.specs.Rooms.{rooms_now}
 use Rattle.tstd_rows.specs.declared.eb_rooms.EbRooms.{EbRooms}
 use Rattle.tstd_rows.proofs.Rooms.{raised_after, raised_past}
 
--- 1. Bytes for which there is room from one moment on
+-- 1. Bytes for which EB has room at the same moment
 
 after_room : (leak w n q : ℕ) → w ≤ q → last_left leak q (replicate n w) ≡ q + n * leak
 unfolding last_left
@@ -31,13 +31,13 @@ gone_some last until leak zero some = absurd (omega (arith, some))
 gone_some last until leak (suc n) some =
     ap (λ (m : ℕ). capped m) (in_turn last until leak n ∙ sym (after_room leak until n (max until last + leak) (omega arith)))
 
--- times that stop at a greatest one
+-- If two times are equal once limited to `cap`, the last departures after them are equal once limited.
 pub last_stopped : (leak cap p q : ℕ) (ts : List ℕ) → min p cap ≡ min q cap → min (last_left leak p ts) cap ≡ min (last_left leak q ts) cap
 unfolding last_left
 last_stopped leak cap p q [] h = h
 last_stopped leak cap p q (t ∷ ts) h = last_stopped leak cap (max t p + leak) (max t q + leak) ts (omega (arith, h))
 
--- 2. A unit whose time has come
+-- 2. A unit that is due
 
 none_before : (n : ℕ) (w : ℕ) (xs ys : List ℕ) → replicate n w ++ (xs ++ ys) ≡ replicate n w ++ xs ++ ys
 none_before n w xs ys = sym (append_assoc (replicate n w) xs ys)
@@ -69,7 +69,7 @@ as_many_settled free unit current waiting =
     let more = length-append (replicate unit.bytes unit.until) rest ∙ ap (λ (n : ℕ). n + length rest) (length-replicate unit.bytes unit.until) in
     omega (arith, left, there, right, more)
 
--- the first of the units that wait
+-- The list of units that wait is its first unit and the rest.
 pub front_of : (items : List BufferedUnit) (u : BufferedUnit) → 0 < length items → u ≡ slice_index_or items 0 u → items ≡ u ∷ drop 1 items
 front_of [] u some is = absurd (omega (arith, some))
 front_of (x ∷ xs) u some is = ap (λ (v : BufferedUnit). v ∷ xs) (sym is)
@@ -80,7 +80,7 @@ at_least free waiting current =
     let len = length-append (replicate free 0) rest ∙ ap (λ (n : ℕ). n + length rest) (length-replicate free 0) in
     omega (arith, len)
 
--- it joins those for which there is room
+-- The unit is added to the bytes for which there is room.
 pub joined_fits : (free most : ℕ) (unit current : BufferedUnit) (items : List BufferedUnit) → 0 < length items → unit ≡ slice_index_or items 0 unit →
     length (rooms_in free items current) < most →
     length (rooms_in (free + unit.bytes) (drop 1 items) current) < most
@@ -146,7 +146,7 @@ fits_free size waiting none fits =
     ap (λ (us : List BufferedUnit). length (rooms_in size us (record { until = 0; bytes = 0 }))) none ∙ ap length (all_free size) ∙ length-replicate size 0 in
     omega (arith, fits, len)
 
--- 5. Bytes of a unit come, and as many go: those for which there is room at once, then those of units that wait, then of the unit itself
+-- 5. Bytes of a unit enter, and as many go: first bytes for which there is room at once, then bytes of the units that wait, then bytes of the unit itself
 
 take_both : (n : ℕ) (xs ys : List ℕ) → take n (xs ++ ys) ≡ take n xs ++ take (n - length xs) ys
 take_both zero [] ys = let e : 0 ≡ 0 - 0 = omega arith in ap (λ (k : ℕ). take k ys) e
@@ -188,7 +188,7 @@ rooms_gone free b until count rest rest' waiting is is' =
     ∙ ap (λ (l : List ℕ). replicate (free - count) 0 ++ l) inner
     )
 
--- when the last of them goes
+-- The last of `count` bytes goes after the bytes with room at once, the bytes of units that wait, and the bytes of the unit itself.
 pub last_gone : (leak free b until count rest rest' last last1 last2 last3 : ℕ) (waiting : List ℕ) → rest ≡ count - free → rest' ≡ rest - length waiting →
     last1 ≡ capped (last_left leak last (take {A = ℕ} count (replicate free 0))) → capped last2 ≡ capped (last_left leak last1 (take rest waiting)) →
     last3 ≡ capped (last_left leak last2 (replicate rest' until)) →

@@ -1,4 +1,4 @@
--- When the elementary stream buffer of video has room: what is kept of it says when each byte goes.
+-- When the elementary stream buffer of video has room: the kept times say when each byte goes.
 use Rattle.std.proofs.Common.{◌≡◌, ◌∙◌, sym, ℕ, zero, suc, ◌+◌, ◌-◌, ◌<◌, ◌≤◌, ◌^◌, max, min, List, [], ◌∷◌, ◌++◌, length, replicate, take, drop, append_assoc}
 use Rattle.std.proofs.Common.{refl, ap, ap₂, arith}
 use Rattle.std.proofs.lemmas.List.{append-nil, length-append, length-replicate, length-drop, drop-append-le, drop-drop}
@@ -21,13 +21,13 @@ head_of x y xs ys h = cc
 tail_of : (x y : ℕ) (xs ys : List ℕ) → x ∷ xs ≡ y ∷ ys → xs ≡ ys
 tail_of x y xs ys h = cc
 
--- the rest of two lists that are raised alike
+-- The rests of two lists are raised alike, if the lists are.
 rest_of : (a x y : ℕ) (xs ys : List ℕ) → max a x ∷ raised (max a x) xs ≡ max a y ∷ raised (max a y) ys → raised (max a x) xs ≡ raised (max a x) ys
 rest_of a x y xs ys h =
     tail_of (max a x) (max a y) (raised (max a x) xs) (raised (max a y) ys) h
     ∙ ap (λ (m : ℕ). raised m ys) (sym (head_of (max a x) (max a y) (raised (max a x) xs) (raised (max a y) ys) h))
 
--- lists that count the same from a moment on count the same from any later one on
+-- Lists that are equal once raised to a moment are equal once raised to any later moment.
 pub raised_up : (a b : ℕ) (xs ys : List ℕ) → a ≤ b → raised a xs ≡ raised a ys → raised b xs ≡ raised b ys
 unfolding raised
 raised_up a b [] [] le h = refl
@@ -39,7 +39,7 @@ raised_up a b (x ∷ xs) (y ∷ ys) le h =
     let up : max a x ≤ max b x = omega (arith, le) in
     ap₂ (λ (m : ℕ) (l : List ℕ). m ∷ l) first (raised_up (max a x) (max b x) xs ys up (rest_of a x y xs ys h) ∙ ap (λ (m : ℕ). raised m ys) first)
 
--- with the same times after them too
+-- Lists that are equal once raised remain equal if the same times are appended to both.
 pub raised_more : (a : ℕ) (xs ys zs : List ℕ) → raised a xs ≡ raised a ys → raised a (xs ++ zs) ≡ raised a (ys ++ zs)
 unfolding raised
 raised_more a [] [] zs h = refl
@@ -49,13 +49,13 @@ raised_more a (x ∷ xs) (y ∷ ys) zs h =
     let same = head_of (max a x) (max a y) (raised (max a x) xs) (raised (max a y) ys) h in
     ap₂ (λ (m : ℕ) (l : List ℕ). m ∷ l) same (raised_more (max a x) xs ys zs (rest_of a x y xs ys h) ∙ ap (λ (m : ℕ). raised m (ys ++ zs)) same)
 
--- or before them
+-- Lists that are equal once raised remain equal if the same times are put before both.
 pub raised_after : (from : ℕ) (xs ys zs : List ℕ) → ((a : ℕ) → from ≤ a → raised a xs ≡ raised a ys) → raised from (zs ++ xs) ≡ raised from (zs ++ ys)
 unfolding raised
 raised_after from xs ys [] h = h from (omega arith)
 raised_after from xs ys (z ∷ zs) h = ap (λ (l : List ℕ). max from z ∷ l) (raised_after (max from z) xs ys zs (λ a le. h a (omega (arith, le))))
 
--- times that are past are as good as none
+-- Times that are past make no difference.
 pub raised_past : (a now until n : ℕ) (xs : List ℕ) → now ≤ a → until ≤ now → raised a (replicate n 0 ++ xs) ≡ raised a (replicate n until ++ xs)
 unfolding raised
 raised_past a now until zero xs le past = refl
@@ -66,7 +66,7 @@ raised_past a now until (suc n) xs le past =
     (ap (λ (m : ℕ). raised m (replicate n 0 ++ xs)) stays ∙ raised_past a now until n xs le past
     ∙ ap (λ (m : ℕ). raised m (replicate n until ++ xs)) (sym stays ∙ first))
 
--- and a time that is no later than one before it
+-- A time that is no later than a time before it makes no difference.
 raised_low : (a until low n : ℕ) (xs : List ℕ) → until ≤ a → low ≤ until → raised a (replicate n until ++ xs) ≡ raised a (replicate n low ++ xs)
 unfolding raised
 raised_low a until low zero xs le lower = refl
@@ -92,7 +92,7 @@ raised_joined a until low (suc m) n xs lower some =
 
 -- 2. When bytes go
 
--- by lists that count the same they go at the same times
+-- Lists of rooms that are equal once raised give equal times.
 transfer_same : (leak from : ℕ) (ts xs ys : List ℕ) → raised from xs ≡ raised from ys → last_transfer leak from ts xs ≡ last_transfer leak from ts ys
 unfolding raised last_transfer
 transfer_same leak from [] xs ys h = refl
@@ -106,7 +106,7 @@ transfer_same leak from (t ∷ ts) (x ∷ xs) (y ∷ ys) h =
     transfer_same leak (max (max t x) from + leak) ts xs ys (raised_up (max from x) (max (max t x) from + leak) xs ys up (rest_of from x y xs ys h))
     ∙ ap (λ (p : ℕ). last_transfer leak p ts ys) next
 
--- and what comes next counts the same
+-- The rooms of the next bytes are equal once raised too.
 transfer_next : (leak from : ℕ) (ts xs ys : List ℕ) → raised from xs ≡ raised from ys →
     raised (last_transfer leak from ts xs) (drop (length ts) xs) ≡ raised (last_transfer leak from ts xs) (drop (length ts) ys)
 unfolding raised last_transfer
@@ -118,7 +118,7 @@ transfer_next leak from (t ∷ ts) (x ∷ xs) (y ∷ ys) h =
     let up : max from x ≤ max (max t x) from + leak = omega arith in
     transfer_next leak (max (max t x) from + leak) ts xs ys (raised_up (max from x) (max (max t x) from + leak) xs ys up (rest_of from x y xs ys h))
 
--- the later of two queues
+-- The later of two departures is the departure of a byte that waits for both queues.
 both_later : (leak p q t x : ℕ) → max (max t p + leak) (max x q + leak) ≡ max (max t x) (max p q) + leak
 both_later leak p q t x = omega arith
 
@@ -130,7 +130,7 @@ last_both leak p q (t ∷ ts) [] few = absurd (omega (arith, few))
 last_both leak p q (t ∷ ts) (x ∷ xs) few =
     last_both leak (max t p + leak) (max x q + leak) ts xs (omega (arith, few)) ∙ ap (λ (m : ℕ). last_transfer leak m ts xs) (both_later leak p q t x)
 
--- times that stop at a greatest one
+-- If two times are equal once limited to `cap`, the next departures are equal once limited.
 stopped : (leak cap p q t x : ℕ) → min p cap ≡ min q cap → min (max (max t x) p + leak) cap ≡ min (max (max t x) q + leak) cap
 stopped leak cap p q t x h = omega (arith, h)
 
@@ -141,7 +141,7 @@ transfer_stopped leak cap p q (t ∷ ts) [] h = h
 transfer_stopped leak cap p q (t ∷ ts) (x ∷ xs) h =
     transfer_stopped leak cap (max (max t x) p + leak) (max (max t x) q + leak) ts xs (stopped leak cap p q t x h)
 
--- bytes in two parts
+-- The bytes of two lists go in turn.
 transfer_append : (leak from : ℕ) (ts us xs : List ℕ) → length ts ≤ length xs →
     last_transfer leak from (ts ++ us) xs ≡ last_transfer leak (last_transfer leak from ts xs) us (drop (length ts) xs)
 unfolding last_transfer
@@ -155,9 +155,9 @@ transfer_longer leak from [] xs ys few = refl
 transfer_longer leak from (t ∷ ts) [] ys few = absurd (omega (arith, few))
 transfer_longer leak from (t ∷ ts) (x ∷ xs) ys few = transfer_longer leak (max (max t x) from + leak) ts xs ys (omega (arith, few))
 
--- 3. Of the parts of a stream
+-- 3. The parts of a stream
 
--- each payload byte has a time at which it is removed
+-- Each payload byte has a time at which it is removed.
 pub as_many : (rate : ℕ) (parts : List Part) → length (removed_of parts) ≡ length (payload_left rate parts)
 unfolding removed_of payload_left
 as_many rate [] = refl
@@ -171,7 +171,7 @@ as_many rate (Begins due ∷ before) = as_many rate before
 enough : (rate size : ℕ) (parts : List Part) → length (payload_left rate parts) ≤ length (rooms_of size (removed_of parts))
 enough rate size parts = omega (arith, length-append (replicate size 0) (removed_of parts), as_many rate parts)
 
--- bytes that come: the last of them, and what comes next
+-- Once payload bytes have arrived, the rooms of the next bytes begin after the rooms of these bytes.
 pub carried_next : (rate size : ℕ) (parts : List Part) (times : List ℕ) →
     rooms_next rate size (Carries times ∷ parts) ≡ drop (length (left_after rate parts times))
     (rooms_next rate size parts ++ replicate (length times) (until_of parts))
@@ -206,7 +206,7 @@ carried_last rate leak size parts times =
     ∙ ap₂ (λ (p : ℕ) (l : List ℕ). last_transfer leak p these l) (transfer_longer leak 0 paid rooms more (enough rate size parts))
     (drop-append-le (length paid) rooms more (enough rate size parts))
 
--- MB alone is no later
+-- With an EB that is never full, bytes leave MB no later.
 pub alone_first : (rate leak size : ℕ) (parts : List Part) → last_leaked rate leak parts ≤ last_transferred rate leak size parts
 alone_first rate leak size parts = omega (arith, last_both leak 0 0 (payload_left rate parts) (rooms_of size (removed_of parts)) (enough rate size parts))
 
@@ -215,7 +215,7 @@ carried_alone : (rate leak : ℕ) (parts : List Part) (times : List ℕ) →
 unfolding payload_left
 carried_alone rate leak parts times = last_left-append leak 0 (payload_left rate parts) (left_after rate parts times)
 
--- 4. What is kept, once bytes have come
+-- 4. The kept times after bytes have arrived
 
 later_stopped : (cap a p q : ℕ) → q ≡ min p cap → min (max a q) cap ≡ min (max a p) cap
 later_stopped cap a p q is = omega (arith, is)
@@ -266,7 +266,7 @@ rooms_carried old settled new rate leak size n parts times k many rooms len last
     rest : (l m n size : ℕ) → l ≡ m + n → m ≡ size → l - n ≡ size
     rest l m n size long is = omega (arith, long, is)
 
--- a unit that begins, and bytes that go no further than the transport buffer
+-- A unit that begins, and bytes that stop at the transport buffer, change no room.
 pub rooms_begun : (old new : EbRooms) (rate leak size : ℕ) (parts : List Part) (due : DueTime) → AreRooms old rate leak size parts →
     ((from : ℕ) → raised from (rooms_now new) ≡ raised from (rooms_now old)) → length (rooms_now new) ≡ length (rooms_now old) → new.last ≡ old.last →
     new.current.until ≡ due.until →
@@ -284,7 +284,7 @@ pub rooms_passed : (rooms : EbRooms) (rate leak size : ℕ) (parts : List Part) 
 unfolding removed_of payload_left until_of
 rooms_passed rooms rate leak size parts times k = record { last = k.last; next = k.next; many = k.many; until = k.until }
 
--- nothing has come
+-- Before any byte has arrived, the kept times are all 0.
 pub rooms_empty : (rooms : EbRooms) (rate leak size : ℕ) → rooms_now rooms ≡ replicate size 0 → rooms.last ≡ 0 → rooms.current.until ≡ 0 →
     AreRooms rooms rate leak size []
 unfolding removed_of payload_left until_of last_left last_transfer

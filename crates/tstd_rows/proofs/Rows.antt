@@ -1,4 +1,4 @@
--- Bytes of a unit that enter both buffers, and the excess of the main buffer.
+-- Bytes of a unit that enter both buffers, and the excess of the main buffer
 use Rattle.std.proofs.Common.{◌≡◌, ◌∙◌, sym, ℕ, ◌+◌, ◌<◌, List, ◌∷◌, Option, None, ap, ap₂, subst, arith}
 use Rattle.clock27.specs.Departure.{departures, last_left}
 use Rattle.clock27.specs.Peak.{greatest_at, most_found}
@@ -22,7 +22,7 @@ use Rattle.tstd_rows.proofs.Views.{row_lowest, row_most}
 use Rattle.tstd_rows.specs.Held.{Held, IsHeld, carried, last_entry, main_ended, main_found, main_least_found, passed, transport_busy_under_way, transport_found}
 use Rattle.tstd_rows.specs.declared.stream_buffers.StreamBuffers.{StreamBuffers}
 
--- the most in the main buffer when one of these bytes enters
+-- At the entries of these bytes, the most bytes of the view are the most bytes of the parts.
 pub main_row : {A : Type 0} (view : StreamView A) (rate : ℕ) (parts : List Part) (ts : List ℕ) → IsViewOf view parts → view.transport.step ≡ rate →
     0 < view.transport.step →
     greatest_at (fullness_with view.main (departures view.transport.step view.transport.last ts)) (departures view.transport.step view.transport.last ts)
@@ -34,7 +34,7 @@ main_row view rate parts ts v step pos =
     ∙ row_most s (fullness_at view.main) parts ts pos (λ x le. v.held x (omega (arith, le, last)))
     ∙ ap (λ (n : ℕ). greatest_at (main_fullness n (Carries ts ∷ parts)) (left_after n parts ts)) step
 
--- and the least that one of them finds there
+-- The fewest bytes that these bytes find in the view are the fewest in the parts.
 pub least_row : {A : Type 0} (view : StreamView A) (rate : ℕ) (parts : List Part) (ts : List ℕ) → IsViewOf view parts → view.transport.step ≡ rate →
     0 < view.transport.step →
     least_in view.main None (departures view.transport.step view.transport.last ts) ≡ row_least rate parts ts
@@ -50,7 +50,7 @@ pub main_lowest_found : (old : StreamBuffers) (h : Held) (ts times : List ℕ) (
 main_lowest_found old h ts times found k same pos is =
     is ∙ least_row old.view h.rate h.parts ts k.view k.step pos ∙ ap (λ (t : List ℕ). main_least_found h t) same
 
--- the same of bytes that are told by when they arrive
+-- The most bytes found in the main buffer are the most that the parts and the arrival times give.
 pub main_most_found : (old : StreamBuffers) (h : Held) (ts times : List ℕ) (found : ℕ) → IsHeld old h → ts ≡ times → 0 < old.view.transport.step →
     found ≡ greatest_at (fullness_with old.view.main (departures old.view.transport.step old.view.transport.last ts))
     (departures old.view.transport.step old.view.transport.last ts) →
@@ -58,7 +58,7 @@ pub main_most_found : (old : StreamBuffers) (h : Held) (ts times : List ℕ) (fo
 main_most_found old h ts times found k same pos is =
     is ∙ main_row old.view h.rate h.parts ts k.view k.step pos ∙ ap (λ (t : List ℕ). main_found h t) same
 
--- the most in the transport buffer when one of these bytes arrives
+-- The most bytes found in the transport buffer are the most that the parts and the arrival times give.
 pub transport_most_found : (old : StreamBuffers) (h : Held) (ts times : List ℕ) (found : ℕ) → IsHeld old h → ts ≡ times →
     found ≡ most_found old.view.transport.step old.view.transport.last ts → found ≡ transport_found h times
 transport_most_found old h ts times found k same is =
@@ -67,7 +67,7 @@ transport_most_found old h ts times found k same is =
     ∙ ap (λ (n : ℕ). most_found n (last_of n h.parts) ts) k.step
     ∙ ap (λ (t : List ℕ). transport_found h t) same
 
--- and when the last of them leaves the transport buffer
+-- The last of these bytes leaves the transport buffer at the time that the parts give.
 pub last_row : {A : Type 0} (view : StreamView A) (after : TransportBuffer) (rate : ℕ) (parts : List Part) (ts : List ℕ) → IsViewOf view parts →
     view.transport.step ≡ rate →
     after ≡ buffer_entered view.transport ts → after.last ≡ last_of rate (Carries ts ∷ parts)
@@ -78,7 +78,7 @@ last_row view after rate parts ts v step is =
     let left : after.last ≡ last_left s view.transport.last ts = ap (λ (b : TransportBuffer). b.last) is in
     left ∙ rw last (sym (last_left-append s 0 (arrivals_of parts) ts)) ∙ ap (λ (n : ℕ). last_of n (Carries ts ∷ parts)) step
 
--- bytes of a unit enter buffers that hold what came
+-- Bytes of a unit enter buffers that hold the parts so far.
 pub carried_held : (old new : StreamBuffers) (h : Held) (ts times : List ℕ) (most last : ℕ) → IsHeld old h → ts ≡ times → new.rx ≡ old.rx →
     ((parts : List Part) → IsViewOf old.view parts → IsViewOf new.view (Carries ts ∷ parts)) → new.view.transport ≡ buffer_entered old.view.transport ts →
     new.view.watch.size ≡ old.view.watch.size → 0 < old.view.transport.step →
@@ -105,7 +105,7 @@ carried_held old new h ts times most last k same rx views enters size pos most_i
       busy = busy ∙ k.busy;
     })
 
--- bytes that go no further than the transport buffer
+-- Bytes that stop at the transport buffer enter buffers that hold the parts so far.
 pub passed_held : (old new : StreamBuffers) (h : Held) (ts times : List ℕ) → IsHeld old h → ts ≡ times → new.rx ≡ old.rx →
     ((parts : List Part) → IsViewOf old.view parts → IsViewOf new.view (Passes ts ∷ parts)) → new.view.transport ≡ buffer_entered old.view.transport ts →
     new.view.watch.size ≡ old.view.watch.size → new.main ≡ old.main → new.busy ≡ busy_with old.busy old.view.transport.last ts → IsHeld new (passed h times)
@@ -122,14 +122,14 @@ passed_held old new h ts times k same rx views enters size main busy =
       busy = busy ∙ ap₂ (λ (w : BusyWatch) (l : ℕ). busy_with w l ts) k.busy last;
     })
 
--- how long the transport buffer is not empty
+-- The time that the transport buffer is not empty is the time that the parts give.
 pub busy_held : (b : StreamBuffers) (h : Held) → IsHeld b h → busy_under_way b.busy b.view.transport.last ≡ transport_busy_under_way h
 busy_held b h k =
     let last : b.view.transport.last ≡ last_of h.rate h.parts =
     ap (λ (t : TransportBuffer). t.last) k.view.arrived ∙ ap (λ (n : ℕ). last_of n h.parts) k.step in
     ap₂ (λ (w : BusyWatch) (l : ℕ). busy_under_way w l) k.busy last
 
--- and the excess of the main buffer that has ended
+-- The excess of the main buffer that has ended is the excess that the parts give.
 pub carried_ended : (old : StreamBuffers) (after : TransportBuffer) (h : Held) (ts times : List ℕ) (most last : ℕ) (result : Option Excess) → IsHeld old h →
     ts ≡ times →
     after ≡ buffer_entered old.view.transport ts → 0 < old.view.transport.step →
@@ -143,7 +143,7 @@ carried_ended old after h ts times most last result k same enters pos most_is la
     (is ∙ ap (λ (m : MainWatch). ended_by m.size m.under_way most last) k.main ∙ ap₂ (λ (n l : ℕ). ended_by h.main.size h.main.under_way n l) found ends)
     ∙ ap (λ (t : List ℕ). main_ended h t) same
 
--- how many bytes have come
+-- The number of bytes that have arrived is the number in the parts.
 pub bytes_held : (buffers : StreamBuffers) (h : Held) → IsHeld buffers h → buffers.view.transport.bytes ≡ (transport_of h.rate h.parts).bytes
 bytes_held buffers h k =
     ap (λ (b : TransportBuffer). b.bytes) k.view.arrived ∙ ap (λ (n : ℕ). (transport_of n h.parts).bytes) k.step

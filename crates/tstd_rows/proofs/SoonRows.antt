@@ -1,4 +1,4 @@
--- When the rows end in which bytes leave a buffer.
+-- When the rows of bytes that leave a buffer end
 use Rattle.std.proofs.Common.{◌≡◌, ℕ, ◌+◌, ◌-◌, ◌*◌, ◌^◌, ◌≤◌, arith}
 use Rattle.std.proofs.Math.Nat.{mul-le-mul_right}
 use Rattle.arrival.specs.declared.row.Row.{Row}
@@ -9,7 +9,7 @@ use Rattle.tstd_rows.specs.Buffers.{IsSoon, RowsSoon, waiting_row, free_row}
 waiting_soon : (step prev count n latest : ℕ) → count ≤ n → prev ≤ latest → prev + step + count * step ≤ (latest + (n + 1) * step) * 1
 waiting_soon step prev count n latest le low = omega (arith, low, mul-le-mul_right step le)
 
--- the bytes after the first `count` of a row are as late as the row
+-- The bytes of a row after the first `count` end no later than the row.
 others_end : (from pace count rest n latest : ℕ) → n ≡ count + rest → from + n * pace ≤ latest → from + count * pace + rest * pace ≤ latest
 others_end from pace count rest n latest all early = omega (arith, rw all at early)
 
@@ -27,7 +27,7 @@ rows_soon step prev latest count row leaving waits free le low early =
           (others_end row.from row.pace count (row.bytes - count) row.bytes (latest * row.parts) (omega (arith, le)) early);
     })
 
--- a later limit is one too
+-- A bound remains true if it is raised.
 pub raised : (latest more parts end : ℕ) → end ≤ latest * parts → end ≤ (latest + more) * parts
 raised latest more parts end le = omega (arith, le)
 
@@ -36,7 +36,7 @@ one_more latest bytes n step parts end le =
     let e : latest + bytes * step + (n + 1) * step ≡ latest + (bytes + n + 1) * step = omega arith in
     rw e at le
 
--- both parts of a row that ends soon do
+-- If a row ends soon, its two parts end soon.
 pub parts_soon : (row : Row) (count : ℕ) → count ≤ row.bytes → IsSoon row → IsSoon (first_bytes row count) × IsSoon (other_bytes row count)
 parts_soon row count le soon = (
   omega (arith, soon, mul-le-mul_right row.pace le),

@@ -1,4 +1,4 @@
--- The figures of a view of a program's tables are those over all moments.
+-- The figures of a view of a program's tables are the greatest values over all moments.
 use Rattle.std.proofs.Common.{◌≡◌, ◌∙◌, ℕ, ◌*◌, ◌<◌, List, ap, arith}
 use Rattle.clock27.specs.Departure.{departures}
 use Rattle.clock27.specs.Fullness.{fullness}
@@ -18,7 +18,7 @@ use Rattle.tstd_rows.specs.declared.watched_queue.WatchedQueue.{WatchedQueue}
 abbrev empty_of : ℕ → Queue
 empty_of step = record { step = step; last = 0; longest_residence = 0 }
 
--- bytes that have passed an empty buffer
+-- For bytes that have passed an empty buffer, the longest stay gives the greatest fullness.
 passed_peak : (step : ℕ) (q : Queue) (ts : List ℕ) → 0 < step → Rises 0 ts → q ≡ all_arrived (empty_of step) ts →
     IsPeak (λ x. fullness x ts (departures step 0 ts)) (bytes_within q.step q.longest_residence)
 passed_peak step q ts some rises is =

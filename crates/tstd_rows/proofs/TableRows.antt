@@ -1,4 +1,4 @@
--- Bytes of rows that pass one buffer after another.
+-- Bytes of rows that pass one buffer after another
 use Rattle.std.proofs.Common.{◌≡◌, ◌∙◌, sym, ℕ, ◌+◌, ◌-◌, ◌*◌, ◌/◌, ◌≤◌, ◌<◌, max, List, [], ◌∷◌, ◌++◌, Result, Ok, Err, refl, ap, ap₂, append_assoc}
 use Rattle.std.specs.Prelude.{OnOk}
 use Rattle.std.proofs.lemmas.List.{append-nil}
@@ -18,11 +18,11 @@ use Rattle.tstd_rows.specs.WatchedQueues.{all_entered, empty_queue, ended_by, le
 use Rattle.tstd_rows.specs.declared.system_buffers.SystemView.{SystemView}
 use Rattle.tstd_rows.specs.declared.watched_queue.WatchedQueue.{WatchedQueue}
 
--- a buffer that one byte has entered
+-- A buffer that one byte has entered
 abbrev pub one_entered : WatchedQueue → ℕ → WatchedQueue
 one_entered b t = all_entered b (t ∷ [])
 
--- bytes after it
+-- More bytes enter after the first byte.
 enters_more : (b : WatchedQueue) (t : ℕ) (ts : List ℕ) → all_entered (one_entered b t) ts ≡ all_entered b (t ∷ ts)
 unfolding excess_after
 enters_more b t ts = refl
@@ -35,7 +35,7 @@ ends_more : (b : WatchedQueue) (t : ℕ) (ts : List ℕ) → ended_by b (t ∷ t
 unfolding excesses_ended excess_after
 ends_more b t ts = rw (append-nil _) refl
 
--- the next byte of a row
+-- After byte j, the rest of the row from byte j + 1 enters.
 pub next_first : (b : WatchedQueue) (from pace parts n j : ℕ) → j < n →
     all_entered (one_entered b ((from + j * pace) / parts)) (times_in_row (from + (j + 1) * pace) pace parts (n - (j + 1)))
     ≡ all_entered b (times_in_row (from + j * pace) pace parts (n - j))
@@ -68,7 +68,7 @@ next_left b p es from pace parts n j below =
     rw (row_next from pace parts n j below, leaves_more b t ts, ends_more p (max t b.queue.last + b.queue.step) (left_at (one_entered b t) ts))
     (append_assoc es _ _)
 
--- none is left
+-- No byte remains.
 none_enters : (b : WatchedQueue) → b ≡ all_entered b []
 unfolding excess_after
 none_enters b = refl
@@ -90,7 +90,7 @@ pub end_left : (b p : WatchedQueue) (es : List Excess) (from pace parts n j : �
 unfolding excesses_ended departures
 end_left b p es from pace parts n j over = rw (row_end from pace parts n j over) (sym (append-nil es))
 
--- bytes after others
+-- Bytes of two lists arrive in turn.
 all-append : (q : Queue) (ts us : List ℕ) → all_arrived q (ts ++ us) ≡ all_arrived (all_arrived q ts) us
 all-append q [] us = refl
 all-append q (t ∷ ts) us = all-append (arrived q t) ts us
@@ -121,7 +121,7 @@ tables_more view view' step system_step times ts v first second =
           ∙ ap (λ (ds : List ℕ). all_entered p ds) (sym (departures-append (2 * step) 0 times ts));
     }
 
--- where the call gives something
+-- A property that follows from a property of a successful call is a property of this call too.
 pub on_ok : {V E A B : Type 0} (r : Result V E) → (A → B) → OnOk r A → OnOk r B
 on_ok (Ok v) f a = f a
 on_ok (Err e) f a = tt

@@ -1,4 +1,4 @@
--- Units and their bytes in a main buffer, one more of them and more of the last.
+-- Units and their bytes in a main buffer: one more unit, and more bytes of the last unit
 use Rattle.std.proofs.Common.{◌≡◌, ℕ, zero, suc, ◌+◌, List, [], ◌∷◌, ◌++◌, length, take, drop, Option, Some, None, refl, ap, arith}
 use Rattle.std.proofs.lemmas.List.{length-append}
 use Rattle.unit_timing.specs.MainBuffer.{mb_fullness}
@@ -6,12 +6,12 @@ use Rattle.unit_timing.specs.PesPacket.{PesPacket}
 use Rattle.unit_timing.proofs.MainBufferBytes.{kept, kept-append}
 use Rattle.tstd_rows.specs.ConstantRate.{with_bytes_of_last, with_payload}
 
--- all their bytes
+-- The bytes of all units
 unfoldable pub sizes : List PesPacket → ℕ
 sizes [] = 0
 sizes (u ∷ units) = u.size + sizes units
 
--- when the last of them is due
+-- When the last unit is due
 unfoldable pub last_due : List PesPacket → ℕ
 last_due [] = 0
 last_due (u ∷ []) = u.dts
@@ -38,7 +38,7 @@ take_all_of zero (x ∷ xs) many = absurd (omega (arith, many))
 take_all_of (suc n) [] many = absurd (omega (arith, many))
 take_all_of (suc n) (x ∷ xs) many = ap (λ (l : List ℕ). x ∷ l) (take_all_of n xs (omega (arith, many)))
 
--- a unit more, and bytes more of the last unit
+-- One more unit adds its bytes that are in the buffer, and so do more bytes of the last unit.
 pub unit_more : (rate r x due : ℕ) (units : List PesPacket) (left ds : List ℕ) → length left ≡ sizes units →
     mb_fullness rate r x (units ++ record { dts = due; size = length ds; front = 0 } ∷ []) (left ++ ds) ≡ mb_fullness rate r x units left + kept rate r x due ds
 unfolding mb_fullness kept sizes

@@ -1,4 +1,4 @@
--- Buffers of video that begin.
+-- Buffers of video before the first byte
 use Rattle.std.proofs.Common.{◌≡◌, sym, ℕ, List, [], subst}
 use Rattle.tstd_rows.specs.History.{Part}
 use Rattle.tstd_rows.specs.HeldVideo.{IsVideoHeld, sizes_of}

@@ -1,4 +1,4 @@
--- Laws of a video stream's two buffers.
+-- Laws of the two buffers of a video stream
 use Rattle.std.proofs.Common.{◌∙◌, max, refl, arith, inl, inr}
 use Rattle.std.proofs.lemmas.Bool.{cases_lt, lt-ltb, le-ltb}
 use Rattle.unit_timing.specs.LeakMethod.{rooms_of}

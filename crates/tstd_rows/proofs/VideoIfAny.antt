@@ -1,4 +1,4 @@
--- The buffers of video of a stream that may have none.
+-- The buffers of video of a stream that may have none
 use Rattle.std.proofs.Common.{◌≡◌, ◌∙◌, ℕ, List, ◌∷◌, Option, Some, None, Result, Ok, Err, OnOk, refl, subst, ap}
 use Rattle.tstd_rows.specs.declared.transport_buffer.TransportBuffer.{TransportBuffer}
 use Rattle.tstd_rows.specs.History.{Part, transport_of, main_peak, unit_of}
@@ -14,7 +14,7 @@ use Rattle.tstd_rows.specs.declared.late_causes.VideoUnit.{VideoUnit}
 use Rattle.tstd_rows.specs.declared.video_buffers.VideoBuffers.{VideoBuffers}
 use Rattle.tstd_rows.specs.declared.video_buffers.VideoEntered.{VideoEntered}
 
--- payload bytes enter buffers that are there
+-- Payload bytes enter the buffers that exist.
 pub some_taken : (video : Option VideoBuffers) (v v' : VideoBuffers) (sizes : Option VideoSizes) (rate : ℕ) (parts more : List Part) → video ≡ Some v →
     HoldsVideo video sizes rate parts →
     ((s : VideoSizes) → IsVideoHeld v s rate parts → IsVideoHeld v' s rate more) → HoldsVideo (Some v') sizes rate more
@@ -31,7 +31,7 @@ some_found None v sizes rate parts times e is k f = absurd cc
 some_found (Some w) v None rate parts times e is k f = absurd k
 some_found (Some w) v (Some s) rate parts times e is k f = let same : w ≡ v = cc in f s (subst (λ (x : VideoBuffers). IsVideoHeld x s rate parts) same k)
 
--- or there are none
+-- If there are no buffers of video, nothing changes.
 pub none_taken : (video : Option VideoBuffers) (sizes : Option VideoSizes) (rate : ℕ) (parts more : List Part) → video ≡ None →
     HoldsVideo video sizes rate parts → HoldsVideo video sizes rate more
 none_taken None None rate parts more is k = tt
@@ -46,7 +46,7 @@ none_found None None rate parts times e is k p q r s t = rw (p, q, r, s, t) refl
 none_found None (Some z) rate parts times e is k p q r s t = absurd k
 none_found (Some v) sizes rate parts times e is k p q r s t = absurd cc
 
--- a unit begins in them
+-- A unit begins in the buffers of video.
 pub some_begun : {V E : Type 0} (result : Result V E) (video : Option VideoBuffers) (v v' : VideoBuffers) (sizes : Option VideoSizes) (rate : ℕ)
     (parts : List Part) (due : DueTime) → video ≡ Some v →
     HoldsVideo video sizes rate parts → ((s : VideoSizes) → IsVideoHeld v s rate parts → OnOk result (IsVideoHeld v' s rate (Begins due ∷ parts))) →
@@ -70,7 +70,7 @@ none_unit None None rate parts unit is k none = none
 none_unit None (Some s) rate parts unit is k none = absurd k
 none_unit (Some v) sizes rate parts unit is k none = absurd cc
 
--- what they held
+-- The most bytes that the buffers have held are the figures of the parts.
 pub most_in : (v : VideoBuffers) (sizes : VideoSizes) (rate : ℕ) (parts : List Part) → IsVideoHeld v sizes rate parts →
     v.view.transport.most ≡ (multiplexing_buffer rate sizes.leak parts).most
 most_in v sizes rate parts k =
@@ -86,7 +86,7 @@ pub unit_held : (v : VideoBuffers) (sizes : VideoSizes) (rate : ℕ) (parts : Li
     v.view.unit ≡ unit_of sizes.leak (leaked rate parts)
 unit_held v sizes rate parts k = k.view.unit ∙ ap (λ (s : ℕ). unit_of s (leaked rate parts)) k.leak
 
--- the unit under way, with when its last byte goes to EB
+-- Times that are equal once limited give the same entry of the current unit.
 entry_same : (unit : Option UnitSeen) (time time' : ℕ) → capped time ≡ capped time' → with_entry unit time ≡ with_entry unit time'
 unfolding with_entry
 entry_same None time time' is = refl

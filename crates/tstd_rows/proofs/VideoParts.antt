@@ -1,4 +1,4 @@
--- A video stream as its multiplexing buffer has it.
+-- A video stream as its multiplexing buffer receives it
 use Rattle.std.proofs.Common.{◌≡◌, ◌∙◌, sym, ℕ, suc, ◌+◌, ◌<◌, List, [], ◌∷◌, ◌++◌, None, refl, subst, ap, ap₂, arith}
 use Rattle.clock27.specs.Departure.{departures, last_left}
 use Rattle.clock27.specs.Fullness.{fullness}
@@ -32,7 +32,7 @@ leaked_until step (Passes ts ∷ before) = leaked_until step before
 leaked_until step (Carries ts ∷ before) = leaked_until step before
 leaked_until step (Begins due ∷ before) = refl
 
--- when bytes of one part leave MB
+-- In the stream that MB receives, the bytes of a part leave when they leave MB.
 pub leaked_leave : (step leak : ℕ) (before : List Part) (ts : List ℕ) →
     left_after leak (leaked step before) (left_after step before ts) ≡ leaked_after step leak before ts
 leaked_leave step leak before ts = ap (λ (us : List ℕ). departures leak (last_left leak 0 us) (left_after step before ts)) (leaked_arrive step before)
@@ -71,7 +71,7 @@ leaked_parts step leak parts = record {
   until = leaked_until step parts;
 }
 
--- payload bytes leave a buffer one after another, however they arrive
+-- Payload bytes leave a buffer one after another, however they arrive.
 payload_rises : (step : ℕ) (parts : List Part) → 0 < step → Rises 0 (payload_left step parts)
 unfolding payload_left
 payload_rises step [] pos = unfold Rises in tt

@@ -1,4 +1,4 @@
--- Bytes of video that enter its two buffers.
+-- Bytes of video that enter the two buffers
 use Rattle.std.proofs.Common.{◌≡◌, ◌∙◌, sym, Global, ℕ, ◌+◌, ◌*◌, ◌^◌, ◌≤◌, max, List, [], ◌∷◌, ◌++◌, length, replicate, take, drop, Option, Some, None, Result}
 use Rattle.std.proofs.Common.{Ok, Err, IfOk, OnOk, refl, subst, ap, ap₂, arith}
 use Rattle.std.specs.Option.{option_to_list}
@@ -40,7 +40,7 @@ use Rattle.tstd_rows.specs.declared.stream_buffers.StreamBuffers.{StreamBuffers}
 use Rattle.tstd_rows.specs.declared.video_buffers.VideoBuffers.{VideoBuffers}
 use Rattle.tstd_rows.specs.declared.video_buffers.VideoEntered.{VideoEntered}
 
--- what a view of them says of one row, in the words of EB
+-- At the entries of a row, the most bytes in the main buffer of the view are the most bytes in EB.
 found_leaked : (rate leak : ℕ) (parts : List Part) (times : List ℕ) →
     greatest_at (main_fullness leak (Carries (left_after rate parts times) ∷ leaked rate parts))
     (left_after leak (leaked rate parts) (left_after rate parts times)) ≡ elementary_found rate leak parts times
@@ -51,7 +51,7 @@ found_leaked rate leak parts times =
     (leaked_held rate leak (Carries times ∷ parts))
     ∙ ap (greatest_at (elementary_held rate leak (Carries times ∷ parts))) (leaked_leave rate leak parts times)
 
--- a view of a row more
+-- A view of one more row of the stream that enters MB is a view of one more row of the video stream.
 pub leaked_view : {A : Type 0} (view : StreamView A) (rate : ℕ) (parts : List Part) (ls times : List ℕ) → ls ≡ left_after rate parts times →
     IsViewOf view (Carries ls ∷ leaked rate parts) → IsViewOf view (leaked rate (Carries times ∷ parts))
 unfolding leaked
@@ -66,14 +66,14 @@ pub empty_view : {A : Type 0} (view : StreamView A) (rate : ℕ) → IsViewOf vi
 unfolding leaked
 empty_view view rate v = v
 
--- when the last byte leaves MB
+-- The last byte of the view leaves at the time when the last byte leaves MB.
 pub leaked_last : {A : Type 0} (view : StreamView A) (leak rate : ℕ) (parts : List Part) → view.transport.step ≡ leak → IsViewOf view (leaked rate parts) →
     view.transport.last ≡ last_leaked rate leak parts
 leaked_last view leak rate parts step v =
     ap (λ (b : TransportBuffer). b.last) v.arrived
     ∙ ap₂ (λ (s : ℕ) (ts : List ℕ). last_left s 0 ts) step (leaked_arrive rate parts)
 
--- and the excess of MB under way
+-- The current excess of the view is the current excess of MB.
 pub leaked_excess : {A : Type 0} (view : StreamView A) (leak size rate : ℕ) (parts : List Part) → view.transport.step ≡ leak → view.watch.size ≡ size →
     IsViewOf view (leaked rate parts) →
     view.watch.under_way ≡ multiplexing_under_way rate leak size parts
@@ -87,7 +87,7 @@ grown : (rate leak size : ℕ) (parts : List Part) (times : List ℕ) →
 unfolding elementary_under_way
 grown rate leak size parts times = refl
 
--- the most in EB when one of the bytes enters, as a view has it
+-- The most bytes that a view finds at the entries of a row are the most bytes in EB.
 elementary_is : (old : VideoBuffers) (sizes : VideoSizes) (rate : ℕ) (parts : List Part) (ls times : List ℕ) (most : ℕ) → IsVideoHeld old sizes rate parts →
     ls ≡ left_after rate parts times →
     most ≡ greatest_at (main_fullness old.view.transport.step (Carries ls ∷ leaked rate parts)) (left_after old.view.transport.step (leaked rate parts) ls) →
@@ -97,7 +97,7 @@ elementary_is old sizes rate parts ls times most k is found =
     ∙ ap₂ (λ (s : ℕ) (ts : List ℕ). greatest_at (main_fullness s (Carries ts ∷ leaked rate parts)) (left_after s (leaked rate parts) ts)) k.leak is
     ∙ found_leaked rate sizes.leak parts times
 
--- bytes enter buffers that hold what came
+-- Bytes enter buffers that hold the parts so far.
 pub video_held : (old new : VideoBuffers) (sizes : VideoSizes) (rate : ℕ) (parts : List Part) (ls times : List ℕ) (most last : ℕ) →
     IsVideoHeld old sizes rate parts → ls ≡ left_after rate parts times →
     IsViewOf new.view (Carries ls ∷ leaked rate parts) → new.view.transport.step ≡ old.view.transport.step → new.view.watch.size ≡ old.view.watch.size →
@@ -133,7 +133,7 @@ many_left l =
     ∙ ap₂ (λ (m n : ℕ). m + n) (length-row l.waiting.from l.waiting.pace l.waiting.parts l.waiting.bytes)
     (length-row l.free.from l.free.pace l.free.parts l.free.bytes))
 
--- and when EB has room for what comes next
+-- After these bytes, the kept times give the rooms of the next bytes.
 pub rooms_taken : (old : VideoBuffers) (settled new : EbRooms) (sizes : VideoSizes) (rate step n : ℕ) (parts : List Part) (ls times : List ℕ) →
     IsVideoHeld old sizes rate parts → ls ≡ left_after rate parts times →
     n ≡ length ls → step ≡ sizes.leak →
@@ -157,7 +157,7 @@ same_video : (e : VideoEntered) (multiplexing : List Excess) (elementary : Optio
     video_view e ≡ record { multiplexing = multiplexing; elementary = elementary; multiplexing_most = most; elementary_most = elementary_most }
 same_video e multiplexing elementary most elementary_most p q r s = rw (p, q, r, s) refl
 
--- and what has ended
+-- The excesses and the figures of the view are the results of these bytes.
 pub video_found : (old : VideoBuffers) (new : StreamView Global) (sizes : VideoSizes) (rate : ℕ) (parts : List Part) (ls times : List ℕ) (most last : ℕ)
     (e : VideoEntered) → IsVideoHeld old sizes rate parts →
     ls ≡ left_after rate parts times → IsViewOf new (Carries ls ∷ leaked rate parts) → new.transport.step ≡ old.view.transport.step →
@@ -188,7 +188,7 @@ video_found old new sizes rate parts ls times most last e k is view step found l
     ∙ ap (λ (ts : List ℕ). most_found sizes.leak (last_leaked rate sizes.leak parts) ts) is)
     (elementary ∙ most_is)
 
--- a unit begins
+-- A unit begins in buffers that hold the parts so far.
 pub video_begun : (old new : VideoBuffers) (sizes : VideoSizes) (rate : ℕ) (parts : List Part) (due : DueTime) → IsVideoHeld old sizes rate parts →
     IsViewOf new.view (leaked rate (Begins due ∷ parts)) →
     new.view.transport ≡ old.view.transport → new.view.watch ≡ old.view.watch → new.elementary ≡ old.elementary → new.busy ≡ old.busy →
@@ -205,12 +205,12 @@ video_begun old new sizes rate parts due k view transport watch elementary busy 
       rooms = rooms;
     }
 
--- when the last byte so far goes to EB
+-- The last byte so far goes to EB at the time of the definition, up to the greatest time.
 pub entry_in : (v : VideoBuffers) (sizes : VideoSizes) (rate : ℕ) (parts : List Part) → IsVideoHeld v sizes rate parts →
     capped (max v.view.transport.last v.rooms.last) ≡ capped (last_transferred rate sizes.leak sizes.elementary parts)
 entry_in v sizes rate parts k = ap (λ (l : ℕ). capped (max l v.rooms.last)) (leaked_last v.view sizes.leak rate parts k.leak k.view) ∙ k.rooms.last
 
--- bytes that go no further than the transport buffer
+-- Bytes that stop at the transport buffer change no buffer of video.
 pub video_passed : (video : Option VideoBuffers) (sizes : Option VideoSizes) (rate : ℕ) (parts : List Part) (times : List ℕ) →
     HoldsVideo video sizes rate parts → HoldsVideo video sizes rate (Passes times ∷ parts)
 unfolding elementary_under_way leaked leak_busy
@@ -229,7 +229,7 @@ video_passed (Some v) (Some s) rate parts times k =
           rooms_passed v.rooms rate s.leak s.elementary parts times k.rooms;
     }
 
--- nothing has come
+-- Before the first part, the buffers hold no parts.
 pub video_empty : (video : VideoBuffers) (sizes : VideoSizes) (rate : ℕ) → video.view.transport.step ≡ sizes.leak → video.view.watch.size ≡ sizes.multiplexing →
     IsViewOf video.view [] →
     video.elementary ≡ record { size = sizes.elementary; under_way = None } → video.busy ≡ never_busy sizes.second →
@@ -246,7 +246,7 @@ video_empty video sizes rate leak size view main busy rooms =
       rooms = rooms;
     }
 
--- how long MB is not empty
+-- The time that MB is not empty is the time that the parts give.
 pub busy_in : (v : VideoBuffers) (sizes : VideoSizes) (rate : ℕ) (parts : List Part) → IsVideoHeld v sizes rate parts →
     busy_under_way v.busy v.view.transport.last ≡ busy_under_way (leak_busy rate sizes.leak sizes.second parts) (last_leaked rate sizes.leak parts)
 busy_in v sizes rate parts k = ap₂ (λ (w : BusyWatch) (l : ℕ). busy_under_way w l) k.busy (leaked_last v.view sizes.leak rate parts k.leak k.view)
@@ -255,7 +255,7 @@ pub no_bytes : {A : Type 0} (view : StreamView A) → IsViewOf view [] → view.
 unfolding arrivals_of
 no_bytes view v = ap (λ (b : TransportBuffer). b.bytes) v.arrived
 
--- how bytes leave the transport buffer of buffers that hold what came
+-- Bytes leave the transport buffer at the times that the parts give.
 pub left_held : (old : StreamBuffers) (h : Held) (ls ts times : List ℕ) → IsHeld old h → ts ≡ times →
     ls ≡ departures old.view.transport.step old.view.transport.last ts → ls ≡ left_after h.rate h.parts times
 left_held old h ls ts times k same is =
@@ -267,7 +267,7 @@ left_held old h ls ts times k same is =
 below : (a b c : ℕ) → a ≤ b → b ≤ c → a ≤ c
 below a b c first second = omega (arith, first, second)
 
--- a row in which they leave ends soon
+-- A row of bytes that leave ends soon.
 pub soon_row : (row : Row) (n step : ℕ) → n ≤ 2 ^ 40 → step ≤ 2 ^ 28 → row.from + row.bytes * row.pace ≤ (2 ^ 86 + (n + 1) * step) * row.parts → IsSoon row
 soon_row row n step few slow by =
     let up : n + 1 ≤ 2 ^ 40 + 1 = omega (arith, few) in

@@ -1,4 +1,4 @@
--- Bytes that come in two rows one after another come as in one.
+-- Bytes that arrive in two rows, one after another, have the same effect as in one row.
 use Rattle.std.proofs.Common.{◌≡◌, ◌∙◌, sym, ℕ, ◌+◌, ◌≤◌, ◌<◌, max, List, [], ◌∷◌, ◌++◌, length, Option, Some, None, refl, ap, ap₂, arith, append_assoc, All}
 use Rattle.std.proofs.lemmas.List.{append-nil, length-append}
 use Rattle.clock27.specs.Departure.{departures, last_left}
@@ -79,7 +79,7 @@ unit_joined step a b parts =
     bytes_joined (unit_of step parts) (length a) (length b) (length (a ++ b)) (last_of step (Carries a ∷ parts)) (last_of step (Carries b ∷ Carries a ∷ parts))
     (last_of step (Carries (a ++ b) ∷ parts)) (length-append a b) (ap (last_left step 0) (arrivals_joined a b parts))
 
--- a view of two rows is one of both
+-- A view of two rows is a view of both as one row.
 pub joined_view : {A : Type 0} (view : StreamView A) (a b : List ℕ) (parts : List Part) → IsViewOf view (Carries b ∷ Carries a ∷ parts) →
     IsViewOf view (Carries (a ++ b) ∷ parts)
 unfolding until_of
@@ -92,7 +92,7 @@ joined_view view a b parts v = record {
   unit = v.unit ∙ unit_joined view.transport.step a b parts;
 }
 
--- the most when one of a row enters, by all that came
+-- The most bytes that a view finds at the entries of a row are the most bytes of the parts.
 pub row_found : {A : Type 0} (view : StreamView A) (parts : List Part) (ts : List ℕ) (found : ℕ) → IsViewOf view parts → 0 < view.transport.step →
     found ≡ greatest_at (fullness_with view.main (departures view.transport.step view.transport.last ts))
     (departures view.transport.step view.transport.last ts) →
@@ -103,7 +103,7 @@ row_found view parts ts found v pos is =
     is ∙ ap₂ (λ (u l : ℕ). greatest_at (λ x. fullness_at view.main x + entered u x (departures s l ts)) (departures s l ts)) v.until last
     ∙ row_most s (fullness_at view.main) parts ts pos (λ x le. v.held x (omega (arith, le, last)))
 
--- the most when one of both rows enters
+-- The most bytes at the entries of two rows are the most at the entries of both as one row.
 pub most_joined : (step : ℕ) (a b : List ℕ) (parts : List Part) → 0 < step →
     max (greatest_at (main_fullness step (Carries a ∷ parts)) (left_after step parts a))
     (greatest_at (main_fullness step (Carries b ∷ Carries a ∷ parts)) (left_after step (Carries a ∷ parts) b))
@@ -130,7 +130,7 @@ unfolding most_found last_left
 most_found-append step prev [] b = omega arith
 most_found-append step prev (t ∷ ts) b = omega (arith, most_found-append step (max t prev + step) ts b)
 
--- what is said of both rows in turn
+-- The most bytes found by two rows in turn are the most found by both as one row.
 pub most_found_joined : (buffer buffer' : TransportBuffer) (a b : List ℕ) → buffer' ≡ buffer_entered buffer a →
     max (most_found buffer.step buffer.last a) (most_found buffer'.step buffer'.last b) ≡ most_found buffer.step buffer.last (a ++ b)
 most_found_joined buffer buffer' a b is = rw is (sym (most_found-append buffer.step buffer.last a b))
@@ -143,7 +143,7 @@ pub ended_joined : (buffer buffer' : TransportBuffer) (size size' : ℕ) (under_
 ended_joined buffer buffer' size size' under_way under_way' a b is same grows =
     rw (is, same) (in_two_ended buffer.step size buffer.last (last_left buffer.step buffer.last a) under_way under_way' a b (a ++ b) refl refl grows)
 
--- one of the rows may have no bytes
+-- A row may have no bytes.
 no_times : (row : Row) → row.bytes ≡ 0 → times_of row ≡ []
 unfolding times_in_row
 no_times row none = rw none refl

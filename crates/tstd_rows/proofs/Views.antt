@@ -1,4 +1,4 @@
--- Parts of a stream one after another, and what is in the main buffer.
+-- Parts of a stream one after another, and the contents of the main buffer
 use Rattle.std.proofs.Common.{◌≡◌, ◌∙◌, sym, ℕ, suc, ◌+◌, ◌≤◌, ◌<◌, max, List, [], ◌∷◌, ◌++◌, length, Option, Some, None, refl, subst, ap, ap₂, arith, All}
 use Rattle.std.proofs.Math.Nat.{le_trans}
 use Rattle.std.proofs.lemmas.List.Elements.{All-nil, All-append, All-weaker, All-head, All-tail}
@@ -35,13 +35,13 @@ use Rattle.tstd_rows.specs.declared.unit_seen.UnitSeen.{UnitSeen}
 use Rattle.tstd_rows.specs.declared.unit_seen.DueTime.{DueTime}
 use Rattle.tstd_rows.specs.History.Part.{Passes, Carries, Begins}
 
--- the last departure is no earlier than the one before the first
+-- The last departure is no earlier than the departure before the first byte.
 pub prev_le : (step prev : ℕ) (ts : List ℕ) → prev ≤ last_left step prev ts
 unfolding last_left
 prev_le step prev [] = omega arith
 prev_le step prev (t ∷ ts) = omega (arith, prev_le step (max t prev + step) ts)
 
--- payload bytes leave no later than the last of all bytes
+-- Payload bytes leave no later than the last of all bytes.
 pub payload_by : (step : ℕ) (parts : List Part) → All (λ d. d ≤ last_of step parts) (payload_left step parts)
 unfolding payload_left arrivals_of
 payload_by step [] = All-nil (λ d. d ≤ last_of step [])
@@ -57,7 +57,7 @@ payload_by step (Carries ts ∷ before) =
     (rising step (last_of step before) ts))
 payload_by step (Begins due ∷ before) = payload_by step before
 
--- at times up to `by` nothing has entered that enters later
+-- At times up to `by`, bytes that enter later make no difference.
 pub greatest_before : (f : ℕ → ℕ) (until by : ℕ) (ds us : List ℕ) → All (λ d. d ≤ by) ds → Climbs (suc by) us →
     greatest_at (λ x. f x + entered until x us) ds ≡ greatest_at f ds
 unfolding greatest_at
@@ -66,7 +66,7 @@ greatest_before f until by (d ∷ ds) us all climbs =
     let none = none_entered until d us (suc by) (omega (arith, All-head (λ d. d ≤ by) d ds all)) (climbs_rises (suc by) us climbs) in
     omega (arith, none, greatest_before f until by ds us (All-tail (λ d. d ≤ by) d ds all) climbs)
 
--- and from then on two are the same
+-- If two functions agree from `from` on, their greatest values at later times are equal.
 greatest_from : (f g : ℕ → ℕ) (until from : ℕ) (ds us : List ℕ) → Climbs (suc from) ds → ((x : ℕ) → from ≤ x → f x ≡ g x) →
     greatest_at (λ x. f x + entered until x us) ds ≡ greatest_at (λ x. g x + entered until x us) ds
 unfolding greatest_at Climbs
@@ -79,7 +79,7 @@ greatest_from f g until from (d ∷ ds) us climbs same =
           same,
     )
 
--- the most with bytes that enter after the others
+-- The most bytes so far, and the most at the entries of later bytes, are the most of the longer parts.
 most_more : (step peak : ℕ) (held : ℕ → ℕ) (before : List Part) (ts : List ℕ) → 0 < step →
     ((x : ℕ) → last_of step before ≤ x → held x ≡ main_fullness step before x) → peak ≡ main_peak step before →
     max peak (greatest_at (λ x. held x + entered (until_of before) x (left_after step before ts)) (left_after step before ts)) ≡ main_peak step
@@ -97,7 +97,7 @@ most_more step peak held before ts pos same is =
     let later = greatest_from held f until (last_of step before) ds ds climbs same in
     omega (arith, ext, both, first, later, is)
 
--- the most when one of these enters
+-- At the entries of these bytes, the most bytes of the buffer are the most bytes of the parts.
 pub row_most : (step : ℕ) (held : ℕ → ℕ) (before : List Part) (ts : List ℕ) → 0 < step →
     ((x : ℕ) → last_of step before ≤ x → held x ≡ main_fullness step before x) →
     greatest_at (λ x. held x + entered (until_of before) x (left_after step before ts)) (left_after step before ts)
@@ -110,7 +110,7 @@ row_most step held before ts pos same =
     greatest_from held f until (last_of step before) ds ds (departures_climb step (last_of step before) ts pos) same
     ∙ sym (greatest_ext (main_fullness step (Carries ts ∷ before)) (λ x. f x + entered until x ds) ds (λ x. refl))
 
--- the least that one of these finds
+-- The fewest bytes that these bytes find in the buffer are the fewest in the parts.
 pub row_lowest : (step : ℕ) (held : ℕ → ℕ) (before : List Part) (ts : List ℕ) → 0 < step →
     ((x : ℕ) → last_of step before ≤ x → held x ≡ main_fullness step before x) →
     least_found held (until_of before) 0 None (left_after step before ts) ≡ row_least step before ts
@@ -120,7 +120,7 @@ row_lowest step held before ts pos same =
     found_shift (main_fullness step before) held (until_of before) 0 0 (suc (last_of step before)) None ds (climbs_rises (suc (last_of step before)) ds climbs)
     (λ x le. omega (arith, same x (omega (arith, le))))
 
--- and what is there
+-- Equal states give the same number of bytes after more bytes.
 held_more : (step x last last' until until' now here before : ℕ) (ts : List ℕ) → last ≡ last' → until ≡ until' → here ≡ before →
     now ≡ here + entered until x (departures step last ts) → now ≡ before + entered until' x (departures step last' ts)
 held_more step x last last' until until' now here before ts at stays same is = is ∙ rw (at, stays, same) refl
@@ -130,9 +130,9 @@ watched_more : (step size last : ℕ) (under_way under_way' : Option Excess) (ea
     under_way' ≡ excess_after step size 0 None (earlier ++ ts)
 watched_more step size last under_way under_way' earlier ts at is is' = is' ∙ rw (at, is) (sym (after-append step size 0 None earlier ts))
 
--- ---- one part more
+-- One more part
 
--- bytes that enter after others
+-- Bytes enter after earlier bytes.
 entered_more : (buffer buffer' : TransportBuffer) (earlier ts : List ℕ) → buffer ≡ buffer_entered (empty buffer.step) earlier →
     buffer' ≡ buffer_entered buffer ts →
     buffer' ≡ buffer_entered (empty buffer'.step) (earlier ++ ts)
@@ -206,7 +206,7 @@ carried {A = A} view view' before ts v pos enters grows size held until most uni
           ∙ ap (λ (n : ℕ). with_bytes (unit_of n before) (length ts) (last_of n (Carries ts ∷ before))) (sym step);
     }
 
--- no part has come
+-- Before the first part, the state is a view of no parts.
 pub nothing : {A : Type 0} (view : StreamView A) (step : ℕ) → view.transport ≡ empty step → view.watch.under_way ≡ None →
     ((x : ℕ) → fullness_at view.main x ≡ 0) →
     view.main.peak ≡ 0 → view.main.current.until ≡ 0 → view.unit ≡ None → IsViewOf view []
@@ -222,7 +222,7 @@ nothing view step transport none held peak until unit =
       unit = unit;
     }
 
--- a unit begins
+-- If a unit begins, the state is a view of the parts with this unit.
 pub unit_begun : {A : Type 0} (view view' : StreamView A) (before : List Part) (due : DueTime) → IsViewOf view before →
     view'.transport ≡ view.transport → view'.watch ≡ view.watch → ((x : ℕ) → fullness_at view'.main x ≡ fullness_at view.main x) →
     view'.main.peak ≡ view.main.peak →
@@ -241,9 +241,9 @@ unit_begun view view' before due v transport watch held peak until unit =
       unit = unit;
     }
 
--- ---- numbers of bytes
+-- Numbers of bytes
 
--- all that arrive leave
+-- All bytes that arrive leave.
 pub left_bytes : (step last : ℕ) (leaving : Leaving) (row : Row) → times_left leaving ≡ departures step last (times_of row) →
     leaving.waiting.bytes + leaving.free.bytes ≡ row.bytes
 left_bytes step last leaving row is =
@@ -267,7 +267,7 @@ bytes_more buffer buffer' row is =
 pub climbing : (step last : ℕ) (leaving : Leaving) (ts : List ℕ) → 0 < step → times_left leaving ≡ departures step last ts → Climbs 0 (times_left leaving)
 climbing step last leaving ts pos is = rw is (climbs_low 0 (suc last) (departures step last ts) (omega arith) (departures_climb step last ts pos))
 
--- what is said of the bytes that leave is said of the departures
+-- The state after the bytes that leave is the state after the departures.
 pub held_left : {A : Type 0} (buffer buffer' : MainBuffer A) (leaving : Leaving) (ds : List ℕ) → times_left leaving ≡ ds →
     ((x : ℕ) → All (λ t. t ≤ x) (times_left leaving) → fullness_at buffer' x ≡ fullness_with buffer (times_left leaving) x) →
     (x : ℕ) → All (λ t. t ≤ x) ds → fullness_at buffer' x ≡ fullness_with buffer ds x

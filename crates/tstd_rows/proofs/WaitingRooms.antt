@@ -1,4 +1,4 @@
--- Bytes that go of units that wait, one unit after another.
+-- Bytes that go to EB from the units that wait, one unit after another
 use Rattle.std.proofs.Common.{◌≡◌, ◌∙◌, sym, ℕ, zero, suc, ◌+◌, ◌-◌, ◌<◌, ◌≤◌, ◌^◌, min, Bool, true, false, List, [], ◌∷◌, ◌++◌, length, replicate, take, drop}
 use Rattle.std.proofs.Common.{slice_index_or, slice_set, refl, ap, ap₂, arith}
 use Rattle.std.proofs.lemmas.List.{length-append, length-replicate}
@@ -30,7 +30,7 @@ less u m = record { until = u.until; bytes = u.bytes - m }
 stopped : (n m : ℕ) → n ≡ capped m → capped n ≡ capped m
 stopped n m is = omega (arith, is)
 
--- some bytes of the first unit go
+-- Some bytes of the first unit go.
 pub less_fits : (free m most : ℕ) (u current : BufferedUnit) (items : List BufferedUnit) → 0 < length items → u ≡ slice_index_or items 0 u →
     length (rooms_in free items current) < most →
     length (rooms_in free (slice_set items 0 (record { until = u.until; bytes = u.bytes - m })) current) < most
@@ -72,7 +72,7 @@ gone_time leak last last' rest m whole u (x ∷ us) some is few left at h =
     stopped last' (last_left leak last (replicate m u.until)) at ∙ ap₂ (λ (n v : ℕ). capped (last_left leak last (replicate n v))) all until
     ∙ ap (λ (l : List ℕ). capped (last_left leak last l)) (sym (taken_of rest x.bytes x.until (rooms_waiting us) some_left)) ∙ h
 
--- or all of them
+-- All bytes of the first unit go.
 pub drop_set : (items : List BufferedUnit) (v : BufferedUnit) → drop 1 (slice_set items 0 v) ≡ drop 1 items
 drop_set [] v = refl
 drop_set (x ∷ us) v = refl
@@ -125,7 +125,7 @@ next_time leak last last' rest m whole u (x ∷ us) some is few none at h =
     ∙ ap (last_left leak last) (sym (taken_past rest x.bytes x.until (rooms_waiting us) past)))
     ∙ h
 
--- none waits
+-- No unit waits.
 pub none_wait : (items : List BufferedUnit) (n : ℕ) → n ≡ length items → (0 < n → false ≡ true) → items ≡ []
 none_wait [] n is h = refl
 none_wait (x ∷ us) n is h = absurd (off (h (omega (arith, is))))

@@ -71,7 +71,8 @@ impl EbRooms {
     fn take_waiting(&mut self, leak: u64, count: u64) -> u64
         ensures rest { result ≡ count - length (rooms_waiting self.old.waiting.items) }
         ensures rooms { rooms_waiting self.new.waiting.items ≡ drop count (rooms_waiting self.old.waiting.items) }
-        ensures last { capped self.new.last ≡ capped (last_left leak self.old.last (take count (rooms_waiting self.old.waiting.items))) }
+        ensures last { capped self.new.last
+            ≡ capped (last_left leak self.old.last (take count (rooms_waiting self.old.waiting.items))) }
         ensures free { self.new.free ≡ self.old.free }
         ensures current { self.new.current ≡ self.old.current }
     {
@@ -93,7 +94,8 @@ impl EbRooms {
     pub fn take(&mut self, leak: u64, count: u64)
         ensures rooms { rooms_now self.new ≡ drop count (rooms_now self.old ++ replicate count self.old.current.until) }
         ensures last { self.new.last
-            ≡ capped (last_left leak self.old.last (take count (rooms_now self.old ++ replicate count self.old.current.until))) }
+            ≡ capped (last_left leak self.old.last
+            (take count (rooms_now self.old ++ replicate count self.old.current.until))) }
         ensures until { self.new.current.until ≡ self.old.current.until }
     {
         let rest = self.take_free(leak, count);

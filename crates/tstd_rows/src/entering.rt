@@ -54,7 +54,8 @@ impl StreamBuffers {
         requires size { 0 < rates.now.multiplexing }
         requires bound { rates.now.multiplexing ≤ 2 ^ 40 }
         ensures held { (h : Held) → IsHeld self.old h → IsHeld self.new h }
-        ensures video { (h : Held) → IsHeld self.old h → h.parts ≡ [] → HoldsVideoOf self.new (Some (sizes_of h.rate h.rx rates.now)) h }
+        ensures video { (h : Held) → IsHeld self.old h → h.parts ≡ [] →
+            HoldsVideoOf self.new (Some (sizes_of h.rate h.rx rates.now)) h }
     {
         let step = self.view.transport.step;
         self.video = Some(VideoBuffers::new(alloc, step, self.rx, rates));
@@ -125,7 +126,8 @@ impl StreamBuffers {
         requires times { has_times arrival.now byte count ≡ true }
         requires room { self.old.view.transport.bytes + count ≤ 2 ^ 40 }
         requires none { ended.old ≡ None }
-        ensures held { (h : Held) → IsHeld self.old h → IsHeld self.new (passed h (times_at arrival.now h.rx byte count)) }
+        ensures held { (h : Held) → IsHeld self.old h →
+            IsHeld self.new (passed h (times_at arrival.now h.rx byte count)) }
         ensures video { (h : Held) (sizes : Option VideoSizes) → IsHeld self.old h → HoldsVideoOf self.old sizes h →
             HoldsVideoOf self.new sizes (passed h (times_at arrival.now h.rx byte count)) }
         ensures ended { (h : Held) → IsHeld self.old h →
@@ -156,7 +158,8 @@ impl StreamBuffers {
         ensures held { (h : Held) → IsHeld self.old h → IsHeld self.new (after_bytes h arrival.now false byte count) }
         ensures video { (h : Held) (sizes : Option VideoSizes) → IsHeld self.old h → HoldsVideoOf self.old sizes h →
             HoldsVideoOf self.new sizes (after_bytes h arrival.now false byte count) }
-        ensures ended { (h : Held) → IsHeld self.old h → option_to_list ended.new ≡ bytes_transport h arrival.now byte count }
+        ensures ended { (h : Held) → IsHeld self.old h →
+            option_to_list ended.new ≡ bytes_transport h arrival.now byte count }
         ensures most { (h : Held) → IsHeld self.old h → result ≡ bytes_transport_most h arrival.now byte count }
         ensures bytes { self.new.view.transport.bytes ≡ self.old.view.transport.bytes + count }
     {
@@ -190,7 +193,8 @@ impl StreamBuffers {
         requires none_elementary { video.old.elementary ≡ None }
         requires empty { video.old.multiplexing_most ≡ 0 }
         requires empty_elementary { video.old.elementary_most ≡ 0 }
-        ensures held { (h : Held) → IsHeld self.old h → IsHeld self.new (carried h (times_at arrival.now h.rx byte count)) }
+        ensures held { (h : Held) → IsHeld self.old h →
+            IsHeld self.new (carried h (times_at arrival.now h.rx byte count)) }
         ensures video { (h : Held) (sizes : Option VideoSizes) → IsHeld self.old h → HoldsVideoOf self.old sizes h →
             HoldsVideoOf self.new sizes (carried h (times_at arrival.now h.rx byte count)) }
         ensures ended { (h : Held) → IsHeld self.old h →
@@ -203,7 +207,8 @@ impl StreamBuffers {
             result.main ≡ main_found h (times_at arrival.now h.rx byte count) }
         ensures main_least { (h : Held) → IsHeld self.old h →
             result.least ≡ main_least_found h (times_at arrival.now h.rx byte count) }
-        ensures entered_video { (h : Held) (sizes : Option VideoSizes) → IsHeld self.old h → HoldsVideoOf self.old sizes h →
+        ensures entered_video { (h : Held) (sizes : Option VideoSizes) → IsHeld self.old h →
+            HoldsVideoOf self.old sizes h →
             video_view video.new ≡ video_found sizes h.rate h.parts (times_at arrival.now h.rx byte count) }
         ensures unit_video { video.new.unit ≡ video.old.unit }
         ensures bytes { self.new.view.transport.bytes ≡ self.old.view.transport.bytes + count }
@@ -234,7 +239,8 @@ impl StreamBuffers {
         ensures video { (h : Held) (sizes : Option VideoSizes) → IsHeld self.old h → HoldsVideoOf self.old sizes h →
             OnOk result (HoldsVideoOf self.new sizes (begun h due)) }
         ensures unit { (h : Held) → IsHeld self.old h → OnOk result (unit.new ≡ unit_before h) }
-        ensures unit_video { (h : Held) (sizes : Option VideoSizes) → IsHeld self.old h → HoldsVideoOf self.old sizes h →
+        ensures unit_video { (h : Held) (sizes : Option VideoSizes) → IsHeld self.old h →
+            HoldsVideoOf self.old sizes h →
             OnOk result (video.new ≡ video_unit sizes h.rate h.parts) }
         ensures bytes { self.new.view.transport.bytes ≡ self.old.view.transport.bytes }
     {
@@ -257,7 +263,8 @@ impl StreamBuffers {
         ensures video { (h : Held) (sizes : Option VideoSizes) → IsHeld self.old h → HoldsVideoOf self.old sizes h →
             OnOk result (HoldsVideoOf self.new sizes (after_begin h due.now)) }
         ensures unit { (h : Held) → IsHeld self.old h → OnOk result (unit.new ≡ unit_ended h due.now) }
-        ensures unit_video { (h : Held) (sizes : Option VideoSizes) → IsHeld self.old h → HoldsVideoOf self.old sizes h →
+        ensures unit_video { (h : Held) (sizes : Option VideoSizes) → IsHeld self.old h →
+            HoldsVideoOf self.old sizes h →
             OnOk result (video.new ≡ video_unit_ended sizes h due.now) }
         ensures bytes { self.new.view.transport.bytes ≡ self.old.view.transport.bytes }
     {
@@ -294,12 +301,18 @@ impl StreamBuffers {
         ensures held { (h : Held) → IsHeld self.old h → IsHeld self.new (after_bytes h arrival.now enters byte count) }
         ensures video { (h : Held) (sizes : Option VideoSizes) → IsHeld self.old h → HoldsVideoOf self.old sizes h →
             HoldsVideoOf self.new sizes (after_bytes h arrival.now enters byte count) }
-        ensures ended { (h : Held) → IsHeld self.old h → option_to_list ended.new ≡ bytes_transport h arrival.now byte count }
-        ensures main { (h : Held) → IsHeld self.old h → option_to_list main.new ≡ bytes_main h arrival.now enters byte count }
-        ensures most { (h : Held) → IsHeld self.old h → result.transport ≡ bytes_transport_most h arrival.now byte count }
-        ensures main_most { (h : Held) → IsHeld self.old h → result.main ≡ bytes_main_most h arrival.now enters byte count }
-        ensures main_least { (h : Held) → IsHeld self.old h → result.least ≡ bytes_main_least h arrival.now enters byte count }
-        ensures entered_video { (h : Held) (sizes : Option VideoSizes) → IsHeld self.old h → HoldsVideoOf self.old sizes h →
+        ensures ended { (h : Held) → IsHeld self.old h →
+            option_to_list ended.new ≡ bytes_transport h arrival.now byte count }
+        ensures main { (h : Held) → IsHeld self.old h →
+            option_to_list main.new ≡ bytes_main h arrival.now enters byte count }
+        ensures most { (h : Held) → IsHeld self.old h →
+            result.transport ≡ bytes_transport_most h arrival.now byte count }
+        ensures main_most { (h : Held) → IsHeld self.old h →
+            result.main ≡ bytes_main_most h arrival.now enters byte count }
+        ensures main_least { (h : Held) → IsHeld self.old h →
+            result.least ≡ bytes_main_least h arrival.now enters byte count }
+        ensures entered_video { (h : Held) (sizes : Option VideoSizes) → IsHeld self.old h →
+            HoldsVideoOf self.old sizes h →
             video_view video.new ≡ bytes_video sizes h arrival.now enters byte count }
         ensures unit_video { video.new.unit ≡ video.old.unit }
         ensures bytes { self.new.view.transport.bytes ≡ self.old.view.transport.bytes + count }

@@ -43,8 +43,10 @@ impl ExcessWatch {
     // Takes bytes that find room; returns the excess that has ended before them.
     fn pass(&mut self, step: u64, prev: u128, row: &Row) -> Option<Excess>
         requires room { AreOver false step self.old.size prev (times_of row.now) }
-        ensures ended { option_to_list result ≡ excesses_ended step self.old.size prev self.old.under_way (times_of row.now) }
-        ensures under_way { self.new.under_way ≡ excess_after step self.old.size prev self.old.under_way (times_of row.now) }
+        ensures ended { option_to_list result
+            ≡ excesses_ended step self.old.size prev self.old.under_way (times_of row.now) }
+        ensures under_way { self.new.under_way
+            ≡ excess_after step self.old.size prev self.old.under_way (times_of row.now) }
         ensures size { self.new.size ≡ self.old.size }
     {
         if row.bytes == 0 {
@@ -64,7 +66,8 @@ impl ExcessWatch {
         requires size { self.old.size ≤ 2 ^ 40 }
         requires over { AreOver true step self.old.size prev (times_of row.now) }
         ensures ended { excesses_ended step self.old.size prev self.old.under_way (times_of row.now) ≡ [] }
-        ensures under_way { self.new.under_way ≡ excess_after step self.old.size prev self.old.under_way (times_of row.now) }
+        ensures under_way { self.new.under_way
+            ≡ excess_after step self.old.size prev self.old.under_way (times_of row.now) }
         ensures size { self.new.size ≡ self.old.size }
     {
         if row.bytes == 0 {

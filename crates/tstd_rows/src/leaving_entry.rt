@@ -31,11 +31,13 @@ pub fn enter_leaving<A: Allocator>(buffer: &mut MainBuffer<A>, leaving: &Leaving
     ensures sound { IsSound buffer.new }
     ensures there { (x : ℕ) → All (λ t. t ≤ x) (times_left leaving.now) →
         fullness_at buffer.new x ≡ fullness_with buffer.old (times_left leaving.now) x }
-    ensures most { result.most ≡ greatest_at (fullness_with buffer.old (times_left leaving.now)) (times_left leaving.now) }
+    ensures most { result.most
+        ≡ greatest_at (fullness_with buffer.old (times_left leaving.now)) (times_left leaving.now) }
     ensures least { result.least ≡ least_in buffer.old None (times_left leaving.now) }
     ensures peak { buffer.new.peak ≡ max buffer.old.peak result.most }
     ensures until { buffer.new.current.until ≡ buffer.old.current.until }
-    ensures fullness { buffer.new.fullness ≤ buffer.old.fullness + (leaving.now.waiting.bytes + leaving.now.free.bytes) }
+    ensures fullness { buffer.new.fullness
+        ≤ buffer.old.fullness + (leaving.now.waiting.bytes + leaving.now.free.bytes) }
 {
     let before = buffer.peak;
     buffer.peak = 0;

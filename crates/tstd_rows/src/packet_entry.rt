@@ -30,14 +30,17 @@ impl StreamBuffers {
     ) -> Result<(), AllocError>
         requires empty { into.old ≡ nothing_entered }
         requires count { count ≤ size_of packet.now }
-        ensures held { (h : Held) → IsHeld self.old h → OnOk result (IsHeld self.new (after_first h arrival.now packet.now count)) }
+        ensures held { (h : Held) → IsHeld self.old h →
+            OnOk result (IsHeld self.new (after_first h arrival.now packet.now count)) }
         ensures video { (h : Held) (sizes : Option VideoSizes) → IsHeld self.old h → HoldsVideoOf self.old sizes h →
             OnOk result (HoldsVideoOf self.new sizes (after_first h arrival.now packet.now count)) }
         ensures entered { (h : Held) → IsHeld self.old h →
             OnOk result (entered_view into.new ≡ entered_first h arrival.now packet.now count) }
-        ensures entered_video { (h : Held) (sizes : Option VideoSizes) → IsHeld self.old h → HoldsVideoOf self.old sizes h →
+        ensures entered_video { (h : Held) (sizes : Option VideoSizes) → IsHeld self.old h →
+            HoldsVideoOf self.old sizes h →
             OnOk result (video_view into.new.video ≡ video_first_of sizes h arrival.now packet.now count) }
-        ensures unit_video { (h : Held) (sizes : Option VideoSizes) → IsHeld self.old h → HoldsVideoOf self.old sizes h →
+        ensures unit_video { (h : Held) (sizes : Option VideoSizes) → IsHeld self.old h →
+            HoldsVideoOf self.old sizes h →
             OnOk result (into.new.video.unit ≡ video_unit_of sizes h arrival.now packet.now) }
     {
         if packet.index >= LAST_INDEX
@@ -82,9 +85,11 @@ impl StreamBuffers {
             OnOk result (HoldsVideoOf self.new sizes (after h arrival.now packet.now)) }
         ensures entered { (h : Held) → IsHeld self.old h →
             OnOk result (entered_view into.new ≡ entered h arrival.now packet.now) }
-        ensures entered_video { (h : Held) (sizes : Option VideoSizes) → IsHeld self.old h → HoldsVideoOf self.old sizes h →
+        ensures entered_video { (h : Held) (sizes : Option VideoSizes) → IsHeld self.old h →
+            HoldsVideoOf self.old sizes h →
             OnOk result (video_view into.new.video ≡ video_of sizes h arrival.now packet.now) }
-        ensures unit_video { (h : Held) (sizes : Option VideoSizes) → IsHeld self.old h → HoldsVideoOf self.old sizes h →
+        ensures unit_video { (h : Held) (sizes : Option VideoSizes) → IsHeld self.old h →
+            HoldsVideoOf self.old sizes h →
             OnOk result (into.new.video.unit ≡ video_unit_of sizes h arrival.now packet.now) }
     {
         self.enter_first(arrival, packet, packet.size.min(184), into)
@@ -103,9 +108,11 @@ impl StreamBuffers {
         ensures held { (h : Held) → IsHeld self.old h →
             OnOk result (IsHeld self.new (after_first h arrival.now packet.now (min count (size_of packet.now)))) }
         ensures video { (h : Held) (sizes : Option VideoSizes) → IsHeld self.old h → HoldsVideoOf self.old sizes h →
-            OnOk result (HoldsVideoOf self.new sizes (after_first h arrival.now packet.now (min count (size_of packet.now)))) }
+            OnOk result (HoldsVideoOf self.new sizes
+            (after_first h arrival.now packet.now (min count (size_of packet.now)))) }
         ensures entered { (h : Held) → IsHeld self.old h →
-            OnOk result (entered_view into.new ≡ entered_first h arrival.now packet.now (min count (size_of packet.now))) }
+            OnOk result (entered_view into.new
+            ≡ entered_first h arrival.now packet.now (min count (size_of packet.now))) }
     {
         self.enter_first(arrival, packet, count.min(packet.size.min(184)), into)
     }
@@ -120,7 +127,8 @@ impl StreamBuffers {
         into: &mut Entered,
     ) -> Result<(), AllocError>
         requires { into.old ≡ nothing_entered }
-        ensures held { (h : Held) → IsHeld self.old h → OnOk result (IsHeld self.new (after_part h arrival.now part.now)) }
+        ensures held { (h : Held) → IsHeld self.old h →
+            OnOk result (IsHeld self.new (after_part h arrival.now part.now)) }
         ensures video { (h : Held) (sizes : Option VideoSizes) → IsHeld self.old h → HoldsVideoOf self.old sizes h →
             OnOk result (HoldsVideoOf self.new sizes (after_part h arrival.now part.now)) }
         ensures entered { (h : Held) → IsHeld self.old h →
@@ -157,9 +165,11 @@ impl StreamBuffers {
             OnOk result (HoldsVideoOf self.new sizes (after h arrival.now packet.now)) }
         ensures entered { (h : Held) → IsHeld self.old h →
             IfOk result (λ e. entered_view e ≡ entered h arrival.now packet.now) }
-        ensures entered_video { (h : Held) (sizes : Option VideoSizes) → IsHeld self.old h → HoldsVideoOf self.old sizes h →
+        ensures entered_video { (h : Held) (sizes : Option VideoSizes) → IsHeld self.old h →
+            HoldsVideoOf self.old sizes h →
             IfOk result (λ e. video_view e.video ≡ video_of sizes h arrival.now packet.now) }
-        ensures unit_video { (h : Held) (sizes : Option VideoSizes) → IsHeld self.old h → HoldsVideoOf self.old sizes h →
+        ensures unit_video { (h : Held) (sizes : Option VideoSizes) → IsHeld self.old h →
+            HoldsVideoOf self.old sizes h →
             IfOk result (λ e. e.video.unit ≡ video_unit_of sizes h arrival.now packet.now) }
     {
         let mut entered = Entered::new();

@@ -82,7 +82,8 @@ fn enter_first<A: Allocator>(buffer: &mut MainBuffer<A>, row: &Row) -> FirstFoun
     ensures there { (x : ℕ) → All (λ t. t ≤ x) (times_of row.now) →
         fullness_with buffer.new (times_of result.others) x ≡ fullness_with buffer.old (times_of row.now) x }
     ensures least { (least : Option ℕ) →
-        least_in buffer.new (lesser least result.found) (times_of result.others) ≡ least_in buffer.old least (times_of row.now) }
+        least_in buffer.new (lesser least result.found) (times_of result.others)
+        ≡ least_in buffer.old least (times_of row.now) }
     ensures peak { peak_with buffer.new (times_of result.others) ≡ peak_with buffer.old (times_of row.now) }
     ensures until { buffer.new.current.until ≡ buffer.old.current.until }
     ensures fullness { buffer.new.fullness + result.others.bytes ≤ buffer.old.fullness + row.now.bytes }

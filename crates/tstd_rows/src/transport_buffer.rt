@@ -57,7 +57,8 @@ impl TransportBuffer {
         ensures buffer { self.new ≡ entered self.old (times_of row.now) }
         ensures timed { IsTimed result.waiting × IsTimed result.free }
         ensures soon { (latest : ℕ) → self.old.last ≤ latest + self.old.bytes * self.old.step →
-            row.now.from + row.now.bytes * row.now.pace ≤ latest * row.now.parts → LeaveSoon self.new.step self.new.bytes self.new.last result latest }
+            row.now.from + row.now.bytes * row.now.pace ≤ latest * row.now.parts →
+            LeaveSoon self.new.step self.new.bytes self.new.last result latest }
         ensures paced { IsPaced self.new }
     {
         let leaving = leave(self.step, self.last, row);

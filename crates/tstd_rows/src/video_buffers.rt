@@ -109,10 +109,14 @@ impl VideoBuffers {
         requires none { into.old.waiting ≡ None }
         requires none_free { into.old.free ≡ None }
         requires none_elementary { into.old.elementary ≡ None }
-        ensures held { (sizes : VideoSizes) (rate : ℕ) (parts : List Part) (times : List ℕ) → IsVideoHeld self.old sizes rate parts →
-            times_left leaving.now ≡ left_after rate parts times → IsVideoHeld self.new sizes rate (Carries times ∷ parts) }
-        ensures entered { (sizes : VideoSizes) (rate : ℕ) (parts : List Part) (times : List ℕ) → IsVideoHeld self.old sizes rate parts →
-            times_left leaving.now ≡ left_after rate parts times → video_view into.new ≡ video_entered sizes rate parts times }
+        ensures held { (sizes : VideoSizes) (rate : ℕ) (parts : List Part) (times : List ℕ) →
+            IsVideoHeld self.old sizes rate parts →
+            times_left leaving.now ≡ left_after rate parts times →
+            IsVideoHeld self.new sizes rate (Carries times ∷ parts) }
+        ensures entered { (sizes : VideoSizes) (rate : ℕ) (parts : List Part) (times : List ℕ) →
+            IsVideoHeld self.old sizes rate parts →
+            times_left leaving.now ≡ left_after rate parts times →
+            video_view into.new ≡ video_entered sizes rate parts times }
         ensures unit { into.new.unit ≡ into.old.unit }
         ensures bytes { self.new.view.transport.bytes
             ≡ self.old.view.transport.bytes + (leaving.now.waiting.bytes + leaving.now.free.bytes) }
@@ -233,10 +237,13 @@ pub(crate) fn take_video(
     requires none_elementary { into.old.elementary ≡ None }
     requires empty { into.old.multiplexing_most ≡ 0 }
     requires empty_elementary { into.old.elementary_most ≡ 0 }
-    ensures held { (sizes : Option VideoSizes) (rate : ℕ) (parts : List Part) (times : List ℕ) → HoldsVideo video.old sizes rate parts →
+    ensures held { (sizes : Option VideoSizes) (rate : ℕ) (parts : List Part) (times : List ℕ) →
+        HoldsVideo video.old sizes rate parts →
         times_left leaving.now ≡ left_after rate parts times → HoldsVideo video.new sizes rate (Carries times ∷ parts) }
-    ensures entered { (sizes : Option VideoSizes) (rate : ℕ) (parts : List Part) (times : List ℕ) → HoldsVideo video.old sizes rate parts →
-        times_left leaving.now ≡ left_after rate parts times → video_view into.new ≡ video_found sizes rate parts times }
+    ensures entered { (sizes : Option VideoSizes) (rate : ℕ) (parts : List Part) (times : List ℕ) →
+        HoldsVideo video.old sizes rate parts →
+        times_left leaving.now ≡ left_after rate parts times →
+        video_view into.new ≡ video_found sizes rate parts times }
     ensures unit { into.new.unit ≡ into.old.unit }
     ensures bytes { bytes_in video.new ≤ bytes_in video.old + (leaving.now.waiting.bytes + leaving.now.free.bytes) }
 {

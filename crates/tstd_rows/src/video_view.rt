@@ -41,17 +41,20 @@ impl<A: Allocator> StreamView<A> {
         requires some { 0 < row.now.bytes }
         requires count { self.old.transport.bytes + row.now.bytes ≤ 2 ^ 40 }
         requires none { ended.old ≡ None }
-        ensures view { (parts : List Part) → IsViewOf self.old parts → IsViewOf self.new (Carries (times_of row.now) ∷ parts) }
+        ensures view { (parts : List Part) → IsViewOf self.old parts →
+            IsViewOf self.new (Carries (times_of row.now) ∷ parts) }
         ensures multiplexing { result.multiplexing
             ≡ most_found self.old.transport.step self.old.transport.last (times_of row.now) }
         ensures elementary { (parts : List Part) → IsViewOf self.old parts → result.elementary
             ≡ greatest_at (main_fullness self.old.transport.step (Carries (times_of row.now) ∷ parts))
             (left_after self.old.transport.step parts (times_of row.now)) }
         ensures ended { option_to_list ended.new
-            ≡ excesses_ended self.old.transport.step self.old.watch.size self.old.transport.last self.old.watch.under_way (times_of row.now) }
+            ≡ excesses_ended self.old.transport.step self.old.watch.size self.old.transport.last
+            self.old.watch.under_way (times_of row.now) }
         ensures buffer { self.new.transport ≡ entered self.old.transport (times_of row.now) }
         ensures under_way { self.new.watch.under_way
-            ≡ excess_after self.old.transport.step self.old.watch.size self.old.transport.last self.old.watch.under_way (times_of row.now) }
+            ≡ excess_after self.old.transport.step self.old.watch.size self.old.transport.last
+            self.old.watch.under_way (times_of row.now) }
         ensures size { self.new.watch.size ≡ self.old.watch.size }
         ensures bytes { self.new.transport.bytes ≡ self.old.transport.bytes + row.now.bytes }
     {
@@ -78,14 +81,16 @@ impl<A: Allocator> StreamView<A> {
         requires count { self.old.transport.bytes + (leaving.now.waiting.bytes + leaving.now.free.bytes) ≤ 2 ^ 40 }
         requires none { waiting.old ≡ None }
         requires none_free { free.old ≡ None }
-        ensures view { (parts : List Part) → IsViewOf self.old parts → IsViewOf self.new (Carries (times_left leaving.now) ∷ parts) }
+        ensures view { (parts : List Part) → IsViewOf self.old parts →
+            IsViewOf self.new (Carries (times_left leaving.now) ∷ parts) }
         ensures multiplexing { result.multiplexing
             ≡ most_found self.old.transport.step self.old.transport.last (times_left leaving.now) }
         ensures elementary { (parts : List Part) → IsViewOf self.old parts → result.elementary
             ≡ greatest_at (main_fullness self.old.transport.step (Carries (times_left leaving.now) ∷ parts))
             (left_after self.old.transport.step parts (times_left leaving.now)) }
         ensures ended { option_to_list waiting.new ++ option_to_list free.new
-            ≡ excesses_ended self.old.transport.step self.old.watch.size self.old.transport.last self.old.watch.under_way (times_left leaving.now) }
+            ≡ excesses_ended self.old.transport.step self.old.watch.size self.old.transport.last
+            self.old.watch.under_way (times_left leaving.now) }
         ensures step { self.new.transport.step ≡ self.old.transport.step }
         ensures size { self.new.watch.size ≡ self.old.watch.size }
         ensures bytes { self.new.transport.bytes

@@ -66,14 +66,17 @@ impl<A: Allocator> StreamView<A> {
         requires some { 0 < row.now.bytes }
         requires count { self.old.transport.bytes + row.now.bytes ≤ 2 ^ 40 }
         requires none { ended.old ≡ None }
-        ensures view { (parts : List Part) → IsViewOf self.old parts → IsViewOf self.new (Passes (times_of row.now) ∷ parts) }
+        ensures view { (parts : List Part) → IsViewOf self.old parts →
+            IsViewOf self.new (Passes (times_of row.now) ∷ parts) }
         ensures buffer { self.new.transport ≡ entered self.old.transport (times_of row.now) }
         ensures transport { result ≡ most_found self.old.transport.step self.old.transport.last (times_of row.now) }
         ensures ended { option_to_list ended.new
-            ≡ excesses_ended self.old.transport.step self.old.watch.size self.old.transport.last self.old.watch.under_way (times_of row.now) }
+            ≡ excesses_ended self.old.transport.step self.old.watch.size self.old.transport.last
+            self.old.watch.under_way (times_of row.now) }
         ensures size { self.new.watch.size ≡ self.old.watch.size }
         ensures unit { self.new.unit ≡ self.old.unit }
-        ensures last { (latest : ℕ) → self.old.transport.last ≤ latest + self.old.transport.bytes * self.old.transport.step →
+        ensures last { (latest : ℕ) →
+            self.old.transport.last ≤ latest + self.old.transport.bytes * self.old.transport.step →
             row.now.from + row.now.bytes * row.now.pace ≤ latest * row.now.parts →
             self.new.transport.last ≤ latest + self.new.transport.bytes * self.new.transport.step }
     {
@@ -91,24 +94,31 @@ impl<A: Allocator> StreamView<A> {
         requires some { 0 < row.now.bytes }
         requires count { self.old.transport.bytes + row.now.bytes ≤ 2 ^ 40 }
         requires none { ended.old ≡ None }
-        ensures view { (parts : List Part) → IsViewOf self.old parts → IsViewOf self.new (Carries (times_of row.now) ∷ parts) }
+        ensures view { (parts : List Part) → IsViewOf self.old parts →
+            IsViewOf self.new (Carries (times_of row.now) ∷ parts) }
         ensures buffer { self.new.transport ≡ entered self.old.transport (times_of row.now) }
         ensures transport { result.found.transport
             ≡ most_found self.old.transport.step self.old.transport.last (times_of row.now) }
         ensures ended { option_to_list ended.new
-            ≡ excesses_ended self.old.transport.step self.old.watch.size self.old.transport.last self.old.watch.under_way (times_of row.now) }
-        ensures main { let left : List ℕ = departures self.old.transport.step self.old.transport.last (times_of row.now) in
+            ≡ excesses_ended self.old.transport.step self.old.watch.size self.old.transport.last
+            self.old.watch.under_way (times_of row.now) }
+        ensures main { let left : List ℕ =
+            departures self.old.transport.step self.old.transport.last (times_of row.now) in
             result.found.main ≡ greatest_at (fullness_with self.old.main left) left }
         ensures least { result.found.least
-            ≡ least_in self.old.main None (departures self.old.transport.step self.old.transport.last (times_of row.now)) }
+            ≡ least_in self.old.main None
+            (departures self.old.transport.step self.old.transport.last (times_of row.now)) }
         ensures size { self.new.watch.size ≡ self.old.watch.size }
         ensures unit { self.new.unit ≡ with_bytes self.old.unit row.now.bytes self.new.transport.last }
         ensures under_way { self.new.watch.under_way
-            ≡ excess_after self.old.transport.step self.old.watch.size self.old.transport.last self.old.watch.under_way (times_of row.now) }
-        ensures left { times_left result.leaving ≡ departures self.old.transport.step self.old.transport.last (times_of row.now) }
+            ≡ excess_after self.old.transport.step self.old.watch.size self.old.transport.last
+            self.old.watch.under_way (times_of row.now) }
+        ensures left { times_left result.leaving
+            ≡ departures self.old.transport.step self.old.transport.last (times_of row.now) }
         ensures rows { IsTimed result.leaving.waiting × IsTimed result.leaving.free }
         ensures many { result.leaving.waiting.bytes + result.leaving.free.bytes ≡ row.now.bytes }
-        ensures last { (latest : ℕ) → self.old.transport.last ≤ latest + self.old.transport.bytes * self.old.transport.step →
+        ensures last { (latest : ℕ) →
+            self.old.transport.last ≤ latest + self.old.transport.bytes * self.old.transport.step →
             row.now.from + row.now.bytes * row.now.pace ≤ latest * row.now.parts →
             LeaveSoon self.new.transport.step self.new.transport.bytes self.new.transport.last result.leaving latest }
     {
@@ -128,7 +138,8 @@ impl<A: Allocator> StreamView<A> {
     /// Begins a unit with the next payload byte; returns the unit before it, which is whole. If memory runs out, the
     /// current unit continues.
     pub fn begin(&mut self, due: DueTime) -> Result<Option<UnitSeen>, AllocError>
-        ensures view { OnOk result ((parts : List Part) → IsViewOf self.old parts → IsViewOf self.new (Begins due ∷ parts)) }
+        ensures view { OnOk result ((parts : List Part) → IsViewOf self.old parts →
+            IsViewOf self.new (Begins due ∷ parts)) }
         ensures before { IfOk result (λ unit. unit ≡ self.old.unit) }
         ensures err { OnErr result ((parts : List Part) → IsViewOf self.old parts → IsViewOf self.new parts) }
         ensures transport { self.new.transport ≡ self.old.transport }

@@ -31,7 +31,7 @@ events_both s (part ∷ parts) more =
     ap (λ (l : List TimedEvent). part_events s part ++ l) (events_both (after_part s part) parts more)
     ∙ sym (append_assoc (part_events s part) (events_of (after_part s part) parts) (events_of (after_parts (after_part s part) parts) more))
 
--- packets alone
+-- Packets alone
 pub after_packets : (s : AnalysisState) (packets : List (List ℕ)) → after_parts s (map IsPacket packets) ≡ after_all s packets
 unfolding after_parts after_part after_all
 after_packets s [] = refl
@@ -44,7 +44,7 @@ events_of_packets s (packet ∷ packets) = ap (λ (l : List TimedEvent). events_
 
 -- 2. More parts are taken
 
--- a view after these parts has some more
+-- A view after these parts takes some more parts.
 pub has_more : (first before now : ViewedParts) (s : AnalysisState) (parts more : List Part) → HasParts first before s parts →
     IsAnalysed now.view (after_parts (after_parts s parts) more) →
     now.events.items ≡ before.events.items ++ events_of (after_parts s parts) more → HasParts first now s (parts ++ more)
@@ -94,7 +94,7 @@ size_events : (s : AnalysisState) (other : OtherPackets) → events_of s (IsSize
 unfolding events_of part_events
 size_events s other = append-nil (timed s (size_event other))
 
--- an event of the input
+-- An event of the input
 event_more : (first before now : ViewedParts) (s : AnalysisState) (parts : List Part) (part : Part) (event : Event) →
     after_parts (after_parts s parts) (part ∷ []) ≡ with_event (after_parts s parts) event →
     events_of (after_parts s parts) (part ∷ []) ≡ timed (after_parts s parts) event → HasParts first before s parts →
@@ -122,7 +122,7 @@ takes_none parts = λ s is. record { view = is; events = sym (append-nil parts.e
 
 -- 3. The input so far
 
--- before the first byte
+-- Before the first byte
 pub so_far_none : (now : CapturedView) (s : AnalysisState) → now.reader ≡ no_bytes → IsAnalysed now.parts.view s → IsSoFar s now [] []
 unfolding after_parts capture_by
 so_far_none now s reader view = record {
@@ -131,7 +131,7 @@ so_far_none now s reader view = record {
   view = view;
 }
 
--- more bytes were taken, before which no event waited
+-- More bytes were taken, and no event waited before them.
 pub is_more : (first : AnalysisState) (before now : CapturedView) (start : ViewedParts) (bytes piece : List ℕ) (found : List Part) →
     IsSoFar first before bytes found →
     start.view ≡ before.parts.view → start.events.items ≡ [] → length now.reader.kept < 1128 →
@@ -151,7 +151,7 @@ is_more first before now start bytes piece found s view none few t =
       events = h.events ∙ ap (λ (l : List TimedEvent). l ++ events_of (after_parts first found) t.found) none;
     }
 
--- what is left of it, and its end
+-- The rest of the input, and its end
 pub is_ended : (rate : Option ℕ) (first : AnalysisState) (before : CapturedView) (mid : ViewedParts) (now : CapturedView) (start : ViewedParts) (bytes : List ℕ)
     (found : List Part) (end : CaptureEnd) (good : Bool) → IsSoFar first before bytes found →
     start.view ≡ before.parts.view → start.events.items ≡ [] →
@@ -181,7 +181,7 @@ is_ended rate first before mid now start bytes found end good s view none t even
           ∙ ap₂ (λ (f : FileForm) (n : ℕ). is_whole rate f (after_parts first (parts_in bytes)) n) form_is left_is;
     }
 
--- if there is memory for it
+-- The end of the input, if there is memory for it
 pub ended_by : {E : Type 0} (r : Result Bool E) (rate : Option ℕ) (first : AnalysisState) (before : CapturedView) (mid : ViewedParts) (now : CapturedView)
     (start : ViewedParts) (bytes : List ℕ) (found : List Part) (end : CaptureEnd) →
     IsSoFar first before bytes found → start.view ≡ before.parts.view → start.events.items ≡ [] →

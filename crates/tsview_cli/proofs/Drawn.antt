@@ -1,4 +1,4 @@
--- A page that is drawn of a stream piece by piece.
+-- A page that is drawn from a stream piece by piece.
 use Rattle.std.proofs.Common.{◌≡◌, ◌∙◌, ℕ, ◌%◌, Bool, List, [], ◌∷◌, ◌++◌, refl, sym, ap, subst, Result, Ok, Err, Option, append_assoc}
 use Rattle.std.specs.Prelude.{IfErr, IfOk, OnOk, if◌then◌else◌, string_bytes}
 use Rattle.capture.specs.Captures.{Part, capture_of}
@@ -31,7 +31,7 @@ pub drawn_none : (stream : CapturedView) (page : Page) (s : AnalysisState) (p : 
 unfolding after_events events_of
 drawn_none stream page s p so_far is = record { found = []; so_far = so_far; page = is }
 
--- the page takes the events that more bytes settle
+-- The page takes the events that more bytes settle.
 pub drawn_more : (s : AnalysisState) (p : PageState) (stream : CapturedView) (page : Page) (bytes : List ℕ) (found : List Part) (events : List TimedEvent) →
     IsMore s stream bytes found → events ≡ stream.parts.events.items →
     IsPage page (after_events (after_events p (events_of s found)) events) → IsDrawn (record { stream = stream; page = page }) s p bytes
@@ -82,7 +82,7 @@ all_drawn request input first now size (Ok page) rate d is t written memory = re
 }
 all_drawn request input first now size (Err halt) rate d is t written memory = subst (λ (h : Halt). ReadsInput input (Err h)) (sym memory) t.read.1.clean
 
--- what is written of a page is the page
+-- The output is the page.
 pub draws : (request : RequestView) (bytes : List ℕ) (drawn : DrawnPage) → IsWritten (rate_in request) (start request) (first_page request) bytes drawn →
     DrawsPage request bytes (printed (string_bytes drawn.text) (if drawn.good then 0 else 1))
 draws request bytes drawn w = record {
@@ -91,7 +91,7 @@ draws request bytes drawn w = record {
   outcome_is = rw (w.text_is, w.good_is) refl;
 }
 
--- if there is memory
+-- The page, if there is memory for it
 pub on_ok : {V E A B : Type 0} (r : Result V E) → (A → B) → OnOk r A → OnOk r B
 on_ok (Ok v) f a = f a
 on_ok (Err e) f a = tt

@@ -1,4 +1,4 @@
--- What is asked for, of a stream in the input or in a file.
+-- The answer to a request, from the input or from a file.
 use Rattle.std.proofs.Common.{◌≡◌, ◌∙◌, ℕ, Option, Some, None, inl, inr, refl, subst}
 use Rattle.std.specs.Prelude.{[], codes}
 use Rattle.clap.specs.Words.{Text}
@@ -11,7 +11,7 @@ use Rattle.tsview_cli.specs.Arguments.{AskedView, asked_for}
 use Rattle.tsview_cli.specs.NamedStream.{OfFile}
 use Rattle.tsview_cli.specs.declared.request.Request.{Request}
 
--- 1. The request and the file are the ones that were asked for
+-- 1. The request and the file are exactly as requested
 
 same_asked : (x : Option AskedView) (a b : AskedView) → Some a ≡ x → x ≡ Some b → a ≡ b
 same_asked x a b e f = let both : Some a ≡ Some b = e ∙ f in cc

@@ -23,7 +23,7 @@ use Rattle.tsview_cli.specs.Viewing.{AreSettled, BeginsWith, Breaks, Reaches, Se
 use Rattle.tsview_cli.specs.declared.captured.CapturedView.{CapturedView}
 use Rattle.tsview_cli.proofs.CapturedParts.{events_both}
 
--- 1. Lines of parts one after another
+-- 1. The lines of parts, one part after another
 
 pub lines_both : (json : Bool) (s : AnalysisState) (parts more : List Part) →
     lines_all json s (parts ++ more) ≡ lines_all json s parts ++ lines_all json (after_parts s parts) more
@@ -33,13 +33,13 @@ lines_both json s parts more =
 pub settled_by : (first : AnalysisState) (now : CapturedView) (bytes : List ℕ) (found : List Part) → IsSoFar first now bytes found → AreSettled bytes found
 settled_by first now bytes found s = record { reader = now.reader; left = s.left; few = s.few }
 
--- 2. Pieces that were viewed
+-- 2. The pieces that were viewed
 
 pub seen_none : (json : Bool) (first : AnalysisState) (now : CapturedView) (port : Port) → IsSoFar first now [] [] → Seen json first (between port port) now []
 unfolding events_of
 seen_none json first now port s = record { found = []; so_far = s; written = Appends-nil port.bytes; clean = refl }
 
--- with the lines of a piece that were written
+-- The lines of one more piece were written.
 pub seen_then : (json : Bool) (first : AnalysisState) (before now : CapturedView) (begin middle end : Port) (text piece : List ℕ) →
     ((bytes : List ℕ) (found : List Part) → IsSoFar first before bytes found → Shows json first now (bytes ++ piece) found text) →
     Appends middle.bytes end.bytes text → end.failed ≡ middle.failed → (bytes : List ℕ) →
@@ -55,7 +55,7 @@ seen_then json first before now begin middle end text piece shows written clean 
       clean = clean ∙ s.clean;
     }
 
--- 3. Where it ends early
+-- 3. A view that ends early
 
 after_more : (old mid new : Port) (bytes piece : List ℕ) (n : ℕ) → IsAfter old mid bytes →
     ((xs : List ℕ) → mid.bytes ≡ Some xs → (n ≡ min (length piece) (length xs)) × IsFront xs new.bytes piece n) → BeginsWith old.bytes (bytes ++ take n piece)
@@ -70,7 +70,7 @@ after_more old mid new bytes piece n b p xs e =
 begins : (old mid : Port) (bytes : List ℕ) → IsAfter old mid bytes → BeginsWith old.bytes bytes
 begins old mid bytes after xs e = let h = after xs e in (h.0, h.1)
 
--- the reader failed
+-- The reader failed.
 pub read_failed : (json : Bool) (first : AnalysisState) (before : CapturedView) (old mid new : Port) (output : Device) (size : ℕ) →
     TakesFront (Seen json first output before) 188 old mid size →
     Failed mid.failed new.failed → Breaks json first (between old new) output Read
@@ -82,7 +82,7 @@ read_failed json first before old mid new output size f failed = record {
   at = (f.taken.written, inl (subst (λ (n : ℕ). Failed n new.failed) f.clean failed));
 }
 
--- there was no memory for the lines of a piece
+-- There was no memory for the lines of a piece.
 pub no_memory : (json : Bool) (first : AnalysisState) (before : CapturedView) (old mid new : Port) (output : Device) (size : ℕ) →
     TakesFront (Seen json first output before) 188 old mid size →
     new.failed ≡ mid.failed → Breaks json first (between old new) output Memory
@@ -94,14 +94,14 @@ no_memory json first before old mid new output size f clean = record {
   at = (f.taken.written, clean ∙ f.clean);
 }
 
--- no next piece was viewed
+-- No next piece was viewed.
 pub next_stopped : (json : Bool) (first : AnalysisState) (before : CapturedView) (old mid new : Port) (output : Device) (size : ℕ) (halt : Halt) →
     TakesFront (Seen json first output before) 188 old mid size → StopsNext (between mid new) halt → Breaks json first (between old new) output halt
 next_stopped json first before old mid new output size Read f failed = read_failed json first before old mid new output size f failed
 next_stopped json first before old mid new output size Write f never = absurd never
 next_stopped json first before old mid new output size Memory f clean = no_memory json first before old mid new output size f clean
 
--- the input is too long
+-- The input is too long.
 long_if : (known : Option (List ℕ)) (bytes : List ℕ) → longest_input < length bytes →
     ((xs : List ℕ) → known ≡ Some xs → (left : List ℕ) × (xs ≡ bytes ++ left)) → IsLong known
 long_if None bytes s h = tt
@@ -121,7 +121,7 @@ too_long json first before old mid output size f long = record {
   at = (f.taken.written, inr (long_if old.bytes f.bytes (subst (λ (n : ℕ). longest_input < n) f.size_is long) (begins old mid f.bytes f.known)));
 }
 
--- and within its last piece
+-- The input is too long within its last piece.
 pub too_long_then : (json : Bool) (first : AnalysisState) (now : CapturedView) (old mid new : Port) (output : Device) (bytes piece : List ℕ) (n : ℕ) →
     IsAfter old mid bytes → ReadsFront (between mid new) piece n →
     Seen json first output now (bytes ++ take n piece) → ReadsInput (between old new) (Err Read) → Breaks json first (between old new) output Read
@@ -133,7 +133,7 @@ too_long_then json first now old mid new output bytes piece n known r s why = re
   at = (s.written, why);
 }
 
--- the writer failed within the lines of a piece
+-- The writer failed within the lines of a piece.
 pub take_past : (xs ys : List ℕ) (n : ℕ) → take (length xs + n) (xs ++ ys) ≡ xs ++ take n ys
 take_past [] ys n = ap (λ (k : ℕ). take k ys) (omega arith)
 take_past (x ∷ xs) ys n =
@@ -198,7 +198,7 @@ if_err HasTaken json first now old mid new output size n piece before middle (Er
     (too_long_then json first now old mid new output f.bytes piece n f.known r (t f.bytes f.whole f.taken)
     (subst (λ (h : Halt). ReadsInput (between old new) (Err h)) e.0 takes))
 
--- 5. All of it, or a front after which so many units of a stream wait that no more is viewed
+-- 5. The whole input, or a front of it that ends because too many units of a stream wait
 
 pub if_whole : (json : Bool) (first : AnalysisState) (input output : Device) (now : CapturedView) (r : Result ℕ Halt) →
     IfOk r (λ size. TakesInput (Seen json first output now) input (Ok size)) →

@@ -1,4 +1,4 @@
--- What a run on the plan in a job leads to.
+-- The outcome of a run on the plan in a job.
 use Rattle.std.proofs.Common.{◌≡◌, ℕ, List, ap, refl, Result, Ok, Err}
 use Rattle.std.specs.Prelude.{false}
 use Rattle.checked_jobs.specs.Jobs.{JobFaultView, JobView, job_of}

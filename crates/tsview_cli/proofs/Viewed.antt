@@ -1,4 +1,4 @@
--- All lines of an input, or those of a front of it.
+-- All lines of an input, or the lines of a front of it.
 use Rattle.std.proofs.Common.{◌≡◌, ℕ, ◌+◌, ◌%◌, Bool, true, false, cond, List, [], ◌++◌, length, take, refl, sym, ap, subst, ◌∙◌, inl, inr, append-nil}
 use Rattle.std.proofs.Common.{append_assoc, Option, Some, None, Ok, Err, arith}
 use Rattle.std.proofs.KnownBytes.{Appends-nil, Appends-trans}
@@ -26,7 +26,7 @@ use Rattle.tsview_cli.specs.declared.viewing.Viewed.TheVariants.{Whole, Crowded}
 use Rattle.tsview_cli.specs.Viewing.{AreSettled, AreViewed, BeginsWith, Breaks, BreaksOff, Concludes, EndShows, Reaches, Seen, Sees, SeesAll, Views, all_lines}
 use Rattle.tsview_cli.specs.Viewing.{as_viewed, lines_all, settled, viewed}
 
--- before the first byte
+-- Before the first byte
 none_settled : AreSettled [] []
 unfolding capture_by
 none_settled = record { reader = no_bytes; left = λ more. refl; few = omega arith }
@@ -42,7 +42,7 @@ none_seen request json input output halt is = subst (BreaksOff request json (bet
   at = (Appends-nil output.bytes, refl);
 })
 
--- within the stream
+-- The view breaks off within the stream.
 pub broken : (request : RequestView) (json : Bool) (input output : Device) (halt : Halt) → Breaks json (start request) input output halt →
     BreaksOff request json input output halt
 broken request json input output halt b = record {
@@ -57,7 +57,7 @@ whole_front : (known : Option (List ℕ)) (bytes : List ℕ) → IsWhole known b
 whole_front None bytes w xs e = absurd cc
 whole_front (Some ys) bytes w xs e = let same : ys ≡ xs = cc in ([], sym same ∙ sym w ∙ sym (append-nil bytes))
 
--- what was viewed of an input, all of it or a front
+-- The viewed bytes of an input: all of it, or a front
 record Reached (request : RequestView) (json : Bool) (input output : Device) (now : CapturedView) (size : ℕ) : Type 0 where
   pub bytes : List ℕ
   pub front : BeginsWith input.before.bytes bytes
@@ -82,7 +82,7 @@ reached request json input output now size (inr c) = record {
   all = λ later e. inr (record { found = c.seen.found; later = later; parts_are = e; now = now.parts.view; kept = c.seen.so_far.view; crowded = c.crowded });
 }
 
--- before its last lines
+-- The view breaks off before its last lines.
 pub no_end : (request : RequestView) (json : Bool) (input output : Device) (now : CapturedView) (size : ℕ) (halt : Halt) → halt ≡ Memory →
     Reaches json (start request) input output now size →
     BreaksOff request json input output halt
@@ -96,7 +96,7 @@ no_end request json input output now size halt is t =
       at = (r.seen.written, r.clean);
     })
 
--- the last lines, whatever was viewed before
+-- The last lines, whatever was viewed before
 abbrev pub EndsWith : Option ℕ → Bool → CapturedView → List ℕ → Bool → Type 0
 EndsWith rate json now text good = (first : AnalysisState) (bytes : List ℕ) (found : List Part) → IsSoFar first now bytes found →
     EndShows rate json first bytes found text good
@@ -115,7 +115,7 @@ last_lines request json bytes found text rate good is e =
     ∙ ap (λ (t : List ℕ). t ++ lines_of json last) (sym (lines_both json s found e.more) ∙ ap (λ (p : List Part). lines_all json s p) (sym e.parts_are))
     ∙ ap (λ (l : List TimedEvent). lines_all json s (parts_in bytes) ++ lines_of json l) same
 
--- within them
+-- The view breaks off within its last lines.
 pub not_ended : (V : Type 0) (request : RequestView) (json : Bool) (input : Device) (begin mid end : Port) (now : CapturedView) (size : ℕ) (text : List ℕ)
     (halt : Halt) (rate : Option ℕ) (good : Bool) → rate ≡ rate_in request →
     Reaches json (start request) input (between begin mid) now size → EndsWith rate json now text good → WritesLine {V = V} text (between mid end) (Err halt) →
@@ -144,7 +144,7 @@ not_ended V request json input begin mid end now size text Write rate good same 
     }
 not_ended V request json input begin mid end now size text Memory rate good same t is w = absurd w
 
--- to its end
+-- All lines are written, up to the end of the input.
 all_written : (request : RequestView) (json : Bool) (begin mid end : Port) (now : CapturedView) (text bytes : List ℕ) (rate : Option ℕ) (good : Bool) →
     rate ≡ rate_in request →
     (seen : Seen json (start request) (between begin mid) now bytes) → EndShows rate json (start request) bytes seen.found text good →
@@ -177,7 +177,7 @@ all_seen request json input begin mid end now size text rate good same t is writ
 not_both : (b : Bool) → b ≡ true → b ≡ false → ⊥
 not_both b e f = let both : true ≡ false = sym e ∙ f in absurd cc
 
--- or to where the view is crowded
+-- All lines are written, up to the end of the input or to the place where the view is crowded.
 pub viewed_so : (request : RequestView) (json : Bool) (input : Device) (begin mid end : Port) (now : CapturedView) (size : ℕ) (text : List ℕ) (rate : Option ℕ)
     (crowded good : Bool) → rate ≡ rate_in request →
     crowded ≡ is_crowded now.parts.view → Reaches json (start request) input (between begin mid) now size → EndsWith rate json now text good →
@@ -199,17 +199,12 @@ viewed_so request json input begin mid end now size text rate false good same so
 viewed_so request json input begin mid end now size text rate false good same so (inr c) is written clean =
     absurd (not_both (is_crowded now.parts.view) c.crowded (sym so))
 
-whole_is : (bytes : Option (List ℕ)) (read xs : List ℕ) → IsWhole bytes read → bytes ≡ Some xs → read ≡ xs
-whole_is None read xs w e = absurd cc
-whole_is (Some ys) read xs w e = w ∙ (let same : ys ≡ xs = cc in same)
-
 ended : (request : RequestView) (json : Bool) (input output faults : Device) (good : Bool) (status : ℕ) → SeesAll request json input output good →
     IsUntouched faults → status ≡ cond good 0 1 →
     Views request json input output faults status
 ended request json input output faults good status s untouched is = inl (record {
   outcome = viewed request json s.bytes;
-  leads = λ xs e. ap (viewed request json) (whole_is input.before.bytes s.bytes xs s.read.0 e);
-  read = s.read.1;
+  leads = record { bytes = s.bytes; read = s.read; is = refl };
   written = s.written;
   clean = s.clean;
   reports = reports_none faults untouched;

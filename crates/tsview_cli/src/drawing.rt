@@ -108,7 +108,8 @@ fn write_drawn(
     rate: Option<u64>,
     drawing: &mut Drawing,
 ) -> Result<DrawnPage, AllocError>
-    ensures { (s : AnalysisState) (p : PageState) (bytes : List ℕ) → IsDrawn drawing.old s p bytes → IfOk result (IsWritten rate s p bytes) }
+    ensures { (s : AnalysisState) (p : PageState) (bytes : List ℕ) → IsDrawn drawing.old s p bytes →
+        IfOk result (IsWritten rate s p bytes) }
 {
     let good = drawing.end(rate)?;
     let mut text = String::new(alloc);
@@ -118,7 +119,8 @@ fn write_drawn(
 
 // Writes the page, unless memory runs out.
 fn drawn(alloc: Global, rate: Option<u64>, drawing: &mut Drawing) -> Result<DrawnPage, Halt>
-    ensures ok { (s : AnalysisState) (p : PageState) (bytes : List ℕ) → IsDrawn drawing.old s p bytes → IfOk result (IsWritten rate s p bytes) }
+    ensures ok { (s : AnalysisState) (p : PageState) (bytes : List ℕ) → IsDrawn drawing.old s p bytes →
+        IfOk result (IsWritten rate s p bytes) }
     ensures err { IfErr result (λ halt. halt ≡ Halt.Memory) }
 {
     match write_drawn(alloc, rate, drawing) {

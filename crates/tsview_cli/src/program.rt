@@ -128,7 +128,8 @@ fn answer_asked<F: NamedFiles, R: Source, W: Sink, E: Sink>(
         Answers wanted.entry.request (reads R.Source input.old input.new) (writes W.Sink output.old output.new)
         (writes E.Sink faults.old faults.new) result }
     ensures file { (name : Text) → wanted.entry.file ≡ Some name →
-        OfFile (files_of (F.contents_of files.now) (F.opens files.now) F.never_fails) name (Answers wanted.entry.request)
+        OfFile (files_of (F.contents_of files.now) (F.opens files.now) F.never_fails) name
+        (Answers wanted.entry.request)
         (reads R.Source input.old input.new) (writes W.Sink output.old output.new)
         (writes E.Sink faults.old faults.new) result }
 {

@@ -57,7 +57,8 @@ fn view_piece(
     text: &mut String,
 ) -> Result<(), Halt>
     requires out { string_bytes text.old ≡ [] }
-    ensures shown { (first : AnalysisState) (bytes : List ℕ) (found : List Part) → IsSoFar first stream.old bytes found →
+    ensures shown { (first : AnalysisState) (bytes : List ℕ) (found : List Part) →
+        IsSoFar first stream.old bytes found →
         OnOk result (Shows json first stream.new (bytes ++ piece.now) found (string_bytes text.new)) }
     ensures memory { IfErr result (λ halt. halt ≡ Halt.Memory) }
 {
@@ -82,7 +83,8 @@ fn view_next<R: Source>(
     // No stream has enough waiting units to stop the view.
     requires calm { is_crowded stream.old.parts.view ≡ false }
     ensures read { IfOk result (λ n. ReadsFront (reads R.Source input.old input.new) piece.new n) }
-    ensures shown { (first : AnalysisState) (bytes : List ℕ) (found : List Part) → IsSoFar first stream.old bytes found →
+    ensures shown { (first : AnalysisState) (bytes : List ℕ) (found : List Part) →
+        IsSoFar first stream.old bytes found →
         IfOk result (λ n. Shows json first stream.new (bytes ++ take n piece.new) found (string_bytes text.new)) }
     ensures err { IfErr result (StopsNext (reads R.Source input.old input.new)) }
 {
@@ -117,8 +119,10 @@ fn view_pieces<R: Source, W: Sink>(
     requires text { string_bytes text.old ≡ [] }
     requires calm { is_crowded stream.old.parts.view ≡ false }
     ensures ok { (s : AnalysisState) → IsSoFar s stream.old [] [] →
-        IfOk result (Reaches json s (reads R.Source input.old input.new) (writes W.Sink output.old output.new) stream.new) }
-    ensures err { (s : AnalysisState) → IsSoFar s stream.old [] [] → IfErr result (Breaks json s (reads R.Source input.old input.new)
+        IfOk result (Reaches json s (reads R.Source input.old input.new)
+        (writes W.Sink output.old output.new) stream.new) }
+    ensures err { (s : AnalysisState) → IsSoFar s stream.old [] [] →
+        IfErr result (Breaks json s (reads R.Source input.old input.new)
         (writes W.Sink output.old output.new)) }
     ensures text { OnOk result (string_bytes text.new ≡ []) }
 {
@@ -166,7 +170,8 @@ fn end_view(
     text: &mut String,
 ) -> Result<bool, Halt>
     requires out { string_bytes text.old ≡ [] }
-    ensures shown { (first : AnalysisState) (bytes : List ℕ) (found : List Part) → IsSoFar first stream.old bytes found →
+    ensures shown { (first : AnalysisState) (bytes : List ℕ) (found : List Part) →
+        IsSoFar first stream.old bytes found →
         IfOk result (EndShows rate json first bytes found (string_bytes text.new)) }
     ensures memory { IfErr result (λ halt. halt ≡ Halt.Memory) }
 {

@@ -29,7 +29,7 @@ use Rattle.unit_queue.specs.Laws.{CarriedLaw}
 use Rattle.unit_queue.proofs.SentPlaces.{pieces_cons}
 use Rattle.unit_queue.proofs.OwnPayloads.{found_at, found_piece, found_released, list_is, listed_at}
 
--- ---- joined: a list whose elements are those of another from its front is a beginning of it
+-- Joined payloads: if each element of a list is at the same place in a longer list, the list is a beginning of the longer list
 
 begins_by_elements : {X : Type 0} (xs ys : List X) → ((j : ℕ) (x : X) → slice_get xs j ≡ Some x → slice_get ys j ≡ Some x) → xs ++ drop (length xs) ys ≡ ys
 begins_by_elements [] ys same = refl
@@ -97,7 +97,7 @@ front_is l us es each =
     let h = map_at view es j x is in each j h.0 h.1 ∙ ap (λ (y : Piece). Some y) h.2) in
     sym (take_at ps rest (length es) (length-map es view)) ∙ ap (λ (q : List Piece). take (length es) q) front
 
--- ---- the packets of the timing
+-- The packets in the timing model
 
 abbrev size_of : OwnedStream → Option UnitPlace → Option ℕ
 size_of l None = None

@@ -1,4 +1,4 @@
--- What is known of a unit that no cause refuses.
+-- The facts about a unit that no cause refuses.
 use Rattle.std.proofs.Common.{◌≡◌, ℕ, zero, suc, ◌+◌, ◌^◌, ◌<◌, ◌≤◌, ◌==◌, ◌||◌, nat_lt, nat_le, Bool, true, false, if◌then◌else◌, Option, Some, None, List}
 use Rattle.std.proofs.Common.{length, IsTrue, refl, sym, ◌∙◌, inl, inr, arith}
 use Rattle.std.proofs.lemmas.Bool.{cases_Bool, cases_lt, lt-ltb, le-leb}
@@ -19,7 +19,7 @@ use Rattle.unit_queue.specs.Queues.{ParametersInRange, IsUnit, Queued, Queue, qu
 use Rattle.unit_queue.specs.OwnedStreams.{has_access}
 use Rattle.unit_queue.specs.QueueSteps.{late_at, timed_by, is_over_for, state_cause, joined, accepted}
 
--- causes in turn
+-- The first of several causes in order.
 pub or_first : (a b c : Option FeedError) (e : FeedError) → Some e ≡ or_cause a b → Some e ≡ or_cause a (or_cause b c)
 unfolding or_cause
 or_first (Some x) b c e is = is
@@ -100,7 +100,7 @@ unit_is r min_next_dts late u is =
     let own = own_facts r.size r.pts_limit min_next_dts u both.0 in
     record { some = own.some; most = own.most; later = own.later; soon = own.soon; last = (time_facts late u.dts both.1).1 }
 
--- it may be a PES packet of its stream
+-- The unit fits into a PES packet of its stream.
 greatest_most : (id : ℕ) → greatest_size id ≤ 4_000_000
 greatest_most id = elim (cases_Bool (is_video id)) [ inl v ↦ rw v (omega arith) | inr o ↦ rw o (omega arith) ]
 
@@ -120,7 +120,7 @@ not_le a b is = elim (cases_lt b a) [
   | inr le ↦ absurd (let t = le-leb a b le in let no : ⊥ = cc in no)
 ]
 
--- what is found of a unit is its DTS and size, with what is in front of it, and why it is refused
+-- The queue computes the unit's DTS, its size, and the size of the field in front of it.
 pub timed_is : (r s : StreamParameters) (u : AccessUnit) (d size front : ℕ) (header : List ℕ) → s ≡ r → d ≡ u.dts → front ≡ field_size (has_access u) →
     size ≡ length header + length u.bytes →
     header ≡ pes_header_bytes s.stream_id (length u.bytes) u.marks (u.pts + s.base0) (u.dts + s.base0) →
@@ -134,7 +134,7 @@ pub room_is : (q : Queue) (slots : ℕ) (u : AccessUnit) (unit : PesPacket) (cau
     cause ≡ room_cause (nat_le q.capacity (length q.units)) (packets_cause q.parameters.allowance (is_over_for q unit)) → cause ≡ state_cause slots q u
 room_is q slots u unit cause timed none is = (rw timed at is) ∙ sym (or_rest _ _ _ none)
 
--- with which it is taken
+-- The entry that the queue keeps of an accepted unit.
 pub queued_is : (r s : StreamParameters) (u : AccessUnit) (slot : ℕ) (header : List ℕ) → s ≡ r → slot ≡ release r.rate r.lead u.dts →
     header ≡ pes_header_bytes s.stream_id (length u.bytes) u.marks (u.pts + s.base0) (u.dts + s.base0) →
     record { release = slot; header = header; access = has_access u; bytes = u.bytes } ≡ queued r u

@@ -1,4 +1,4 @@
--- What own slots carry, and what is left before them.
+-- The content of own slots, and the units that remain before an own slot.
 use Rattle.std.proofs.Common.{◌≡◌, ℕ, ◌+◌, ◌-◌, ◌<◌, ◌≤◌, ◌==◌, Bool, true, false, cond, Some, None, List, [], ◌∷◌, ◌++◌, length, refl, sym, ◌∙◌, inl, inr}
 use Rattle.std.proofs.Common.{arith}
 use Rattle.std.proofs.lemmas.Bool.{cases_lt, lt-ltb, le-ltb}
@@ -14,7 +14,7 @@ use Rattle.unit_timing.specs.Schedule.{first_slot as first_own_slot}
 use Rattle.unit_queue.specs.OwnedStreams.{OwnedStream, pes_bytes, packet_count, first_slot, end_slot}
 use Rattle.unit_queue.specs.Places.{place_at, left_at}
 
--- a header has 14 bytes or more, so that each unit has a packet
+-- A header has at least 14 bytes, so each unit has a packet.
 some_by : (long same : Bool) (more : ℕ) → 14 ≤ cond long 45 (cond same 14 19 + more)
 some_by true same more = omega arith
 some_by false true more = omega arith
@@ -28,7 +28,7 @@ most_by true same more = omega arith
 most_by false true more = omega arith
 most_by false false more = omega arith
 
--- with what is in front of it, it has at most 19 bytes, and what the marks take
+-- A header and the field in front of it have at most 19 bytes and the bytes of the marks.
 pub header_most : (id size : ℕ) (marks : Marks) (pts dts : ℕ) → field_size marks.random_access + length (pes_header_bytes id size marks pts dts) ≤ 19
     + marks_size marks
 header_most id size marks pts dts =
@@ -46,7 +46,7 @@ text_some l u =
 pub count_some : (l : OwnedStream) (u : AccessUnit) → 0 < packet_count l u
 count_some l u = omega (arith, text_some l u)
 
--- the own slot in which a unit begins: it is free, and not before the release
+-- The own slot where a unit begins is free, and not before the unit's release.
 pub first_free : (l : OwnedStream) (free : ℕ) (u : AccessUnit) → free ≤ first_slot l free u
 unfolding first_slot first_own_slot
 first_free l free u = omega arith
@@ -60,7 +60,7 @@ pub first_least : (l : OwnedStream) (free m : ℕ) (u : AccessUnit) → free ≤
 unfolding first_slot first_own_slot
 first_least l free m u a b = omega arith
 
--- what is left, and what an own slot carries, case by case
+-- What remains before an own slot, and what the slot carries, case by case.
 pub left_stop : (l : OwnedStream) (p free number : ℕ) (u : AccessUnit) (us : List AccessUnit) → p < end_slot l free u →
     left_at l p free number (u ∷ us) ≡ record { free = free; number = number; units = u ∷ us }
 unfolding left_at
@@ -88,7 +88,7 @@ place_on l free number i u us over =
     let from : first_slot l free u ≤ i = omega arith in
     rw (le-ltb i (first_slot l free u) from, le-ltb i (end_slot l free u) over) refl
 
--- what is left makes what all makes
+-- The remaining units give the same content of later own slots as all units.
 pub place_left : (l : OwnedStream) (p free number i : ℕ) (us : List AccessUnit) → p ≤ i →
     place_at l free number us i ≡ place_at l (left_at l p free number us).free (left_at l p free number us).number (left_at l p free number us).units i
 unfolding left_at
@@ -108,7 +108,7 @@ left_left l p free number i (u ∷ us) le = elim (cases_lt p (end_slot l free u)
       (left_on l i free number u us (omega (arith, on, le)) ∙ left_left l p (end_slot l free u) (number + packet_count l u) i us le)
 ]
 
--- the own slots taken have passed, and the first unit left has not ended
+-- The own slots that are taken are before p, and the first remaining unit has not ended.
 pub left_free : (l : OwnedStream) (p free number : ℕ) (us : List AccessUnit) → free ≤ p → (left_at l p free number us).free ≤ p
 left_free l p free number [] le = unfold left_at in le
 left_free l p free number (u ∷ us) le = elim (cases_lt p (end_slot l free u)) [
@@ -116,7 +116,7 @@ left_free l p free number (u ∷ us) le = elim (cases_lt p (end_slot l free u)) 
   | inr on ↦ rw (left_on l p free number u us on) (left_free l p (end_slot l free u) (number + packet_count l u) us on)
 ]
 
--- a unit that is not sent whole
+-- The first unit is not yet sent whole.
 unfoldable pub Unfinished : OwnedStream → ℕ → ℕ → List AccessUnit → Type 0
 Unfinished l p free [] = Unit {0}
 Unfinished l p free (u ∷ us) = p < end_slot l free u
@@ -130,7 +130,7 @@ left_unfinished l p free number (u ∷ us) = elim (cases_lt p (end_slot l free u
   | inr on ↦ rw (left_on l p free number u us on) (left_unfinished l p (end_slot l free u) (number + packet_count l u) us)
 ]
 
--- one unit more, which begins later
+-- One more unit, which begins later, is appended to the remaining units.
 pub left_fed : (l : OwnedStream) (p free number : ℕ) (us : List AccessUnit) (u : AccessUnit) → ((f : ℕ) → p < end_slot l f u) →
     left_at l p free number (us ++ u ∷ [])
     ≡ record { free = (left_at l p free number us).free; number = (left_at l p free number us).number; units = (left_at l p free number us).units ++ u ∷ [] }

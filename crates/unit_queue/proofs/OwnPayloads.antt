@@ -1,4 +1,4 @@
--- The payloads on the PID of a stream that is alone there, one by one.
+-- The payloads on the PID of a stream that is alone on its PID, one by one.
 use Rattle.std.proofs.Common.{◌≡◌, ℕ, zero, suc, ◌+◌, ◌-◌, ◌*◌, ◌%◌, ◌≤◌, ◌==◌, true, false, cond, Option, Some, None, List, [], ◌∷◌, ◌++◌, length, refl, sym}
 use Rattle.std.proofs.Common.{ap, ◌∙◌, subst, inl, inr, arith, eq-eqb}
 use Rattle.std.specs.Prelude.{slice_get}
@@ -20,7 +20,7 @@ use Rattle.unit_queue.specs.Places.{UnitPlace, place_at, piece_bytes, piece_star
 use Rattle.unit_queue.specs.Payloads.{all_pieces, all_senders, piece_in, piece_of, stream_payloads, IsReleased, StreamIsAlone}
 use Rattle.unit_queue.proofs.SentPlaces.{PlaceHas, PlaceIs, one_of, place_has, sent_before, sent_fresh, sent_next}
 
--- ---- the payloads on the PID of a stream that is alone there
+-- The payloads on the PID of the stream
 
 on_own : (l : OwnedStream) (s : ℕ) (o : Option UnitPlace) → payload_in l.parameters.pid s (content_of l o) ≡ put s (piece_of l o)
 on_own l s None = refl
@@ -102,7 +102,7 @@ list_is l us content n alone =
     run_payload_entries l.parameters.pid n content alone.fits alone.no_null (numbered l us content n alone)
     ∙ ap (λ (ps : List Payload). payload_entries l.parameters.pid 0 ps) (payloads_are l us content n alone)
 
--- ---- packet number j of the PID
+-- Packet number j of the PID
 
 pub record Found (l : OwnedStream) (us : List AccessUnit) (number : ℕ) (p : Payload) : Type 0 where
   pub place : UnitPlace
@@ -146,7 +146,7 @@ found_in l us s (suc n) j p is =
           subst (λ (m : ℕ). Found l us (sent_before l 0 0 us m + j) p) same (found_in l us (suc s) n j p (rw k at is))
     ]
 
--- the packet that carries a payload
+-- The packet that carries payload number j has that payload and its continuity_counter.
 pub record CarriedAs (pid number : ℕ) (ps : List Payload) (j : ℕ) (e : Entry) : Type 0 where
   pub payload : slice_get ps j ≡ Some (payload_at e)
   pub counter : e.packet.header.continuity_counter ≡ (number + j) % 16
@@ -178,7 +178,7 @@ found_at l us content n j e alone is =
     let whole : count_at l us 0 + j ≡ j = omega (arith, start) in
     subst (λ (m : ℕ). Found l us m (payload_at e)) whole (found_in l us 0 n j (payload_at e) (listed_at l us content n j e alone is).payload)
 
--- ---- not early: the release is the first slot that begins at the DTS less the lead or later
+-- No payload is early: the release is the first slot that does not begin before the DTS minus the lead
 
 spread_scale : (a b c : ℕ) → (a + b) * c ≡ a * c + b * c
 spread_scale a b c = omega arith

@@ -8,7 +8,7 @@ use Rattle.pes_packet.specs.Marks.{field_size}
 use Rattle.pes_packet.specs.Payloads.{part_of}
 use Rattle.ts_packet.specs.Beginnings.{room_of, start_by}
 
--- at most that many bytes from the front
+-- At most k bytes from the front.
 pub take_least : (n k : ℕ) (xs : List ℕ) → n ≡ min (length xs) k → take n xs ≡ take k xs
 take_least n k xs e =
     elim (cases_lt (length xs) k) [
@@ -16,7 +16,7 @@ take_least n k xs e =
       | inr long ↦ let same : n ≡ k = omega arith in ap (λ (m : ℕ). take m xs) same
     ]
 
--- a payload that begins with header bytes continues with the unit
+-- A payload that begins with header bytes continues with the unit.
 pub front_part : (header bytes : List ℕ) (room n : ℕ) → length header ≤ room → n ≡ min (length bytes) (room - length header) →
     header ++ take n bytes ≡ take room (header ++ bytes)
 front_part header bytes room n fits e =
@@ -25,13 +25,13 @@ front_part header bytes room n fits e =
     ∙ sym (take-append-add header bytes (room - length header))
     ∙ ap (λ (m : ℕ). take m (header ++ bytes)) whole
 
--- past the header only the unit is left
+-- After the header only bytes of the unit are left.
 pub data_left : (header bytes : List ℕ) (sent : ℕ) → length header ≤ sent → drop sent (header ++ bytes) ≡ drop (sent - length header) bytes
 data_left header bytes sent over =
     let place : sent ≡ length header + (sent - length header) = omega arith in
     ap (λ (m : ℕ). drop m (header ++ bytes)) place ∙ drop-append-add header bytes (sent - length header)
 
--- ---- the parts of a unit: two bytes are in front of it if a decoder may begin with it
+-- The parts of a unit: two bytes precede it if a decoder may begin there
 
 pub field_most : (access : Bool) → field_size access ≤ 2
 field_most true = omega arith
@@ -51,14 +51,14 @@ start_same (suc b) =
     let some : suc b ≡ 0 → ⊥ = λ e. omega (arith, e) in
     rw (ne_eqb (184 * suc b) 0 big, ne_eqb (suc b) 0 some) refl
 
--- a part has the room of what begins with it
+-- A part fits into the room of a packet with its start.
 pub part_most : (access : Bool) (q : ℕ) (pes : List ℕ) → length (part_of (field_size access) (184 * q) pes) ≤ room_of (start_by (q == 0) access)
 part_most access q pes =
     let room : 184 - (field_size access - 184 * q) ≤ room_of (start_by (q == 0) access) =
     subst (λ (b : Bool). 184 - (field_size access - 184 * q) ≤ room_of (start_by b access)) (start_same q) (part_room (184 * q) access) in
     omega (arith, room, length-take (184 - (field_size access - 184 * q)) (drop (184 * q - field_size access) pes))
 
--- and is not empty where something is left
+-- If bytes are left, the next part is not empty.
 pub part_some : (access : Bool) (sent : ℕ) (pes : List ℕ) → 0 < length pes → sent < field_size access + length pes →
     0 < length (part_of (field_size access) sent pes)
 part_some access sent pes some inside =

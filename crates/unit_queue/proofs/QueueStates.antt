@@ -1,4 +1,4 @@
--- What a queue stands for, slot by slot and unit by unit.
+-- What a queue represents, slot by slot and unit by unit.
 use Rattle.std.proofs.Common.{◌≡◌, ℕ, suc, ◌+◌, ◌-◌, ◌/◌, ◌^◌, ◌<◌, ◌≤◌, nat_lt, nat_le, Bool, false, Option, None, List, [], ◌∷◌, ◌++◌, length, map, refl, sym}
 use Rattle.std.proofs.Common.{ap, ◌∙◌, subst, arith}
 use Rattle.std.proofs.lemmas.List.{length-append, length-map, map-append, drop_all}
@@ -29,7 +29,7 @@ use Rattle.unit_queue.proofs.QueueSteps.{step}
 use Rattle.unit_queue.proofs.Tallies.{over_same, tally_on}
 use Rattle.unit_queue.proofs.CauseLemmas.{or_none, not_lt, or_false, OwnFacts, own_facts, time_facts, room_facts}
 
--- no unit
+-- A queue without units.
 none_counted : (a : Allowance) → empty_tally a ≡ tally_of a []
 unfolding level_after
 none_counted (Groups g most) = rw (drop_all {X = ℕ} (0 - (g - 1)) [] (omega arith)) refl
@@ -52,7 +52,7 @@ first_law l capacity = record {
   };
 }
 
--- an own slot
+-- An own slot.
 pub own_slot_law : StreamSlotLaw
 own_slot_law l slots capacity us q mine holds =
     let p = own_before l.own slots in
@@ -81,7 +81,7 @@ own_slot_law l slots capacity us q mine holds =
       holds = record { state = ap (λ (x : Queue). sent_in slots x) holds.state ∙ state; kept = holds.kept };
     }
 
--- another slot
+-- A slot of another item.
 pub other_slot_law : OtherStreamSlotLaw
 other_slot_law l slots capacity us q other holds =
     let same : own_before l.own (suc slots) ≡ own_before l.own slots = own_before_other l.own slots other in
@@ -91,7 +91,7 @@ other_slot_law l slots capacity us q other holds =
       kept = holds.kept;
     }
 
--- the least DTS of the next unit
+-- The least DTS of the next unit is the last unit's DTS plus the declared distance.
 next_last : (apart from : ℕ) (texts : List PesPacket) (pes : PesPacket) → next_due apart from (texts ++ pes ∷ []) ≡ pes.dts + apart
 unfolding next_due
 next_last apart from [] pes = refl
@@ -102,7 +102,7 @@ unfolding next_due
 next_from apart from d [] next le = le
 next_from apart from d (first ∷ texts) next le = next
 
--- the tally's word is the history's
+-- A unit exceeds the allowance by the tally if and only if it does by the history.
 over_after : (l : OwnedStream) (us : List AccessUnit) (u : AccessUnit) →
     exceeds l.parameters.allowance (tally_of l.parameters.allowance (map (timed l) us)) (min_next_dts_of l us - l.parameters.interval) (timed l u)
     ≡ is_over l.parameters.allowance (map (timed l) us) (timed l u)
@@ -119,7 +119,7 @@ tally_after l us u =
     ap (tally_of a) (map-append (timed l) us (u ∷ [])) ∙ sym (tally_on a (map (timed l) us) (timed l u))
     ∙ ap (λ (last : ℕ). counted a (tally_of a (map (timed l) us)) last (timed l u)) (sym (allowance_more_law.last l.parameters.interval (map (timed l) us)))
 
--- the cause of a refusal is the history's
+-- A queue refuses a unit for the cause that the history gives.
 pub cause_law : CauseLaw
 cause_law l slots capacity us q u holds =
     ap (λ (x : Queue). state_cause slots x u) holds.state
@@ -132,7 +132,7 @@ cause_law l slots capacity us q u holds =
     (room_cause (is_full l slots capacity us) (packets_cause l.parameters.allowance over))))
     (over_after l us u)
 
--- what is known of a unit that is accepted
+-- The facts about a unit that is accepted.
 pub record Accepted (l : OwnedStream) (slots : ℕ) (us : List AccessUnit) (u : AccessUnit) : Type 0 where
   pub own : OwnFacts l.parameters.size l.parameters.pts_limit (min_next_dts_of l us) u
   pub lead : l.parameters.lead ≤ u.dts
@@ -159,7 +159,7 @@ accepted_facts l slots capacity us u none =
       within = r.1;
     }
 
--- it stays within the declaration
+-- An accepted unit stays within the declaration.
 text_most : (l : OwnedStream) (u : AccessUnit) → length u.bytes + marks_size u.marks ≤ l.parameters.size →
     field_size (has_access u) + length (pes_bytes l u) ≤ 19 + l.parameters.size
 unfolding pes_packet_bytes
@@ -194,7 +194,7 @@ kept_law l slots capacity us u rules none kept =
           rules.rows spaced kept.allowed pieces facts.within);
     }
 
--- it begins no earlier than the slots that are written
+-- An accepted unit does not begin before the slots that are written.
 later_first : (l : OwnedStream) (slots free : ℕ) (u : AccessUnit) → slots ≤ release l.parameters.rate l.parameters.lead u.dts →
     own_before l.own slots ≤ first_slot l free u
 later_first l slots free u released =
@@ -233,7 +233,7 @@ fed_law l slots capacity us q u rules none holds =
     (map-append (queued l.parameters) left.units (u ∷ [])) in
     record { state = ap (λ (x : Queue). accepted x u) holds.state ∙ sym state; kept = kept_law l slots capacity us u rules none holds.kept }
 
--- and changes nothing in the own slots before
+-- An accepted unit changes nothing in earlier own slots.
 pub later_unit_law : LaterUnitLaw
 later_unit_law l slots capacity us u t none mine before =
     let facts = accepted_facts l slots capacity us u none in

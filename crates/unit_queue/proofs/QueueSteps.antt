@@ -19,7 +19,7 @@ use Rattle.unit_queue.specs.QueueSteps.{payload_or_null, part_content, front_con
 use Rattle.unit_queue.proofs.PieceBytes.{part_some, start_same}
 use Rattle.unit_queue.proofs.Leftover.{text_some, count_some, first_free, first_released, first_least, left_stop, left_on, place_before, place_in, Unfinished}
 
--- what an own slot makes of the queue, and the packet in it
+-- The packet in an own slot, and the queue after the slot.
 pub record Steps (l : OwnedStream) (slots p free number : ℕ) (us : List AccessUnit) (capacity min_next_dts : ℕ) (tally : Tally) : Type 0 where
   pub packet : packet_of (queue_content slots (queue_at l number (begun l p free us) us capacity min_next_dts tally)) ≡ packet_of
       (content_of l (place_at l free number us p))
@@ -27,12 +27,12 @@ pub record Steps (l : OwnedStream) (slots p free number : ℕ) (us : List Access
       ≡ queue_at l (left_at l (suc p) free number us).number (begun l (suc p) (left_at l (suc p) free number us).free (left_at l (suc p) free number us).units)
       (left_at l (suc p) free number us).units capacity min_next_dts tally
 
--- nothing waits
+-- No unit waits.
 step_none : (l : OwnedStream) (slots p free number capacity min_next_dts : ℕ) (tally : Tally) → Steps l slots p free number [] capacity min_next_dts tally
 unfolding front_content front_sent left_at place_at begun
 step_none l slots p free number capacity min_next_dts tally = record { packet = refl; state = refl }
 
--- the first unit is not released
+-- The first unit is not released.
 step_idle : (l : OwnedStream) (slots p free number : ℕ) (u : AccessUnit) (us : List AccessUnit) (capacity min_next_dts : ℕ) (tally : Tally) →
     slots < release l.parameters.rate l.parameters.lead u.dts → suc p ≤ first_slot l free u → Steps l slots p free number (u ∷ us) capacity min_next_dts tally
 unfolding front_content front_sent begun
@@ -45,7 +45,7 @@ step_idle l slots p free number u us capacity min_next_dts tally early before =
       state = rw (stop, none, still, lt-ltb slots (release l.parameters.rate l.parameters.lead u.dts) early) refl;
     }
 
--- a piece at `begun` pieces
+-- A piece with bytes is a payload.
 pub some_is : (pid number : ℕ) (start : Start) (bytes : List ℕ) → 0 < length bytes →
     payload_or_null pid number start bytes ≡ PayloadContent pid number start bytes
 unfolding payload_or_null
@@ -70,7 +70,7 @@ piece_packet l u number b inside =
     part_some (has_access u) (184 * b) (pes_bytes l u) (omega (arith, text_some l u)) inside in
     rw (some_is l.parameters.pid ((number + b) % 256) (start_by (184 * b == 0) (has_access u)) part some, start_same b, counter_same (number + b)) refl
 
--- the queue when one more piece is sent, of a unit that goes on or ends
+-- The queue after one more piece, if the unit has more pieces and if it ends.
 step_more : (l : OwnedStream) (number b : ℕ) (u : AccessUnit) (us : List AccessUnit) (capacity min_next_dts : ℕ) (tally : Tally) →
     stepped true (queue_at l number b (u ∷ us) capacity min_next_dts tally) ≡ queue_at l number (b + 1) (u ∷ us) capacity min_next_dts tally
 step_more l number b u us capacity min_next_dts tally =
@@ -83,7 +83,7 @@ step_last l number b u us capacity min_next_dts tally ends =
     let count : number + packet_count l u + 0 ≡ number + (b + 1) = omega (arith, ends) in
     rw (counter_next number b, count) refl
 
--- what is left where the units before have just ended
+-- If the units before have just ended, all further units remain.
 fresh_left : (l : OwnedStream) (p number : ℕ) (us : List AccessUnit) → left_at l p p number us ≡ record { free = p; number = number; units = us }
 fresh_left l p number [] = unfold left_at in refl
 fresh_left l p number (u ∷ us) = left_stop l p p number u us (omega (arith, first_free l p u, count_some l u))
@@ -93,7 +93,7 @@ unfolding begun
 fresh_begun l p [] = refl
 fresh_begun l p (u ∷ us) = omega (arith, first_free l p u)
 
--- the first unit is released
+-- The first unit is released.
 step_busy : (l : OwnedStream) (slots p free number : ℕ) (u : AccessUnit) (us : List AccessUnit) (capacity min_next_dts : ℕ) (tally : Tally) →
     release l.parameters.rate l.parameters.lead u.dts ≤ slots → first_slot l free u ≤ p → p < end_slot l free u →
     Steps l slots p free number (u ∷ us) capacity min_next_dts tally

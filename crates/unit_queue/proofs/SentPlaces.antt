@@ -1,4 +1,4 @@
--- What is known of a place among a stream's own slots: its number, its piece, its unit.
+-- A place among a stream's own slots: its number, its piece and its unit.
 use Rattle.std.proofs.Common.{◌≡◌, ℕ, zero, suc, ◌+◌, ◌-◌, ◌*◌, ◌^◌, ◌<◌, ◌≤◌, ◌==◌, nat_lt, Bool, true, cond, Option, Some, None, List, [], ◌∷◌, ◌++◌, length}
 use Rattle.std.proofs.Common.{replicate, refl, sym, ap, ◌∙◌, inl, inr, arith}
 use Rattle.std.specs.Prelude.{slice_get}
@@ -23,7 +23,7 @@ use Rattle.unit_queue.specs.Laws.{ContentLaw}
 use Rattle.unit_queue.proofs.PieceBytes.{part_most, part_some}
 use Rattle.unit_queue.proofs.Leftover.{text_some, count_some, first_free, first_released, place_before, place_in, place_on}
 
--- ---- the number of a packet is the count of those before it
+-- The number of a packet is the count of earlier packets
 
 unfoldable pub sent_before : OwnedStream → ℕ → ℕ → List AccessUnit → ℕ → ℕ
 sent_before l free number [] i = number
@@ -103,7 +103,7 @@ sent_next l free number (u ∷ us) i = elim (cases_lt i (first_slot l free u)) [
   ]
 ]
 
--- ---- what is known of a place: its number, its piece, its unit, that it has bytes, and that it does not come early
+-- A place: its number, its piece, its unit, that it has bytes, and that it is not early
 
 pub record PlaceIs (l : OwnedStream) (number : ℕ) (us : List AccessUnit) (i sent : ℕ) (x : UnitPlace) : Type 0 where
   pub number_is : x.number ≡ sent
@@ -143,7 +143,7 @@ replicate_at zero q x lt = absurd (omega arith)
 replicate_at (suc n) zero x lt = refl
 replicate_at (suc n) (suc q) x lt = replicate_at n q x (omega arith)
 
--- the payloads of a unit, then those of the units after it
+-- The payloads of a list of units are the payloads of the first unit, then of the later units.
 pub pieces_cons : (l : OwnedStream) (u : AccessUnit) (us : List AccessUnit) → all_pieces l (u ∷ us) ≡ pes_pieces (has_access u) (pes_bytes l u)
     ++ all_pieces l us
 pieces_cons l u us = flat_map-cons (λ (v : AccessUnit). pes_pieces (has_access v) (pes_bytes l v)) u us
@@ -226,7 +226,7 @@ place_has l free number (u ∷ us) i = elim (cases_lt i (first_slot l free u)) [
   ]
 ]
 
--- ---- what an own slot carries can be a packet
+-- The content of an own slot fits into a packet
 
 place_content : (l : OwnedStream) (us : List AccessUnit) (i sent : ℕ) (o : Option UnitPlace) → l.parameters.pid < 2 ^ 13 → PlaceHas l 0 us i sent o →
     ContentFits (content_of l o)

@@ -1,4 +1,4 @@
--- A tally is that of all units before, and goes on with each further one.
+-- A tally covers all earlier units, and each new unit updates it.
 use Rattle.std.proofs.Common.{◌≡◌, ℕ, ◌+◌, ◌-◌, nat_lt, List, [], ◌∷◌, ◌++◌, length, map, drop, sum, sym, ap, ◌∙◌, inl, inr, refl, arith}
 use Rattle.std.proofs.lemmas.Bool.{cases_lt}
 use Rattle.std.proofs.lemmas.List.{length-append, length-drop, length-map, map-append, drop-map, drop-drop, drop-append-le}
@@ -12,7 +12,7 @@ use Rattle.unit_timing.specs.Levels.{last_due, is_over}
 use Rattle.unit_timing.proofs.Levels.{allowance_more_law}
 use Rattle.unit_queue.specs.Tallies.{exceeds, level_with, counted, level_of, tally_of}
 
--- the packets of the last units
+-- The packets of the last units.
 recent_sum : (k : ℕ) (units : List PesPacket) → sum (keep_last k (map packets_of_unit units)) ≡ last_packets k units
 recent_sum k units =
     rw (length-map units packets_of_unit, drop-map packets_of_unit (length units - k) units) (sum-map packets_of_unit (drop (length units - k) units))
@@ -28,12 +28,12 @@ keep_more k xs x = elim (cases_lt (length xs) k) [
       rw (one, all) (ap (λ (t : List ℕ). drop 1 t) (sym (drop-append-le m xs (x ∷ []) (omega arith))) ∙ drop-drop 1 m (xs ++ x ∷ []))
 ]
 
--- a further unit is over by the tally exactly where it is by the units before
+-- A new unit exceeds the allowance by the tally if and only if it does by the earlier units.
 pub over_same : (a : Allowance) (units : List PesPacket) (unit : PesPacket) → exceeds a (tally_of a units) (last_due 0 units) unit ≡ is_over a units unit
 over_same (Groups g most) units unit = ap (λ (n : ℕ). nat_lt most (n + packets_of_unit unit)) (recent_sum (g - 1) units)
 over_same (Pace burst pace) units unit = refl
 
--- the level goes on from its last value
+-- The level with a new unit follows from the last level.
 level_on : (a : Allowance) (units : List PesPacket) (unit : PesPacket) →
     level_with a (tally_of a units) (last_due 0 units) unit ≡ level_of a (units ++ unit ∷ [])
 level_on (Groups g most) units unit = refl
@@ -44,7 +44,7 @@ recent_on : (k : ℕ) (units : List PesPacket) (unit : PesPacket) →
 recent_on k units unit =
     keep_more k (map packets_of_unit units) (packets_of_unit unit) ∙ ap (λ (t : List ℕ). keep_last k t) (sym (map-append packets_of_unit units (unit ∷ [])))
 
--- and so does the tally
+-- The tally with a new unit follows from the last tally.
 pub tally_on : (a : Allowance) (units : List PesPacket) (unit : PesPacket) →
     counted a (tally_of a units) (last_due 0 units) unit ≡ tally_of a (units ++ unit ∷ [])
 tally_on a units unit = rw (level_on a units unit, recent_on (allowance_rows a - 1) units unit) refl

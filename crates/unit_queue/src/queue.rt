@@ -89,7 +89,7 @@ impl<A: Allocator> UnitQueue<A> {
         ensures refused { (l : OwnedStream) (capacity : ℕ) (us : List AccessUnit) →
             QueueHolds l slots capacity us self.old →
             refusal result ≡ unit_cause l slots capacity us unit }
-        ensures stands { (l : OwnedStream) (capacity : ℕ) (us : List AccessUnit) →
+        ensures represents { (l : OwnedStream) (capacity : ℕ) (us : List AccessUnit) →
             QueueHolds l slots capacity us self.old →
             OnOk result (QueueHolds l slots capacity (us ++ unit ∷ []) self.new) }
         ensures handed_back { IfErr result (λ e. (e.1 ≡ unit) × (self.new ≡ self.old)) }
@@ -117,7 +117,8 @@ impl<A: Allocator> UnitQueue<A> {
     // Returns the slot of a unit's release, or the first cause in the unit or in its time.
     #[tactic(auto, unfolding(crate::specs::Causes::or_cause, crate::specs::Causes::time_cause))]
     fn release(&self, slots: u64, unit: &Unit<A>) -> Result<u64, FeedError>
-        ensures cause { error_of result ≡ or_cause (own_cause self.now.parameters.size self.now.parameters.pts_limit self.now.min_next_dts unit.now)
+        ensures cause { error_of result
+            ≡ or_cause (own_cause self.now.parameters.size self.now.parameters.pts_limit self.now.min_next_dts unit.now)
             (time_cause (late_at self.now.parameters slots unit.now.dts) unit.now.dts) }
         ensures slot { IfOk result (λ slot. slot
             ≡ release self.now.parameters.rate self.now.parameters.lead unit.now.dts) }
@@ -148,7 +149,8 @@ impl<A: Allocator> UnitQueue<A> {
     fn room(&self, dts: u64, size: usize, front: usize) -> Option<FeedError>
         requires { front + size < 2 ^ 63 }
         ensures { result ≡ room_cause (nat_le self.now.capacity (length self.now.units))
-            (packets_cause self.now.parameters.allowance (is_over_for self.now (record { dts = dts; size = size; front = front }))) }
+            (packets_cause self.now.parameters.allowance
+            (is_over_for self.now (record { dts = dts; size = size; front = front }))) }
     {
         let full = self.waiting.capacity() <= self.waiting.len();
         let allowance = self.parameters.allowance;
@@ -185,7 +187,7 @@ impl<A: Allocator> UnitQueue<A> {
     /// the slot of its release is `slot` or before; or the null packet.
     pub fn next(&mut self, slot: u64) -> [u8; 188]
         // For any stream and units that the queue represents: their packet in this slot, and one more slot.
-        ensures stands { (l : OwnedStream) (capacity : ℕ) (us : List AccessUnit) → l.own slot ≡ true →
+        ensures represents { (l : OwnedStream) (capacity : ℕ) (us : List AccessUnit) → l.own slot ≡ true →
             QueueHolds l slot capacity us self.old →
             (result ≡ packet_of (stream_content l us slot)) × QueueHolds l (suc slot) capacity us self.new }
         // The same, step by step.

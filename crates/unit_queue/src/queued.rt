@@ -25,7 +25,8 @@ impl<A: Allocator> Model for QueuedUnit<A> {
 
     ghost Value = { Queued };
 
-    ghost view = { λ unit. record { release = unit.release; header = unit.header.items; access = unit.access; bytes = unit.bytes.items } };
+    ghost view = { λ unit.
+        record { release = unit.release; header = unit.header.items; access = unit.access; bytes = unit.bytes.items } };
 }
 
 impl<A: Allocator> QueuedUnit<A> {

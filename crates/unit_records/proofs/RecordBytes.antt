@@ -1,4 +1,4 @@
--- A written record is read again.
+-- A written record is read back.
 use Rattle.std.proofs.Common.{◌≡◌, ℕ, zero, suc, ◌+◌, ◌/◌, ◌^◌, ◌≤◌, Bool, true, false, cond, Option, None, is_some, List, ◌∷◌, ◌++◌, length, take, drop}
 use Rattle.std.proofs.Common.{slice_index, Some, Ok, refl, sym, ap, ap₂, ◌∙◌, arith, append_assoc, take_at, drop_at}
 use Rattle.std.proofs.lemmas.List.{length-append, length-drop, drop-drop}
@@ -14,11 +14,11 @@ use Rattle.unit_records.specs.Laws.{RecordsAreRead, FitsRecord}
 use Rattle.unit_records.proofs.RecordReading.{record_whole}
 use Rattle.unit_records.proofs.RecordWords.{word_below, size_again, byte_again, marks_again, bytes_again}
 
--- the bytes behind the head of a record
+-- The bytes of a record after its head
 abbrev pub body_of : AccessUnit → List ℕ
 body_of unit = private_bytes unit.marks.private_data ++ unit.bytes
 
--- the size that a record names
+-- The size that a record names
 abbrev pub size_of : AccessUnit → ℕ
 size_of unit = private_size unit.marks + length unit.bytes
 
@@ -30,7 +30,7 @@ spread_by w d p q b r =
     (append_assoc d (p ++ q) (b ++ r)
     ∙ ap (λ (t : List ℕ). d ++ t) (append_assoc p q (b ++ r) ∙ ap (λ (t : List ℕ). p ++ t) (sym (append_assoc q b r))))
 
--- a record before its rest, one part after the other
+-- A record and the rest of the input are the parts of the record in order, then the rest.
 spread : (stream : ℕ) (unit : AccessUnit) (rest : List ℕ)
     → record_bytes stream unit ++ rest
     ≡ stream ∷ (big_bytes 4 (word_of unit.marks (size_of unit)) ++ (big_bytes 8 unit.dts ++ (big_bytes 8 unit.pts ++ (body_of unit ++ rest))))
@@ -40,7 +40,7 @@ spread stream unit rest =
     (spread_by (big_bytes 4 (word_of unit.marks (size_of unit))) (big_bytes 8 unit.dts) (big_bytes 8 unit.pts) (private_bytes unit.marks.private_data)
     unit.bytes rest)
 
--- the places of its parts
+-- The DTS, the PTS and the rest of a record begin at bytes 5, 13 and 21.
 parts : (stream : ℕ) (size dts pts last : List ℕ) → length size ≡ 4 → length dts ≡ 8 → length pts ≡ 8
     → (drop 5 (stream ∷ (size ++ (dts ++ (pts ++ last)))) ≡ dts ++ (pts ++ last))
     × (drop 13 (stream ∷ (size ++ (dts ++ (pts ++ last)))) ≡ pts ++ last)
@@ -64,7 +64,7 @@ body_by (Some p) bytes = omega (arith, length-append (sixteen p) bytes, sixteen_
 body_size : (unit : AccessUnit) → length (body_of unit) ≡ size_of unit
 body_size unit = body_by unit.marks.private_data unit.bytes
 
--- a record without bytes has no marks
+-- A record without bytes has no marks.
 no_more : (b : Bool) (n : ℕ) → cond b 16 0 + n ≡ 0 → n ≡ 0
 no_more true n e = omega (arith, e)
 no_more false n e = omega (arith, e)
@@ -72,7 +72,7 @@ no_more false n e = omega (arith, e)
 unmarked : (unit : AccessUnit) → FitsRecord unit → size_of unit ≡ 0 → marks_byte unit.marks ≡ 0
 unmarked unit fits none = ap (λ (m : Marks). marks_byte m) (fits.marked (no_more (is_some unit.marks.private_data) (length unit.bytes) none))
 
--- one with PES_private_data has its bytes, and one of the unit
+-- A record with PES_private_data has 16 bytes of PES_private_data and at least one byte of the unit.
 with_private : (o : Option (List ℕ)) (n : ℕ) → (n ≡ 0 → o ≡ None) → is_some o ≡ true → 17 ≤ cond (is_some o) 16 0 + n
 with_private None n none is = absurd cc
 with_private (Some p) zero none is = absurd (let no : Some p ≡ None = none refl in cc (no))

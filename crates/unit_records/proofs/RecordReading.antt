@@ -40,7 +40,7 @@ record_whole xs whole size =
       le-ltb (length xs) (21 + size_at xs) whole,
     ) refl
 
--- the tests that a whole record passes
+-- If a record is read, the input is not cut within it.
 passes : (a b c d : Bool) (found entry : Option (ℕ × AccessUnit)) (whole : ℕ × AccessUnit) → entry ≡ Some whole
     → ◌≡◌ {A = Result (Option (ℕ × AccessUnit)) UnitFileError} (cond a (Ok None) (cond b (Err Cut) (cond c (Err Size) (cond d (Err Cut) (Ok found)))))
     (Ok entry) → d ≡ false
@@ -50,7 +50,7 @@ passes false false true d found entry whole is e = ok_not_err entry Size (sym e)
 passes false false false true found entry whole is e = ok_not_err entry Cut (sym e)
 passes false false false false found entry whole is e = refl
 
--- a record has a head at least
+-- A record is at least as long as its head.
 pub record_long : (xs : List ℕ) (entry : ℕ × AccessUnit) → record_at xs ≡ Ok (Some entry) → 21 + size_at xs ≤ length xs
 unfolding record_at
 record_long xs entry e =
@@ -58,7 +58,7 @@ record_long xs entry e =
     (passes (length xs == 0) (ltb (length xs) 5) (ltb max_unit_size (size_at xs)) (ltb (length xs) (21 + size_at xs))
     (Some (slice_index xs 0, unit_at xs)) (Some entry) entry refl e)
 
--- a call failed a number of bytes further on
+-- If a call fails some bytes further on, the read of the record stops within the record.
 later : (from size : ℕ) (xs : List ℕ) (left : Option (List ℕ)) → from ≤ length xs → from + size ≤ 21 + size_at xs → StopsWithin size (drop from xs) left →
     StopsWithin (21 + size_at xs) xs left
 later from size xs left long fits s = record {
@@ -68,22 +68,22 @@ later from size xs left long fits s = record {
   rest = s.rest ∙ ap Some (drop-drop s.read from xs);
 }
 
--- no byte was left
+-- No byte was left.
 pub at_end : (xs : List ℕ) (left : Option (List ℕ)) → ReadsStart xs left (Ok None) → ReadsRecord xs left (Ok None)
 at_end xs left s = (record_none xs s.0, s.1)
 
--- the start of a record was refused
+-- The read refused the start of the record.
 pub start_refused : (xs : List ℕ) (left : Option (List ℕ)) (e : UnitFileError) → ReadsStart xs left (Err e) → ReadsRecord xs left (Err e)
 start_refused xs left Cut s = (record_short xs s.0 s.1, s.2)
 start_refused xs left Size s = (record_size xs s.0 s.1, s.2)
 start_refused xs left Device s = record { read = s.read; within = omega (arith, s.within); some = s.some; rest = s.rest }
 start_refused xs left Memory s = absurd s
 
--- the size that was read
+-- The size that was read is the size of the record.
 size_read : (xs : List ℕ) (start : ℕ × ℕ × ℕ) → start ≡ (slice_index xs 0, byte_at xs, size_at xs) → start.2 ≡ size_at xs
 size_read xs start e = ap (λ (x : ℕ × ℕ × ℕ). x.2) e
 
--- its stamps were
+-- The read refused the stamps of the record.
 pub stamps_refused : (xs : List ℕ) (first left : Option (List ℕ)) (start : ℕ × ℕ × ℕ) (e : UnitFileError) → ReadsStart xs first (Ok (Some start))
     → ((ys : List ℕ) → first ≡ Some ys → ReadsStamps ys left (Err e)) → ReadsRecord xs left (Err e)
 stamps_refused xs first left start e s k = by_cause e (k (drop 5 xs) s.3)
@@ -94,7 +94,7 @@ stamps_refused xs first left start e s k = by_cause e (k (drop 5 xs) s.3)
     by_cause Device h = later 5 16 xs left s.0 (omega arith) h
     by_cause Memory h = absurd h
 
--- its bytes were
+-- The read refused the bytes of the record.
 pub bytes_refused : (xs : List ℕ) (first second left : Option (List ℕ)) (start : ℕ × ℕ × ℕ) (stamps : ℕ × ℕ) (e : UnitFileError)
     → ReadsStart xs first (Ok (Some start))
     → ((ys : List ℕ) → first ≡ Some ys → ReadsStamps ys second (Ok stamps))
@@ -110,7 +110,7 @@ bytes_refused xs first second left start stamps e s k b =
         later 21 start.2 xs left head (omega (arith, size_read xs start s.1)) (subst (λ ys. StopsWithin start.2 ys left) (drop-drop 16 5 xs) h)
     by_cause Memory head h = (head, s.2, h ∙ ap Some (drop-drop 16 5 xs))
 
--- a whole record
+-- The read returned a whole record.
 pub whole_record : (xs : List ℕ) (first second left : Option (List ℕ)) (start : ℕ × ℕ × ℕ) (stamps : ℕ × ℕ) (bytes : List ℕ)
     → ReadsStart xs first (Ok (Some start))
     → ((ys : List ℕ) → first ≡ Some ys → ReadsStamps ys second (Ok stamps))

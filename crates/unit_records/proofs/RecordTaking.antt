@@ -1,4 +1,4 @@
--- A record whose bytes come one after another is the record at the front of them all.
+-- A record whose bytes arrive one after another is the record at the front of all these bytes.
 use Rattle.std.proofs.Common.{◌≡◌, ◌==◌, Bool, true, false, not, ℕ, suc, ◌+◌, ◌-◌, ◌/◌, ◌^◌, ◌<◌, ◌≤◌, List, [], ◌∷◌, ◌++◌, length, take, drop, min}
 use Rattle.std.proofs.Common.{slice_index, Some, Ok, Err, refl, sym, ap, ap₂, subst, ◌∙◌, arith, append_assoc, take_at, drop_at, take_all, inl, inr}
 use Rattle.std.proofs.lemmas.Bool.{cases_lt, eqb-true}
@@ -27,19 +27,19 @@ number_after at n xs more h =
     let left = length-drop at xs in
     ap (λ (ys : List ℕ). big_number n ys) (drop-append-le at xs more (omega (arith, h))) ∙ number_front n (drop at xs) more (omega (arith, h, left))
 
-size_front : (head more : List ℕ) → 5 ≤ length head → size_at (head ++ more) ≡ size_at head
+pub size_front : (head more : List ℕ) → 5 ≤ length head → size_at (head ++ more) ≡ size_at head
 size_front head more h = ap size_in (number_after 1 4 head more (omega (arith, h)))
 
-byte_front : (head more : List ℕ) → 5 ≤ length head → byte_at (head ++ more) ≡ byte_at head
+pub byte_front : (head more : List ℕ) → 5 ≤ length head → byte_at (head ++ more) ≡ byte_at head
 byte_front head more h = ap (λ (n : ℕ). n / 2 ^ 24) (number_after 1 4 head more (omega (arith, h)))
 
-first_front : (head more : List ℕ) → 0 < length head → slice_index (head ++ more) 0 ≡ slice_index head 0
+pub first_front : (head more : List ℕ) → 0 < length head → slice_index (head ++ more) 0 ≡ slice_index head 0
 first_front [] more h = absurd (omega (arith, h))
 first_front (x ∷ head) more h = refl
 
 -- 2. A head that is filled up
 
--- n bytes are those that the head lacks, as far as they have come
+-- The first n bytes belong to the head: they are the bytes that it lacks, as far as they have arrived
 abbrev pub Fills : List ℕ → List ℕ → List ℕ → ℕ → Type 0
 Fills head unit bytes n = (length (head ++ take n bytes) ≤ 21) × ((length head < 21 → unit ≡ []) × (n ≡ min (21 - length head) (length bytes)))
 
@@ -58,7 +58,7 @@ joined head unit bytes more n f = elim (cases_lt (length head) 21) [
       rw zero (append_assoc head unit (bytes ++ more) ∙ ap (λ (xs : List ℕ). xs ++ (unit ++ (bytes ++ more))) (sym (append-nil head)))
 ]
 
--- 3. What is refused
+-- 3. Refusals
 
 pub refused : (head unit bytes : List ℕ) (n : ℕ) (refusal : UnitFileError) → Fills head unit bytes n → NamesSize (head ++ take n bytes) (Err refusal) →
     StaysRefused (head ++ unit) bytes refusal
@@ -71,7 +71,7 @@ refused head unit bytes n Size f s = λ more.
 refused head unit bytes n Device f s = absurd s
 refused head unit bytes n Memory f s = absurd s
 
--- an input that ends inside a record
+-- An input that ends inside a record is cut.
 pub cut_inside : (xs : List ℕ) → IsPart xs → 0 < length xs → record_at xs ≡ Err Cut
 cut_inside xs p some = elim (cases_lt (length xs) 5) [
   | inl short ↦ record_short xs some short
@@ -80,11 +80,11 @@ cut_inside xs p some = elim (cases_lt (length xs) 5) [
 
 -- 4. A unit that is filled up
 
--- so many of the bytes after the head are the unit's
+-- The unit takes m of the bytes after the head
 abbrev pub FillsUnit : List ℕ → List ℕ → ℕ → ℕ → ℕ → Type 0
 FillsUnit unit bytes n size m = m ≡ min (size - length unit) (length (drop n bytes))
 
--- the bytes of an open record, and that its unit is not whole
+-- The unit of an open record has no more bytes than the record names.
 unit_short : (head unit bytes : List ℕ) (n size : ℕ) → IsPart (head ++ unit) → Fills head unit bytes n → size ≡ size_at (head ++ take n bytes) →
     length unit ≤ size
 unit_short head unit bytes n size p f s = elim (cases_lt (length head) 21) [
@@ -100,7 +100,7 @@ unit_short head unit bytes n size p f s = elim (cases_lt (length head) 21) [
       omega (arith, p.short, same, named, all, most, f.0)
 ]
 
--- the bytes of its unit are all there
+-- If all bytes of the unit have arrived, the unit has the size that the record names.
 unit_whole : (head unit bytes : List ℕ) (n m size : ℕ) → IsPart (head ++ unit) → Fills head unit bytes n → FillsUnit unit bytes n size m →
     size ≡ size_at (head ++ take n bytes) → size ≤ length (unit ++ take m (drop n bytes)) → length (unit ++ take m (drop n bytes)) ≡ size
 unit_whole head unit bytes n m size p f u s whole =
@@ -109,7 +109,7 @@ unit_whole head unit bytes n m size p f u s whole =
     let before = unit_short head unit bytes n size p f s in
     omega (arith, all, part, before, u, whole)
 
--- the bytes of the record, and those after it
+-- The bytes of the record come first, then the bytes after it.
 spread : (head unit bytes more : List ℕ) (n m : ℕ) → Fills head unit bytes n →
     (head ++ unit) ++ (bytes ++ more) ≡ (head ++ take n bytes) ++ ((unit ++ take m (drop n bytes)) ++ (drop (n + m) bytes ++ more))
 spread head unit bytes more n m f =
@@ -119,13 +119,13 @@ spread head unit bytes more n m f =
     ∙ ap (λ (xs : List ℕ). (head ++ take n bytes) ++ (unit ++ (take m (drop n bytes) ++ (xs ++ more)))) (drop-drop m n bytes)
     ∙ ap (λ (xs : List ℕ). (head ++ take n bytes) ++ xs) (sym (append_assoc unit (take m (drop n bytes)) (drop (n + m) bytes ++ more)))
 
-unit_same : (dts pts : ℕ) (marks : Marks) (bytes : List ℕ) (dts2 pts2 : ℕ) (marks2 : Marks) (bytes2 : List ℕ) → dts ≡ dts2 → pts ≡ pts2 → marks ≡ marks2 →
+pub unit_same : (dts pts : ℕ) (marks : Marks) (bytes : List ℕ) (dts2 pts2 : ℕ) (marks2 : Marks) (bytes2 : List ℕ) → dts ≡ dts2 → pts ≡ pts2 → marks ≡ marks2 →
     bytes ≡ bytes2
     → ◌≡◌ {A = AccessUnit} (record { dts = dts; pts = pts; marks = marks; bytes = bytes }) (record { dts = dts2; pts = pts2; marks = marks2; bytes = bytes2 })
 unit_same dts pts marks bytes dts2 pts2 marks2 bytes2 d p m b = rw (d, p, m, b) refl
 
--- a whole head and a unit of the size that it names, whatever follows
-whole_front : (head unit rest : List ℕ) → length head ≡ 21 → size_at head ≡ length unit → length unit ≤ max_unit_size →
+-- A whole head and a unit of the size that it names make a record, whatever follows.
+pub whole_front : (head unit rest : List ℕ) → length head ≡ 21 → size_at head ≡ length unit → length unit ≤ max_unit_size →
     (record_at (head ++ (unit ++ rest)) ≡ Ok (Some (entry_of head unit))) × (after_record (head ++ (unit ++ rest)) ≡ rest)
 whole_front head unit rest full s max =
     let all = head ++ (unit ++ rest) in
@@ -155,7 +155,7 @@ ends head unit bytes n m size p f u long s max whole =
       rest_is = λ more. ap (λ (xs : List ℕ). after_record xs) (spread head unit bytes more n m f) ∙ (front more).1;
     }
 
--- the unit still lacks bytes: all that came belong to the record
+-- If the unit still lacks bytes, all bytes that have arrived belong to the record.
 pub goes_on : (head unit bytes : List ℕ) (n m size : ℕ) → IsPart (head ++ unit) → Fills head unit bytes n → FillsUnit unit bytes n size m →
     21 ≤ length (head ++ take n bytes) → size ≡ size_at (head ++ take n bytes) → size ≤ max_unit_size → length (unit ++ take m (drop n bytes)) < size →
     IsPart ((head ++ take n bytes) ++ (unit ++ take m (drop n bytes))) × ((head ++ take n bytes) ++ (unit ++ take m (drop n bytes)) ≡ (head ++ unit) ++ bytes)
@@ -175,7 +175,7 @@ goes_on head unit bytes n m size p f u long s max lacks =
           ∙ sym (joined head unit bytes [] n f) ∙ ap (λ (xs : List ℕ). (head ++ unit) ++ xs) (append-nil bytes),
     )
 
--- 5. Whether a byte has come
+-- 5. Whether a byte has arrived
 
 pub none_come : (head unit : List ℕ) (empty : Bool) → empty ≡ (length head == 0) → (length head < 21 → unit ≡ []) → not empty ≡ false → head ++ unit ≡ []
 none_come [] unit empty e f s = f (omega arith)
@@ -187,14 +187,14 @@ some_come [] unit true e s = absurd cc
 some_come [] unit false e s = absurd cc
 some_come (x ∷ head) unit empty e s = omega arith
 
--- 6. What a call leaves
+-- 6. The state after a call
 
--- the head that is seen is the old one with the bytes that it lacked
+-- The head after the call: the old head with bytes that it lacked
 abbrev pub HeadIs : OpenRecord → List ℕ → List ℕ → List ℕ → ℕ → Type 0
 HeadIs old bytes now view n =
     (view ≡ now) × ((now ≡ old.head.items ++ take n bytes) × ((n ≡ min (21 - length old.head.items) (length bytes)) × (length view ≤ 21)))
 
--- the unit is the old one with the bytes that it lacked
+-- The unit after the call: the old unit with bytes that it lacked
 abbrev pub UnitIs : OpenRecord → List ℕ → List ℕ → ℕ → ℕ → ℕ → Type 0
 UnitIs old bytes now n size m = (now ≡ old.unit.items ++ take m (drop n bytes)) × (m ≡ min (size - length old.unit.items) (length (drop n bytes)))
 

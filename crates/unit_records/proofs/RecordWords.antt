@@ -1,4 +1,4 @@
--- The word of a record is read as the marks and the size that it was made of.
+-- The word of a record is read back as its marks and its size.
 use Rattle.std.proofs.Common.{◌≡◌, ◌≢◌, ℕ, ◌+◌, ◌-◌, ◌*◌, ◌/◌, ◌%◌, ◌^◌, ◌<◌, ◌≤◌, Bool, true, false, cond, Option, Some, None, is_some, IfSome, List, ◌++◌}
 use Rattle.std.proofs.Common.{length, drop, drop_at, refl, sym, ap, ◌∙◌, arith, inl, inr, ltb}
 use Rattle.std.proofs.lemmas.Bool.{lt-ltb, ltb-true, le-leb, and_from, cases_eq}
@@ -31,7 +31,7 @@ word_by : (b : Bool) (byte size : ℕ) → byte < 128 → (b ≡ true → size <
 word_by true byte size h k = let small : size < 2 ^ 24 = k refl in omega (arith, h, small)
 word_by false byte size h k = omega arith
 
--- a word has 32 bits
+-- A word has 32 bits.
 pub word_below : (marks : Marks) (size : ℕ) → word_of marks size < 2 ^ 32
 word_below marks size = word_by (ltb size (2 ^ 24)) (marks_byte marks) size (marks_below marks) (λ e. ltb-true size (2 ^ 24) e)
 
@@ -63,7 +63,7 @@ seven_bits : (byte r v l p a c o : ℕ) → r ≤ 1 → v ≤ 1 → l ≤ 1 → 
 seven_bits byte r v l p a c o hr hv hl hp ha hc ho is =
     (omega arith, omega arith, omega arith, omega arith, omega arith, omega arith, omega arith)
 
--- the flags in a byte of marks
+-- The flags in a byte of marks
 pub record Named (marks : Marks) : Type 0 where
   pub access : flag (marks_byte marks) 64 ≡ marks.random_access
   pub private : flag (marks_byte marks) 32 ≡ is_some marks.private_data
@@ -89,7 +89,7 @@ named marks =
       original = test_bit marks.flags.original (byte / 1 % 2) b.6;
     }
 
--- the size
+-- The size is read back.
 pub size_again : (marks : Marks) (size : ℕ) → size ≤ max_unit_size → (size ≡ 0 → marks_byte marks ≡ 0) → (is_some marks.private_data ≡ true → 17 ≤ size) →
     size_in (word_of marks size) ≡ size
 size_again marks size most none private =
@@ -97,13 +97,13 @@ size_again marks size most none private =
     ap size_in (word_is marks size small)
     ∙ size_by (marks_byte marks) size (marks_below marks) small none (λ set. private (sym (named marks).private ∙ set))
 
--- the byte of marks
+-- The byte of marks is read back.
 pub byte_again : (marks : Marks) (size : ℕ) → size ≤ max_unit_size → word_of marks size / 2 ^ 24 ≡ marks_byte marks
 byte_again marks size most =
     let small : size < 2 ^ 24 = omega (arith, most) in
     ap (λ (n : ℕ). n / 2 ^ 24) (word_is marks size small) ∙ omega (arith, small)
 
--- marks by their seven values
+-- Marks are equal if their seven values are.
 marks_by : (r l p a c o : Bool) (v : Option (List ℕ)) (marks : Marks) → r ≡ marks.random_access → l ≡ marks.long → p ≡ marks.flags.priority →
     a ≡ marks.flags.aligned
     → c ≡ marks.flags.copyright → o ≡ marks.flags.original → v ≡ marks.private_data
@@ -111,7 +111,7 @@ marks_by : (r l p a c o : Bool) (v : Option (List ℕ)) (marks : Marks) → r �
     marks
 marks_by r l p a c o v marks er el ep ea ec eo ev = rw (er, el, ep, ea, ec, eo, ev) refl
 
--- PES_private_data in front of the bytes of a unit
+-- PES_private_data comes before the bytes of the unit.
 private_first : (o : Option (List ℕ)) (bytes : List ℕ) → IfSome o (λ xs. length xs ≡ 16) → cond (is_some o) (first_sixteen (private_bytes o ++ bytes)) None ≡ o
 private_first None bytes h = refl
 private_first (Some p) bytes h = first_again p bytes ∙ ap Some (sixteen_is p h)
@@ -120,7 +120,7 @@ bytes_behind : (o : Option (List ℕ)) (bytes : List ℕ) → cond (is_some o) (
 bytes_behind None bytes = refl
 bytes_behind (Some p) bytes = drop_at (sixteen p) bytes 16 (sixteen_size p)
 
--- the marks
+-- The marks are read back.
 pub marks_again : (marks : Marks) (bytes : List ℕ) → HasSixteen marks → marks_in (marks_byte marks) (private_bytes marks.private_data ++ bytes) ≡ marks
 unfolding marks_in
 marks_again marks bytes h =
@@ -132,7 +132,7 @@ marks_again marks bytes h =
     (flag (marks_byte marks) 1) (cond (flag (marks_byte marks) 32) (first_sixteen body) None) marks n.access n.long n.priority n.aligned n.copyright n.original
     v
 
--- and the bytes of the unit
+-- The bytes of the unit are read back.
 pub bytes_again : (marks : Marks) (bytes : List ℕ) → bytes_in (marks_byte marks) (private_bytes marks.private_data ++ bytes) ≡ bytes
 bytes_again marks bytes =
     let body : List ℕ = private_bytes marks.private_data ++ bytes in

@@ -23,6 +23,14 @@ ReadsStart xs left (Err Size) = (5 ≤ length xs) × (max_unit_size < size_at xs
 ReadsStart xs left (Err Device) = StopsWithin 5 xs left
 ReadsStart xs left (Err Memory) = ⊥
 
+-- these five bytes hold the stream, the byte of marks and the size
+abbrev pub HoldsStart : List ℕ → ℕ × ℕ × ℕ → Type 0
+HoldsStart bytes start = (length bytes ≡ 5) × (start ≡ (slice_index bytes 0, byte_at bytes, size_at bytes)) × (size_at bytes ≤ max_unit_size)
+
+-- these 16 bytes hold the DTS and the PTS
+abbrev pub HoldsStamps : List ℕ → ℕ × ℕ → Type 0
+HoldsStamps bytes stamps = (length bytes ≡ 16) × (stamps.0 ≡ big_number 8 bytes) × (stamps.1 ≡ big_number 8 (drop 8 bytes))
+
 -- the DTS and the PTS
 abbrev pub ReadsStamps : List ℕ → Option (List ℕ) → Result (ℕ × ℕ) UnitFileError → Type 0
 ReadsStamps xs left (Ok stamps) =

@@ -100,6 +100,11 @@ record_at xs =
 abbrev pub after_record : List ℕ → List ℕ
 after_record xs = drop (head_size + size_at xs) xs
 
+-- these bytes are a record with this stream and unit, whatever bytes follow
+pub record IsRecord (bytes : List ℕ) (entry : ℕ × AccessUnit) : Type 0 where
+  pub record_is : (later : List ℕ) → record_at (bytes ++ later) ≡ Ok (Some entry)
+  pub rest_is : (later : List ℕ) → after_record (bytes ++ later) ≡ later
+
 -- the bytes of a record in front of its unit, which has `size` bytes
 unfoldable pub record_head : ℕ → Marks → ℕ → ℕ → ℕ → List ℕ
 record_head stream marks size dts pts =

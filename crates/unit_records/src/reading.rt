@@ -1,10 +1,11 @@
 //! Records of access units, read one by one from a device.
 
-ghost use Rattle.std.specs.Prelude.{◌≡◌, ◌≤◌, ◌<◌, ℕ, List, Some};
+ghost use Rattle.std.specs.Prelude.{◌≡◌, ◌≤◌, ◌<◌, ℕ, List, Some, IfOk, IfSome, length};
 ghost use Rattle.std.specs.Result.{result_map_both};
 ghost use Rattle.unit_records.specs.Codes.{file_code};
-ghost use Rattle.unit_records.specs.Records.{ReadsRecord, NamesReader};
-ghost use Rattle.unit_records.specs.RecordParts.{FillsWhole, ReadsBytes, ReadsStart, ReadsStamps};
+ghost use Rattle.unit_records.specs.Records.{IsRecord, ReadsRecord, NamesReader};
+ghost use Rattle.unit_records.specs.RecordParts.{FillsWhole, HoldsStamps, HoldsStart, ReadsBytes, ReadsStart};
+ghost use Rattle.unit_records.specs.RecordParts.{ReadsStamps};
 
 use crate::words::{byte_in, parted, size_in};
 use byteorder::{BigEndian, ByteOrder};
@@ -57,7 +58,8 @@ pub fn read_unit<A: Allocator, R: Source>(
     // For an input whose bytes are known: the answer, and the bytes that remain.
     ensures known { (xs : List ℕ) → R.remaining from.old ≡ Some xs → ReadsRecord xs (R.remaining from.new) result }
 
-    // For any input.
+    // For any input: some bytes are the record.
+    ensures found { IfOk result (λ found. IfSome found (λ entry. (bytes : List ℕ) × IsRecord bytes entry)) }
     ensures fault { NamesReader result (R.fault_count from.old) (R.fault_count from.new) }
     ensures later { R.fault_count from.old ≤ R.fault_count from.new }
 {
@@ -105,6 +107,7 @@ fn fill<R: Source>(from: &mut R, part: &mut [u8]) -> Result<(), UnitFileError>
 // Reads the stream, the byte of marks and the size; returns None at the end of the input.
 fn read_start<R: Source>(from: &mut R) -> Result<Option<(u8, u8, usize)>, UnitFileError>
     ensures known { (xs : List ℕ) → R.remaining from.old ≡ Some xs → ReadsStart xs (R.remaining from.new) result }
+    ensures found { IfOk result (λ found. IfSome found (λ start. (bytes : List ℕ) × HoldsStart bytes start)) }
     ensures fault { NamesReader result (R.fault_count from.old) (R.fault_count from.new) }
     ensures later { R.fault_count from.old ≤ R.fault_count from.new }
 {
@@ -129,6 +132,7 @@ fn read_start<R: Source>(from: &mut R) -> Result<Option<(u8, u8, usize)>, UnitFi
 // Reads the DTS and the PTS.
 fn read_stamps<R: Source>(from: &mut R) -> Result<(u64, u64), UnitFileError>
     ensures known { (xs : List ℕ) → R.remaining from.old ≡ Some xs → ReadsStamps xs (R.remaining from.new) result }
+    ensures found { IfOk result (λ stamps. (bytes : List ℕ) × HoldsStamps bytes stamps) }
     ensures fault { NamesReader result (R.fault_count from.old) (R.fault_count from.new) }
     ensures later { R.fault_count from.old ≤ R.fault_count from.new }
 {
@@ -150,6 +154,7 @@ fn read_bytes<A: Allocator, R: Source>(
 ) -> Result<Vec<u8, A>, UnitFileError>
     ensures known { (xs : List ℕ) → R.remaining from.old ≡ Some xs →
         ReadsBytes xs size (R.remaining from.new) (result_map_both (λ bytes. bytes.items) (λ refusal. refusal) result) }
+    ensures size { IfOk result (λ bytes. length bytes.items ≡ size) }
     ensures fault { NamesReader result (R.fault_count from.old) (R.fault_count from.new) }
     ensures later { R.fault_count from.old ≤ R.fault_count from.new }
 {

@@ -6,13 +6,12 @@ use Rattle.unit_timing.specs.Conditions.{Share, bytes_waiting}
 use Rattle.unit_timing.specs.declared.framing.Framing.{Framing}
 use Rattle.unit_timing.specs.AccessUnits.{FramedPacket, access_units_held, framed_fullness, framed_waiting}
 
--- ---- a packet of three access units, 100 units of 90 kHz after one another, of which the first is due at 1,600. All its bytes
--- are there at 1,599; at 1,600 the first is removed, at 1,700 the second, at 1,800 the last
+-- ---- A packet of three access units, due at 1,600, 1,700 and 1,800 units of 90 kHz. At 1,599 all bytes are there; each access unit is removed at its time
 
 three : List FramedPacket
 three = record { packet = record { dts = 1600; size = 590; front = 0 }; access_units = 200 ∷ 200 ∷ 190 ∷ [] } ∷ []
 
--- at 1,504,000 bits a second, drained at 2,000,000: the moment of 1,599 units of 90 kHz, and so on, rounded up
+-- At 1,504,000 bits a second, drained at 2,000,000: the fullness at the moment of 1,599 units of 90 kHz and at the later moments, each rounded up
 before_first : framed_fullness 1504000 2000000 6680266667 100 three (replicate 590 0) ≡ 590
 unfolding three framed_fullness access_units_held
 before_first = refl
@@ -29,9 +28,9 @@ all_removed : framed_fullness 1504000 2000000 7520000000 100 three (replicate 59
 unfolding three framed_fullness access_units_held
 all_removed = refl
 
--- ---- layer II at 192 kbit/s, five access units of 576 bytes a packet, 2,160 units of 90 kHz apart, 14 bytes of header: a
--- packet may come in a burst, up to 10,800 before it is due. Removed whole, 2,894 bytes wait at most; one by one 5,198, where a
--- packet comes while four access units of the one before wait. A main buffer of 3,584 bytes has room for the first alone
+-- ---- Layer II at 192 kbit/s: five access units of 576 bytes a packet, 2,160 units of 90 kHz apart, and 14 bytes of header. A packet may arrive in a burst,
+-- up to 10,800 before it is due. If packets are removed whole, at most 2,894 bytes wait; if access units are removed singly, 5,198, because a packet may
+-- arrive while four access units of the previous packet wait. A main buffer of 3,584 bytes has room only for 2,894
 
 sound : Declaration
 sound = record { interval = 10800; lead = 10800; drain = 2000000; main = 3584; largest = 2894; unit_packets = 16; allowance = Pace 16 1500000 }

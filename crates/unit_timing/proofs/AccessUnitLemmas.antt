@@ -1,4 +1,4 @@
--- PES packets of several access units.
+-- PES packets of several access units
 use Rattle.std.proofs.Common.{◌≡◌, ℕ, zero, suc, ◌+◌, ◌-◌, ◌*◌, ◌<◌, ◌≤◌, ◌⊎◌, Bool, cond, nat_lt, List, [], ◌∷◌, length, take, drop, refl, ap, ◌∙◌, sym, subst}
 use Rattle.std.proofs.Common.{inl, inr, arith, All}
 use Rattle.std.proofs.Math.Nat.{le_trans, mul-le-mul_right}
@@ -25,13 +25,13 @@ use Rattle.unit_timing.proofs.MainBufferBySlots.{by_slots}
 use Rattle.unit_timing.proofs.EarlierStamps.{advanced, advanced_none, advanced_slots, shorter, keeps_shorter, proper_shorter}
 use Rattle.unit_timing.proofs.PlanLemmas.{some_slots, main_fits, main_switch_law}
 
--- ---- the access units of one packet
+-- ---- The access units of one packet
 
 one_entered : (rate r x due last d : ℕ) → x * 720000 < last * rate * r →
     (let n : ℕ = cond (is_in_main_buffer rate r x due d) 1 0 in n) ≤ (let n : ℕ = cond (is_in_main_buffer rate r x last d) 1 0 in n)
 one_entered rate r x due last d lt = grind (arith, nat_tests)
 
--- before a stamp all bytes that have entered are there
+-- Before the stamp `last`, every byte that has entered is still there.
 kept_entered : (rate r x due last : ℕ) (ds : List ℕ) → x * 720000 < last * rate * r → kept rate r x due ds ≤ kept rate r x last ds
 unfolding kept
 kept_entered rate r x due last [] lt = omega arith
@@ -50,7 +50,7 @@ held_entered rate r x apart due last (size ∷ sizes) left lt =
     ap (kept rate r x last) (sym (take-append-drop size left)) ∙ kept-append rate r x last (take size left) (drop size left) in
     omega (arith, first, rest, both)
 
--- they are no more than each of its greatest size
+-- Access units hold at most their number times the largest size.
 held_all : (rate r x apart due largest : ℕ) (sizes left : List ℕ) → All (λ size. size ≤ largest) sizes →
     access_units_held rate r x apart due sizes left ≤ length sizes * largest
 unfolding access_units_held kept
@@ -61,7 +61,7 @@ held_all rate r x apart due largest (size ∷ sizes) left small =
     let rest = held_all rate r x apart (due + apart) largest sizes (drop size left) (All-tail (λ size. size ≤ largest) size sizes small) in
     omega (arith, one, length-take size left, few, rest)
 
--- of those of a packet that is due some have been removed: all, or i of them, and the moment lies before the next one
+-- A packet that is due has lost some access units: all of them, or i of them and the moment lies before the next one.
 record Removed (rate r x apart due most held largest : ℕ) : Type 0 where
   i : ℕ
   within : i ≤ most
@@ -95,7 +95,7 @@ removed_some rate r x apart due (suc most) largest (size ∷ sizes) left few sma
       }
 ]
 
--- of a packet that is due the first has been removed, of whatever size
+-- The first access unit of a packet that is due has been removed, whatever its size.
 removed_due : (rate r x apart due most largest : ℕ) (sizes left : List ℕ) → due * rate * r ≤ x * 720000 → length sizes ≤ most →
     All (λ size. size ≤ largest) (drop 1 sizes) → Removed rate r x apart due most (access_units_held rate r x apart due sizes left) largest
 unfolding access_units_held kept
@@ -114,14 +114,14 @@ removed_due rate r x apart due (suc most) largest (size ∷ sizes) left gone few
       before = elim rest.before [ inl all ↦ inl (omega (arith, all)) | inr lt ↦ inr (rw t lt) ];
     }
 
--- ---- all packets
+-- ---- All packets
 
 mb_rest : (rate r x : ℕ) (u : PesPacket) (units : List PesPacket) (left : List ℕ) →
     mb_fullness rate r x units (drop u.size left) ≤ mb_fullness rate r x (u ∷ units) left
 unfolding mb_fullness kept
 mb_rest rate r x u units left = omega arith
 
--- where none of them is due yet, by stamps that are so much earlier, all that has entered is there
+-- If no packet is due yet by stamps that are `less` earlier, every byte that has entered is still there.
 none_due : (rate r x apart interval from less : ℕ) (packets : List FramedPacket) (left : List ℕ) → Spaced interval from (packets_of packets) →
     x * 720000 < (from - less) * rate * r → framed_fullness rate r x apart packets left ≤ mb_fullness rate r x (advanced less (packets_of packets)) left
 unfolding framed_fullness mb_fullness kept Spaced
@@ -136,7 +136,7 @@ none_due rate r x apart interval from less (p ∷ packets) left spaced lt =
     let rest = none_due rate r x apart interval (dts + interval) less packets (drop p.packet.size left) spaced.1 later in
     omega (arith, one, rest)
 
--- what bounds the bytes that wait while i access units of a packet have been removed
+-- Bounds on the bytes that wait while i access units of a packet have been removed
 record Waiting (rate r x interval main : ℕ) (f : Framing) (ahead : ℕ → ℕ) (packets : List FramedPacket) (left : List ℕ) : Type 0 where
   none : mb_fullness rate r x (advanced 0 (packets_of packets)) left ≤ main
   some : (i : ℕ) → 0 < i → i < f.frames → (f.frames - i) * f.frame_size + mb_fullness rate r x (advanced (ahead i) (packets_of packets)) left ≤ main
@@ -152,7 +152,7 @@ waiting_rest rate r x interval main f ahead p packets left w = record {
       omega (arith, rest, w.some i pos lt);
 }
 
--- i access units of the last packet that is due have been removed: before the next one is due it is not yet i intervals after
+-- Before access unit i of a due packet is removed, the next packet is due in more than `ahead`.
 still_before : (x dts next interval ahead i apart rate r : ℕ) → x * 720000 < (dts + i * apart) * rate * r → dts + interval ≤ next → i * apart ≤ interval →
     ahead ≤ interval - i * apart → x * 720000 < (next - ahead) * rate * r
 still_before x dts next interval ahead i apart rate r lt far short near =
@@ -162,12 +162,12 @@ still_before x dts next interval ahead i apart rate r lt far short near =
 few_apart : (i most apart interval : ℕ) → i < most → (most - 1) * apart ≤ interval → i * apart ≤ interval
 few_apart i most apart interval lt le = let few : i ≤ most - 1 = omega (arith, lt) in omega (arith, mul-le-mul_right apart few, le)
 
--- some have been removed where the packet is due
+-- If a packet is due and its access unit i is not, then i is not 0.
 pos_removed : (x dts i apart rate r : ℕ) → dts * rate * r ≤ x * 720000 → x * 720000 < (dts + i * apart) * rate * r → 0 < i
 pos_removed x dts zero apart rate r due lt = let e : dts + 0 * apart ≡ dts = omega arith in absurd (omega (arith, due, rw e at lt))
 pos_removed x dts (suc i) apart rate r due lt = omega arith
 
--- all have been removed where the next packet is due
+-- If the next packet is due, all access units of the packet have been removed.
 all_removed : (x dts next interval most i apart rate r : ℕ) → next * rate * r ≤ x * 720000 → dts + interval ≤ next → (most - 1) * apart ≤ interval → i ≤ most →
     (i ≡ most) ⊎ (x * 720000 < (dts + i * apart) * rate * r) → i ≡ most
 all_removed x dts next interval most i apart rate r due far short within (inl all) = all
@@ -181,7 +181,7 @@ all_removed x dts next interval most i apart rate r due far short within (inr lt
 none_left : (held most i largest : ℕ) → held ≤ (most - i) * largest → i ≡ most → held ≤ 0
 none_left held most i largest le e = let z : most - i ≡ 0 = omega (arith, e) in omega (arith, rw z at le)
 
--- a packet that is due, and the packets after it; where the next one is due too, these alone count
+-- The bytes of a due packet and of the packets after it; if the next packet is due too, only the packets after it have bytes.
 one_due : (rate r x interval main held : ℕ) (f : Framing) (ahead : ℕ → ℕ) → (f.frames - 1) * f.frame ≤ interval → ((i : ℕ) → ahead i ≤ interval - i * f.frame) →
     (p : FramedPacket) (packets : List FramedPacket) (left : List ℕ) → Spaced interval (p.packet.dts + interval) (packets_of packets) →
     Waiting rate r x interval main f ahead (p ∷ packets) left → p.packet.dts * rate * r ≤ x * 720000 →
@@ -241,7 +241,7 @@ fits_all rate r x interval main f ahead short near (p ∷ packets) from left kee
       (All-tail (KeepsFraming f) p packets keeps) spaced.1 (waiting_rest rate r x interval main f ahead p packets left w))
 ]
 
--- ---- one plan, and two in turn
+-- ---- One plan, and two plans in turn
 
 framed_fits : (own : ℕ → Bool) (rate : ℕ) (s : Declaration) (f : Framing) (packets : List FramedPacket) (n x : ℕ) (left : List ℕ) (most : ℕ → ℕ) →
     (f.frames - 1) * f.frame ≤ s.interval →

@@ -9,11 +9,11 @@ use Rattle.unit_timing.specs.PesPacket.{PesPacket, packets_of_unit, Spaced, Size
 use Rattle.unit_timing.specs.Allowances.{group_curve, size_curve, curve, Runs, Allows, KeepsAllowance, allowance_rows, packets_within, IsRising, AllowanceLaw}
 use Rattle.unit_timing.proofs.GroupLemmas.{filled, filled_few, filled_rises, filled_grouped, div_rises, sized_few}
 
--- unit number m after the first, counted from 0, is due at least m distances after it
+-- Unit number m after the first, counted from 0, is due at least m distances after the first.
 number_within : (first m apart due : ℕ) → 0 < apart → first + m * apart ≤ due → m ≤ (due - first) / apart
 number_within first m apart due pos le = le-div m (due - first) apart pos (omega (arith, le))
 
--- from a bound q m on m + 1 units in a row to one on the units that come in a time
+-- A bound q m on any m + 1 units in a row gives a bound on the units within a time.
 counted : (f : PesPacket → ℕ) (q : ℕ → ℕ) (apart first : ℕ) → 0 < apart → IsRising q → (units : List PesPacket) (m sent from : ℕ) → Spaced apart from units →
     first + m * apart ≤ from → ((k : ℕ) → sent + sum_by f (take (suc k) units) ≤ q (m + k)) → Runs f (λ time. q (time / apart)) first sent units
 unfolding Spaced Runs
@@ -30,7 +30,7 @@ counted f q apart first pos rises (unit ∷ units) m sent from spaced near few =
           rw e (omega (arith, few (suc k), sum_by-cons f unit (take (suc k) units)))),
     )
 
--- so from a unit on, the first of a stretch
+-- A stretch keeps the bound on the units within a time, from its first unit on.
 from_first : (f : PesPacket → ℕ) (q : ℕ → ℕ) (apart from : ℕ) (unit : PesPacket) (units : List PesPacket) → 0 < apart → IsRising q →
     Spaced apart from (unit ∷ units) →
     ((k : ℕ) → sum_by f (take (suc k) (unit ∷ units)) ≤ q k) → Runs f (λ time. q (time / apart)) unit.dts 0 (unit ∷ units)
@@ -65,7 +65,7 @@ sizes_allow largest apart from (unit ∷ units) pos spaced sized = (
   sizes_allow largest apart (unit.dts + apart) units pos spaced.1 sized.1,
 )
 
--- ---- both kinds as one
+-- ---- Both kinds of allowance
 
 kept_allows : (a : Allowance) (n apart from : ℕ) (units : List PesPacket) → 0 < allowance_rows a → 0 < apart → Spaced apart from units →
     KeepsAllowance a n units →
@@ -85,9 +85,9 @@ allowance_law = record {
   sizes_rise = λ largest apart pos early late le. sizes_rising largest (early / apart) (late / apart) (div_rises early late apart pos le);
 }
 
--- ---- what is allowed in less than a lead
+-- ---- The units that are due within a lead
 
--- the last unit that is due less than `lead` after another is one of the `units` from that one on
+-- If two units are due less than `lead` apart, fewer than `units` distances lie between them.
 unit_within : (apart lead units : ℕ) → 0 < apart → 0 < lead → lead ≤ units * apart → (lead - 1) / apart < units
 unit_within apart lead units pos some wide = (div-lt_iff_lt-mul pos).1 (omega (arith, some, wide))
 

@@ -30,8 +30,7 @@ cut_before e front size (s ∷ slots) all =
     (All-head (λ t. t < e) s slots all)
     (cut_before e (front - 184) (size - (184 - front)) slots (All-tail (λ t. t < e) s slots all))
 
--- the unit whose own slots b to b + p - 1 stand before slot e of the run is there whole, and has left by e's
--- begin and the peak
+-- If the own slots b to b + p - 1 of a unit lie before slot e of the run, the unit is there whole and has left by the beginning of e plus the peak.
 pub unit_there : (own : ℕ → Bool) (rate r room peak : ℕ) (W : ℕ → ℕ) (n e b p front size from prev : ℕ) → BoundsWork own rate r room peak W →
     b + p ≤ own_before own e → e ≤ n → front + size ≤ 184 * p → Rises own from (drop b (own_slots own 0 n)) → Level r W from prev →
     (length (pes_left rate r prev (cut front size (take p (drop b (own_slots own 0 n))))) ≡ size)
@@ -49,7 +48,7 @@ unit_there own rate r room peak W n e b p front size from prev bounds packets_in
           (cut_before e front size xs all),
     )
 
--- what is left of the departures after a unit is that of the later units
+-- The departures that are left after a unit are the departures of the later units.
 pub after_unit : (own : ℕ → Bool) (rate lead r n b p front size prev next : ℕ) (units : List PesPacket) → front + size ≤ 184 * p →
     drop size (pes_left rate r prev (cut front size (take p (drop b (own_slots own 0 n))))
     ++ pes_left rate r next (packets_in_slots own rate lead (b + p) units (own_slots own 0 n)))
@@ -67,7 +66,7 @@ after_unit own rate lead r n b p front size prev next units small =
       | inr whole ↦ drop_at left (pes_left rate r next (packets_in_slots own rate lead (b + p) units slots)) size (omega arith)
     ]
 
--- a slot that begins before the stamp of a unit that is due in a run lies in the run
+-- A slot that begins before the stamp of a unit that is due in a run lies in the run.
 slot_within : (slot late due rate r n : ℕ) → 0 < r → slot * 135360000 * r + late * 720000 ≤ due * rate * r → due * rate ≤ n * 135360000 → slot ≤ n
 slot_within slot late due rate r n pos early due_in = elim (cases_lt n slot) [
   | inl over ↦ absurd (omega (arith, early, mul-le-mul_right r due_in, mul-le-mul_right (135360000 * r) over, pos))
@@ -95,7 +94,7 @@ due_there own rate r room peak extra W n b p unit from prev bounds pos small her
           (λ d le. by_stamp d ends.slot r peak extra unit.dts rate le ends.early) left there.1),
     )
 
--- each unit that is due in a run of n slots has left whole `extra` before its stamp
+-- Each unit that is due in a run of n slots has left whole `extra` before its stamp.
 unfoldable pub AllLeftBefore : ℕ → ℕ → ℕ → ℕ → List PesPacket → List ℕ → Type 0
 AllLeftBefore extra rate r n [] left = Unit {0}
 AllLeftBefore extra rate r n (unit ∷ units) left =
@@ -129,7 +128,7 @@ arrived own rate lead r room peak extra W n pos bounds (unit ∷ units) free pre
           (level_packets own rate r room peak W from prev xs bounds (rises_take own from p (drop b slots) here) h)),
     )
 
--- where each unit ends so much in time, in a run of any length
+-- If each unit ends in time for the peak and `extra`, each due unit has left `extra` before its stamp, in a run of any length.
 pub arrived_before : (own : ℕ → Bool) (rate lead r room peak extra : ℕ) (W : ℕ → ℕ) (units : List PesPacket) (n : ℕ) → 0 < r →
     BoundsWork own rate r room peak W → InTime own rate lead r (peak + extra) 0 units →
     AllLeftBefore extra rate r n units (pes_left rate r 0 (packets_in_slots own rate lead 0 units (own_slots own 0 n)))

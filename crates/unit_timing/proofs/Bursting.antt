@@ -1,25 +1,25 @@
--- Units that keep a pace, and the levels that they make.
+-- Units that keep a pace, and the levels that they make
 use Rattle.std.proofs.Common.{◌≡◌, ◌⊎◌, ℕ, ◌+◌, ◌-◌, ◌*◌, ◌≤◌, max, List, [], ◌∷◌, refl, inl, inr, arith}
 use Rattle.std.proofs.lemmas.Bool.{cases_lt}
 use Rattle.unit_timing.specs.PesPacket.{PesPacket, packets_of_unit, Spaced}
 use Rattle.unit_timing.specs.Allowances.{pace_curve, Runs, Allows}
 use Rattle.unit_timing.specs.Levels.{next_level, level_after, greatest_after, BurstLaw}
 
--- a time in two parts, that to the unit before and that from it on
+-- The time since the first unit splits at the last unit.
 time_parts : (first last due : ℕ) → first ≤ last → last ≤ due → due - first ≡ (due - last) + (last - first)
 time_parts first last due le le' = omega (arith, le, le')
 
 no_time : (pace due : ℕ) → pace * (due - due) ≡ 0
 no_time pace due = let e : due - due ≡ 0 = omega arith in rw e (omega arith)
 
--- ---- from levels to what comes in any time
+-- ---- From levels to the packets within any time
 
--- a level that covers a run of `sent` packets covers it with a further unit of p packets too, `wait` later
+-- A level that covers a run of `sent` packets also covers the run with one more unit of p packets, `wait` later.
 covers_more : (pace level wait time sent p : ℕ) → sent * 135360000 ≤ level + pace * time →
     (sent + p) * 135360000 ≤ (level - pace * wait) + p * 135360000 + pace * (wait + time)
 covers_more pace level wait time sent p covered = omega (arith, covered)
 
--- and a burst that covers the level allows the run
+-- If the burst covers the level, the run is allowed.
 level_allows : (burst pace level time sent : ℕ) → level ≤ burst * 135360000 → sent * 135360000 ≤ level + pace * time → sent ≤ pace_curve burst pace time
 level_allows burst pace level time sent fits covered = omega (arith, fits, covered)
 
@@ -61,10 +61,10 @@ levels_allow burst pace apart (unit ∷ units) level last from spaced fits =
       levels_allow burst pace apart units now unit.dts (unit.dts + apart) spaced.1 rest,
     )
 
--- ---- and back
+-- ---- From allowed runs to levels
 
--- an empty bucket, or a run of `sent` packets from `first` on, as far as the unit that is due at `last`, that covers the
--- level: it is allowed, and so are those that go on from it
+-- Either the bucket is empty, or a run of `sent` packets, from the unit due at `first` to the unit due at `last`, covers the level; this run is allowed, and
+-- so are its continuations.
 record Root (burst pace level last : ℕ) (units : List PesPacket) : Type 0 where
   first : ℕ
   sent : ℕ
@@ -73,11 +73,11 @@ record Root (burst pace level last : ℕ) (units : List PesPacket) : Type 0 wher
   covers : level + pace * (last - first) ≤ sent * 135360000
   runs : Runs packets_of_unit (pace_curve burst pace) first sent units
 
--- where a run is allowed, the burst covers the level
+-- If a run is allowed, the burst covers the level.
 root_fits : (burst pace level time sent : ℕ) → sent ≤ pace_curve burst pace time → level + pace * time ≤ sent * 135360000 → level ≤ burst * 135360000
 root_fits burst pace level time sent few covers = omega (arith, few, covers)
 
--- a run covers the level after a further unit, where the pace has not taken all of it off
+-- A run still covers the level after one more unit, if the pace has not emptied the bucket.
 root_more : (pace level wait time sent p : ℕ) → pace * wait ≤ level → level + pace * time ≤ sent * 135360000 →
     (level - pace * wait) + p * 135360000 + pace * (wait + time) ≤ (sent + p) * 135360000
 root_more pace level wait time sent p left covers = omega (arith, left, covers)
@@ -95,7 +95,7 @@ old_root burst pace level last unit units later left root = record {
   runs = root.runs.1;
 }
 
--- a bucket that is empty when a unit comes holds that unit alone
+-- If the bucket is empty when a unit arrives, the bucket then holds this unit alone.
 alone : (pace level wait p due : ℕ) → level ≤ pace * wait → (level - pace * wait) + p * 135360000 + pace * (due - due) ≤ (0 + p) * 135360000
 alone pace level wait p due empty = rw (no_time pace due) (omega (arith, empty))
 
@@ -134,7 +134,7 @@ greatest_fits burst pace apart (unit ∷ units) level last from le spaced allows
     let rest = greatest_fits burst pace apart units (next_level pace level last unit) unit.dts (unit.dts + apart) next spaced.1 allows.1 (inr now) in
     omega (arith, here, rest)
 
--- ---- the last level is no greater than the greatest
+-- ---- The last level is at most the greatest level
 
 last_below : (pace : ℕ) (units : List PesPacket) (level last : ℕ) → level_after pace level last units ≤ max level (greatest_after pace level last units)
 unfolding level_after greatest_after

@@ -1,4 +1,4 @@
--- Times that are no later than others, byte by byte.
+-- Lists of times, compared byte by byte
 use Rattle.std.proofs.Common.{◌≡◌, ℕ, zero, suc, ◌+◌, ◌*◌, ◌≤◌, max, List, [], ◌∷◌, length, take, drop, refl, ap, sym, ◌∙◌, arith, All}
 use Rattle.std.proofs.Math.Nat.{le_trans}
 use Rattle.std.proofs.lemmas.List.Elements.{All-nil, All-cons, All-head, All-tail}
@@ -30,7 +30,7 @@ no_later-drop (suc k) [] (u ∷ us) le = absurd le
 no_later-drop (suc k) (t ∷ ts) [] le = absurd le
 no_later-drop (suc k) (t ∷ ts) (u ∷ us) le = no_later-drop k ts us le.1
 
--- what none of the later times passes none of the earlier ones does
+-- If no later time exceeds `limit`, no earlier time does.
 pub no_later-below : (limit : ℕ) (ts us : List ℕ) → NoLater ts us → All (λ u. u ≤ limit) us → All (λ t. t ≤ limit) ts
 unfolding NoLater
 no_later-below limit [] [] le all = All-nil (λ t. t ≤ limit)
@@ -39,7 +39,7 @@ no_later-below limit (t ∷ ts) [] le all = absurd le
 no_later-below limit (t ∷ ts) (u ∷ us) le all =
     All-cons (λ t. t ≤ limit) t ts (le_trans le.0 (All-head (λ u. u ≤ limit) u us all)) (no_later-below limit ts us le.1 (All-tail (λ u. u ≤ limit) u us all))
 
--- and what none of the earlier ones comes before none of the later ones does
+-- If no earlier time is below `low`, no later time is.
 no_later-above : (low : ℕ) (ts us : List ℕ) → NoLater ts us → All (λ t. low ≤ t) ts → All (λ u. low ≤ u) us
 unfolding NoLater
 no_later-above low [] [] le all = All-nil (λ u. low ≤ u)
@@ -48,13 +48,13 @@ no_later-above low (t ∷ ts) [] le all = absurd le
 no_later-above low (t ∷ ts) (u ∷ us) le all =
     All-cons (λ u. low ≤ u) u us (le_trans (All-head (λ t. low ≤ t) t ts all) le.0) (no_later-above low ts us le.1 (All-tail (λ t. low ≤ t) t ts all))
 
--- bytes leave a queue after they come to it
+-- Bytes leave a queue after they enter it.
 pub departures_later : (step prev : ℕ) (ts : List ℕ) → NoLater ts (departures step prev ts)
 unfolding NoLater departures
 departures_later step prev [] = tt
 departures_later step prev (t ∷ ts) = (omega arith, departures_later step (max t prev + step) ts)
 
--- later ones still leave none before its packet's slot begins
+-- If no byte leaves before its packet's slot begins, no byte does so at later times.
 pub leaves_later : (r : ℕ) (packets : List Packet) (left later : List ℕ) → NoLater left later → NoneLeavesEarly r packets left → NoneLeavesEarly r packets later
 unfolding NoneLeavesEarly
 leaves_later r [] left later le none = nothing later (rw none at le)

@@ -1,4 +1,4 @@
--- Units that are sent on end.
+-- Units that are sent without a gap
 use Rattle.std.proofs.Common.{◌≡◌, ℕ, ◌+◌, ◌-◌, ◌*◌, ◌/◌, ◌<◌, ◌≤◌, max, Bool, List, [], ◌∷◌, inl, inr, arith}
 use Rattle.std.proofs.Math.Nat.{mul-le-mul_right, le_of_mul-le-mul_left, mul-div-le, lt-mul-div-succ}
 use Rattle.std.proofs.lemmas.Bool.{cases_lt}
@@ -9,19 +9,19 @@ use Rattle.unit_timing.specs.Allowances.{Runs, Allows}
 use Rattle.unit_timing.specs.Schedule.{first_slot}
 use Rattle.unit_timing.specs.Deadline.{EndsInTime, InTime, FitsLead, StretchLaw, DeadlineLaw}
 
--- the window after the release of a stretch's first unit ends in time for a unit that is due `time` after it
+-- The window after the release of a stretch's first unit ends in time for a unit that is due `time` after the first unit.
 ends_early : (rel w wait rate r late lead time due : ℕ) → rel * 135360000 + 1 ≤ wait * rate + 135360000 →
     (w + 1) * 135360000 * r + late * 720000 ≤ (lead + time) * rate * r → lead + wait + time ≤ due →
     (rel + w) * 135360000 * r + late * 720000 ≤ due * rate * r
 ends_early rel w wait rate r late lead time due soon keeps near =
     omega (arith, mul-le-mul_right r soon, keeps, mul-le-mul_right (rate * r) near)
 
--- a release is less than a slot after its time
+-- A release is less than a slot after its time.
 released_soon : (rate lead due : ℕ) → release rate lead due * 135360000 + 1 ≤ (due - lead) * rate + 135360000
 released_soon rate lead due = omega arith
 
--- a stretch whose first unit is due at `first` and released at once, with `sent` packets so far, all before own slot
--- number `free`: its next unit, at once after it, ends in time
+-- A stretch begins with a unit that is due at `first` and released at once; its `sent` packets so far lie before own slot number `free`. Its next unit, sent
+-- directly after them, ends in time.
 next_ends : (own : ℕ → Bool) (allowed : ℕ → ℕ) (rate lead r late first sent free : ℕ) (unit : PesPacket) →
     FitsLead own allowed rate lead r late (unit.dts - first) → lead ≤ first → first ≤ unit.dts → free ≤ own_before own (release rate lead first) + sent →
     sent + packets_of_unit unit ≤ allowed (unit.dts - first) → EndsInTime own rate r late (free + packets_of_unit unit) unit.dts
@@ -32,7 +32,7 @@ next_ends own allowed rate lead r late first sent free unit k soon le taken few 
       (released_soon rate lead first) k.in_time (omega (arith, soon, le));
 }
 
--- a unit whose release comes after all that was sent begins a stretch
+-- A unit that is released after all earlier packets were sent begins a stretch.
 in_stretch : (own : ℕ → Bool) (allowed : ℕ → ℕ) (rate lead r late apart : ℕ) → ((time : ℕ) → FitsLead own allowed rate lead r late time) →
     (units : List PesPacket) (first sent free from : ℕ) → lead ≤ first → first ≤ from → free ≤ own_before own (release rate lead first) + sent →
     Runs packets_of_unit allowed first sent units → Spaced apart from units → Allows packets_of_unit allowed units → InTime own rate lead r late free units
@@ -65,7 +65,7 @@ in_stretch own allowed rate lead r late apart keeps (unit ∷ units) first sent 
           )
     ]
 
--- the run begins with a stretch
+-- The run begins with a stretch.
 pub stretch_law : StretchLaw
 unfolding Spaced Allows InTime
 stretch_law own allowed rate lead apart r late [] keeps spaced allows = tt
@@ -73,7 +73,7 @@ stretch_law own allowed rate lead apart r late (unit ∷ units) keeps spaced all
     let same : unit.dts ≤ unit.dts = omega arith in
     in_stretch own allowed rate lead r late apart keeps (unit ∷ units) unit.dts 0 0 unit.dts spaced.0 same (omega arith) allows.0 (same, spaced.1) allows
 
--- slots enough for `few` packets, of which the last is sent early enough
+-- If there are enough slots for `few` packets, the last packet is sent early enough.
 window_early : (share w base few cost r late rate due : ℕ) → 0 < share → share * w ≤ base + few * cost →
     (base + few * cost + share) * 135360000 * r + share * late * 720000 ≤ share * due * rate * r →
     (w + 1) * 135360000 * r + late * 720000 ≤ due * rate * r

@@ -1,4 +1,4 @@
--- Units with earlier stamps and a lead that is as much shorter: they are sent in the same slots.
+-- Units with earlier stamps and a lead that is shorter by the same time are sent in the same slots.
 use Rattle.std.proofs.Common.{◌≡◌, ℕ, ◌+◌, ◌-◌, ◌<◌, ◌≤◌, Bool, List, [], ◌∷◌, take, map, refl, ap, ◌∙◌, sym, arith}
 use Rattle.std.proofs.lemmas.List.{take-map}
 use Rattle.std.proofs.lemmas.List.Sums.{sum_by-cons}
@@ -10,7 +10,7 @@ use Rattle.unit_timing.specs.Schedule.{first_slot, packets_in_slots}
 use Rattle.unit_timing.specs.Plans.{Declaration, KeepsDeclaration}
 use Rattle.unit_timing.specs.Conditions.{IsProper}
 
--- the same packets with stamps that are so much earlier
+-- The same packets with stamps that are `less` earlier
 abbrev pub advanced : ℕ → List PesPacket → List PesPacket
 advanced less units = map (λ u. let v : PesPacket = record { dts = u.dts - less; size = u.size; front = u.front } in v) units
 
@@ -82,7 +82,7 @@ advanced_allowance : (a : Allowance) (n apart from less : ℕ) (units : List Pes
 advanced_allowance (Groups g most) n apart from less units le spaced keeps = advanced_groups g most n less units keeps
 advanced_allowance (Pace burst pace) n apart from less units le spaced keeps = advanced_allows (pace_curve burst pace) apart from less units le spaced keeps
 
--- the declaration with a shorter lead, and a main buffer of that size
+-- The declaration with a lead that is shorter by `less`, and a main buffer of `size` bytes
 abbrev pub shorter : Declaration → ℕ → ℕ → Declaration
 shorter s less size = record s { lead = s.lead - less; main = size }
 

@@ -17,19 +17,18 @@ use Rattle.unit_timing.specs.SystemBuffer.{system_tb_fullness, bsys_fullness}
 use Rattle.unit_timing.specs.Plans.{Declaration}
 use Rattle.unit_timing.specs.Conditions.{Share, rate_needed, rate_given}
 
--- the PAT in slot 2 and the PMT in slot 3 at 1,504,000 bits a second: at the last byte's arrival the transport buffer
--- holds 127 bytes
+-- The PAT in slot 2 and the PMT in slot 3 at 1,504,000 bits a second: when the last byte arrives, the transport buffer holds 127 bytes.
 system_transport : system_tb_fullness 1504000 1502000000 (2 ∷ 3 ∷ []) ≡ 127
 unfolding arrivals bytes_from departures fullness
 system_transport = refl
 
--- and when it enters the system buffer that holds 346
+-- When the last byte enters the system buffer, the system buffer holds 346 bytes.
 system_buffer : bsys_fullness 1504000 1883008000 (2 ∷ 3 ∷ []) ≡ 346
 unfolding arrivals bytes_from departures fullness
 system_buffer = refl
 
--- ---- a stream in every fourth slot at 1,504,000 bits a second (a slot lasts 90 units of 90 kHz), its buffer drained at 2,000,000: a unit of 576
--- bytes with one stamp, 1,600, has a unit of 590 bytes, in four packets
+-- ---- A stream in every fourth slot at 1,504,000 bits a second (a slot lasts 90 units of 90 kHz); its buffer is drained at 2,000,000. An access unit of 576
+-- bytes with one stamp, 1,600, makes a unit of 590 bytes, in four packets
 
 every_fourth : ℕ → Bool
 every_fourth s = nat_eq (s % 4) 0
@@ -45,7 +44,7 @@ first_run : run_of 1600 18 ≡ record { slot = 0; size = 184 } ∷ record { slot
 unfolding run_of every_fourth one_unit packets_in_slots first_slot cut own_before own_slots
 first_run = refl
 
--- with two bytes in front the first packet carries 182 of them, and a unit of 367 bytes has three packets where one of 366 has two
+-- With two bytes in front the first packet carries 182 bytes; a unit of 367 bytes has three packets, a unit of 366 bytes two.
 first_less : cut 2 367 (0 ∷ 4 ∷ 8 ∷ []) ≡ record { slot = 0; size = 182 } ∷ record { slot = 4; size = 184 } ∷ record { slot = 8; size = 1 } ∷ []
 unfolding cut
 first_less = refl
@@ -56,12 +55,12 @@ two_packets = refl
 three_packets : packets_of_unit (record { dts = 0; size = 367; front = 2 }) ≡ 3
 three_packets = refl
 
--- the transport buffer holds no more than the byte that arrives, as at the last one
+-- The transport buffer holds only the byte that arrives, for example the last.
 one_byte : fullness 4886000000 (arrivals 2000000 (0 ∷ 4 ∷ 8 ∷ 12 ∷ [])) (departures 1504000 0 (arrivals 2000000 (0 ∷ 4 ∷ 8 ∷ 12 ∷ []))) ≡ 1
 unfolding arrivals bytes_from departures fullness
 one_byte = refl
 
--- when the last byte leaves it, all 590 are in the main buffer
+-- When the last byte leaves the transport buffer, all 590 bytes are in the main buffer.
 last_byte : take 1 (drop 589 (pes_left 1504000 2000000 0 (run_of 1600 18))) ≡ 4887504000 ∷ []
 unfolding run_of every_fourth one_unit packets_in_slots first_slot cut own_before own_slots of_payloads arrivals bytes_from departures
 last_byte = refl
@@ -70,7 +69,7 @@ whole_unit : mb_fullness 1504000 2000000 4887504000 (one_unit 1600) (pes_left 15
 unfolding mb_fullness run_of every_fourth one_unit packets_in_slots first_slot cut own_before own_slots of_payloads arrivals bytes_from departures
 whole_unit = refl
 
--- it is in time; due at 1,080 it would be late, and in a run that ends before its stamp it is not due
+-- The unit is in time. With stamp 1,080 it would be late; in a run that ends before its stamp it is not due.
 in_time : first_late 1504000 2000000 18 0 (one_unit 1600) (pes_left 1504000 2000000 0 (run_of 1600 18)) ≡ None
 unfolding first_late run_of every_fourth one_unit packets_in_slots first_slot cut own_before own_slots of_payloads arrivals bytes_from departures
 in_time = refl
@@ -83,19 +82,19 @@ not_due : first_late 1504000 2000000 11 0 (one_unit 1080) (pes_left 1504000 2000
 unfolding first_late run_of every_fourth one_unit packets_in_slots first_slot cut own_before own_slots of_payloads arrivals bytes_from departures
 not_due = refl
 
--- ---- groups of two units with at most three packets, each with at most two: five in a row have at most eight
+-- ---- Groups of two units with at most three packets, each unit with at most two: five units in a row have at most eight packets
 
 five_units : grouped 2 3 2 5 ≡ 8
 five_units = refl
 
--- due 3,600 apart, they are due within 14,400; a little less is the time of four, which have six
+-- If units are due 3,600 apart, five units are due within 14,400; in a little less, four units, with six packets.
 five_in_time : group_curve 2 3 2 3600 14400 ≡ 8
 five_in_time = refl
 
 four_in_time : group_curve 2 3 2 3600 14399 ≡ 6
 four_in_time = refl
 
--- ---- a burst of four packets, and then 250 a second, 376,000 bits: in 3,600 units of 90 kHz ten, and not quite in 3,599
+-- ---- A burst of four packets, and then 250 packets a second, 376,000 bits: in 3,600 units of 90 kHz ten packets, in 3,599 fewer
 
 four_and_ten : pace_curve 4 376000 3600 ≡ 14
 four_and_ten = refl
@@ -103,8 +102,8 @@ four_and_ten = refl
 four_and_nine : pace_curve 4 376000 3599 ≡ 13
 four_and_nine = refl
 
--- a unit of four packets fills the bucket, of which a packet is 135,360,000; the pace empties it in 1,440, and after
--- 1,439 a second such unit is over by one 360th of a packet
+-- A unit of four packets fills the bucket (one packet is 135,360,000). The pace empties the bucket in 1,440; after 1,439 a second such unit exceeds it by
+-- 1/360 of a packet.
 one_full : greatest_level 376000 (one_unit 1600) ≡ 541440000
 unfolding one_unit greatest_after
 one_full = refl
@@ -117,7 +116,7 @@ too_full : level 376000 (one_unit 1600 ++ one_unit 3039) ≡ 541816000
 unfolding one_unit level_after
 too_full = refl
 
--- so the one unit after the other is refused at 3,039, and taken at 3,040
+-- So a second unit is refused at 3,039, and taken at 3,040.
 refused : is_over (Pace 4 376000) (one_unit 1600) (record { dts = 3039; size = 590; front = 0 }) ≡ true
 unfolding one_unit level_after last_due
 refused = refl
@@ -126,7 +125,7 @@ taken : is_over (Pace 4 376000) (one_unit 1600) (record { dts = 3040; size = 590
 unfolding one_unit level_after last_due
 taken = refl
 
--- thirty own slots of 120 at 1,504,000 bits a second carry no more than that pace; of the groups they carry more than six times as many
+-- Thirty own slots of 120 at 1,504,000 bits a second carry no more than this pace, but more than six times the packets of the groups.
 declared : Allowance → Declaration
 declared a = record { interval = 3600; lead = 3600; drain = 2000000; main = 4000; largest = 590; unit_packets = 4; allowance = a }
 

@@ -1,4 +1,4 @@
--- Bytes of PES packet headers that leave MB with the byte of payload after them.
+-- Bytes of PES packet headers leave MB with the payload byte after them.
 use Rattle.std.proofs.Common.{◌≡◌, ℕ, suc, ◌+◌, ◌<◌, ◌≤◌, max, Bool, true, false, cond, nat_lt, List, [], ◌∷◌, inl, inr, arith}
 use Rattle.std.proofs.lemmas.Bool.{cases_lt, le-ltb}
 use Rattle.std.proofs.lemmas.Bool.Decides.{nat_tests}
@@ -7,7 +7,7 @@ use Rattle.clock27.specs.Fullness.{is_in_buffer, fullness}
 use Rattle.unit_timing.specs.VideoBuffers.{NoLater}
 use Rattle.unit_timing.specs.PesHeaders.{of_payload, HeadersAtMost, entered_by, fullness_with_headers, HeadersLaw}
 
--- a byte that has not left by x is there where it has entered
+-- A byte that has not left by x is there if it has entered.
 still_there : (x t d : ℕ) → x < d → (let n : ℕ = cond (is_in_buffer x t d) 1 0 in n) ≡ entered_by x t
 still_there x t d lt = grind (arith, nat_tests)
 
@@ -15,7 +15,7 @@ at_most : (b : Bool) (n : ℕ) → cond b n 0 ≤ n
 at_most true n = omega arith
 at_most false n = omega arith
 
--- where the byte before has not left, nor has any of these
+-- If the byte before these bytes has not left, none of these bytes has.
 all_there : (x step last prev waiting : ℕ) (headers : List Bool) (ts : List ℕ) → x < last →
     fullness_with_headers x step prev waiting headers ts ≤ waiting + fullness x ts (departures step last ts)
 unfolding fullness_with_headers fullness departures
@@ -34,7 +34,7 @@ all_there x step last prev waiting (false ∷ headers) (t ∷ ts) lt =
       all_there x step (max t last + step) (max t prev + step) 0 headers ts later,
     )
 
--- `prev` is when the byte of payload before these left, `last` when the byte before these would have left as one of payload
+-- `prev` is when the payload byte before these bytes left, `last` when the byte before them would have left as a payload byte.
 one_header : (x step most prev last waiting before : ℕ) (headers : List Bool) (ts : List ℕ) → prev ≤ last → waiting ≤ before → before ≤ most →
     HeadersAtMost most before headers → fullness_with_headers x step prev waiting headers ts ≤ fullness x ts (departures step last ts) + most
 unfolding fullness_with_headers fullness departures HeadersAtMost

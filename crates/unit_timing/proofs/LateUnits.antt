@@ -1,4 +1,4 @@
--- Telling late units.
+-- No unit is found late exactly if each due unit has left in time.
 use Rattle.std.proofs.Common.{◌≡◌, ℕ, suc, ◌*◌, ◌≤◌, Bool, true, false, cond, nat_le, ◌&&◌, not, Option, Some, None, List, [], ◌∷◌, length, take, drop, refl}
 use Rattle.std.proofs.Common.{inl, inr, All}
 use Rattle.std.specs.List.{list_all}

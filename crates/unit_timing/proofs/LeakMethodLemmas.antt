@@ -1,4 +1,4 @@
--- The leak where the elementary stream buffer may be full, and why it never is.
+-- The leak if the elementary stream buffer may be full, and why the buffer never is
 use Rattle.std.proofs.Common.{◌≡◌, ℕ, zero, suc, ◌+◌, ◌<◌, ◌≤◌, max, cond, List, [], ◌∷◌, ◌++◌, length, take, drop, replicate, refl, ap, ◌∙◌, sym, inl, inr}
 use Rattle.std.proofs.Common.{arith, All}
 use Rattle.std.proofs.Math.Nat.{le_trans}
@@ -10,7 +10,7 @@ use Rattle.clock27.specs.Departure.{departures}
 use Rattle.clock27.specs.Fullness.{is_in_buffer, fullness}
 use Rattle.unit_timing.specs.LeakMethod.{transfers, latest, NeverFalls, TransfersLaw, NeverFullLaw}
 
--- ---- two queues
+-- ---- Two queues
 
 later_of : (step p q t room : ℕ) → max (max t room) (max p q) + step ≡ max (max t p + step) (max room q + step)
 later_of step p q t room = omega arith
@@ -22,9 +22,9 @@ transfers_law step p q (t ∷ ts) [] = refl
 transfers_law step p q (t ∷ ts) (room ∷ rooms) =
     rw (later_of step p q t room) (ap (λ l. max (max t p + step) (max room q + step) ∷ l) (transfers_law step (max t p + step) (max room q + step) ts rooms))
 
--- ---- EB never full
+-- ---- EB is never full
 
--- for each of these bytes there is room when it enters MB
+-- For each of these bytes there is room when the byte enters MB.
 unfoldable InRoom : List ℕ → List ℕ → Type 0
 InRoom rooms [] = Unit {0}
 InRoom [] (t ∷ ts) = ⊥
@@ -38,7 +38,7 @@ in_room step prev (room ∷ rooms) (t ∷ ts) has =
     let e : max (max t room) prev ≡ max t prev = omega (arith, has.0) in
     rw e (ap (λ l. (max t prev + step) ∷ l) (in_room step (max t prev + step) rooms ts has.1))
 
--- the first `size` have room from the start on
+-- The first `size` bytes have room from the start.
 from_start : (step prev size : ℕ) (removed ts : List ℕ) → InRoom removed (drop size ts) →
     transfers step prev ts (replicate size 0 ++ removed) ≡ departures step prev ts
 unfolding transfers departures
@@ -48,14 +48,14 @@ from_start step prev (suc size) removed (t ∷ ts) has =
     let e : max (max t 0) prev ≡ max t prev = omega arith in
     rw e (ap (λ l. (max t prev + step) ∷ l) (from_start step (max t prev + step) size removed ts has))
 
--- times that never fall are none before the first, and the first n of them none after the next
+-- If times never fall, none lies before the first, and the first n do not lie after the next.
 falls_all : (from low : ℕ) (ts : List ℕ) → low ≤ from → NeverFalls from ts → All (λ t. low ≤ t) ts
 unfolding NeverFalls
 falls_all from low [] le falls = All-nil (λ t. low ≤ t)
 falls_all from low (t ∷ ts) le falls =
     All-cons (λ t. low ≤ t) t ts (le_trans le falls.0) (falls_all t low ts (le_trans le falls.0) falls.1)
 
--- so many bytes are there at x as entered by x and are removed after it
+-- The bytes that have entered by x and are removed after x are there at x.
 held : (x n : ℕ) (ts removed : List ℕ) → n ≤ length ts → n ≤ length removed →
     All (λ t. t ≤ x) (take n ts) → All (λ d. x < d) removed → n ≤ fullness x ts removed
 unfolding fullness
@@ -71,7 +71,7 @@ held x (suc n) (t ∷ ts) (d ∷ removed) some some' come stay =
     is_held : (x t d : ℕ) → t ≤ x → x < d → (let n : ℕ = cond (is_in_buffer x t d) 1 0 in n) ≡ 1
     is_held x t d come stay = grind (arith, nat_tests)
 
--- the entry in place n, and those up to it
+-- The entry in place n, and the entries before it
 record Reached (n : ℕ) (ts : List ℕ) : Type 0 where
   time : ℕ
   rest : List ℕ
@@ -104,12 +104,12 @@ reach (suc n) from (t ∷ ts) falls lt =
     at_last n from [] r falls = absurd (omega (arith, r.enough))
     at_last n from (t ∷ ts) r falls = le_trans (unfold NeverFalls in falls.0) (All-head (λ u. u ≤ r.time) t (take n ts) r.before)
 
--- one byte more is at most one more
+-- One more byte never lowers the fullness.
 fullness_rest : (x t d : ℕ) (ts removed : List ℕ) → fullness x ts removed ≤ fullness x (t ∷ ts) (d ∷ removed)
 unfolding fullness
 fullness_rest x t d ts removed = omega arith
 
--- were the byte `size` before it still there when a byte enters, there would be more than `size` at that moment
+-- If the byte `size` places before a byte were still there when the byte enters, there would be more than `size` bytes at that moment.
 all_in_room : (size from low : ℕ) (ts removed : List ℕ) → NeverFalls from ts → NeverFalls low removed → length ts ≤ length removed →
     ((x : ℕ) → fullness x ts removed ≤ size) → InRoom removed (drop size ts)
 unfolding InRoom NeverFalls

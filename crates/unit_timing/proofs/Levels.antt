@@ -1,4 +1,4 @@
--- One unit more within what is declared.
+-- One more unit that keeps the declaration
 use Rattle.std.proofs.Common.{◌≡◌, ℕ, zero, suc, ◌+◌, ◌-◌, ◌*◌, ◌<◌, ◌≤◌, max, false, List, [], ◌∷◌, ◌++◌, refl, arith}
 use Rattle.std.proofs.lemmas.Bool.{ltb-false, le-ltb}
 use Rattle.unit_timing.specs.declared.allowance.Allowance.{Allowance}
@@ -9,7 +9,7 @@ use Rattle.unit_timing.specs.Levels.{next_level, level_after, last_due, greatest
 use Rattle.unit_timing.proofs.OneMoreUnit.{spaced_more_law, declared_more, declared_back}
 use Rattle.unit_timing.proofs.Bursting.{burst_law}
 
--- ---- the level goes on from its last value
+-- ---- The level continues from its last value
 
 level_more : (pace : ℕ) (units : List PesPacket) (unit : PesPacket) (level last : ℕ) →
     level_after pace level last (units ++ unit ∷ []) ≡ next_level pace (level_after pace level last units) (last_due last units) unit
@@ -35,7 +35,7 @@ unfolding next_due last_due
 last_known apart [] = omega arith
 last_known apart (unit ∷ units) = omega (arith, due_after apart units unit.dts)
 
--- ---- groups
+-- ---- Groups
 
 groups_more : (g most n : ℕ) (units : List PesPacket) (unit : PesPacket) → 0 < g → GroupsWithin g most n units → packets_of_unit unit ≤ n →
     last_packets (g - 1) units + packets_of_unit unit ≤ most → GroupsWithin g most n (units ++ unit ∷ [])
@@ -52,7 +52,7 @@ groups_back (suc m) most n units unit some keeps =
     let parts = declared_back m most n units unit keeps in
     (parts.0, rw e parts.2)
 
--- ---- paces
+-- ---- Paces
 
 pace_more : (burst pace apart from : ℕ) (units : List PesPacket) (unit : PesPacket) → Spaced apart from (units ++ unit ∷ []) →
     Allows packets_of_unit (pace_curve burst pace) units → next_level pace (level pace units) (last_due 0 units) unit ≤ burst * 135360000 →
@@ -70,7 +70,7 @@ pace_back burst pace apart from units unit spaced allows =
     let before : greatest_level pace units ≤ burst * 135360000 = omega (arith, parts, all) in
     (burst_law.more burst pace apart from units (spaced_more_law.back apart from units unit spaced).0 before, omega (arith, parts, all))
 
--- ---- both kinds as one
+-- ---- Both kinds of allowance
 
 more : (a : Allowance) (n apart from : ℕ) (units : List PesPacket) (unit : PesPacket) → 0 < allowance_rows a → Spaced apart from (units ++ unit ∷ []) →
     KeepsAllowance a n units → packets_of_unit unit ≤ n → is_over a units unit ≡ false → KeepsAllowance a n (units ++ unit ∷ [])

@@ -24,11 +24,9 @@ pub mod SlowLeaks
 pub mod LeakMethodLemmas
 pub mod ByteByByte
 pub mod VideoLemmas
-pub mod EmptyBufferLemmas
 pub mod StayLemmas
 pub mod VideoExamples
 pub mod HeaderLemmas
-pub mod EmptyPlanLemmas
 pub mod EarlierStamps
 pub mod AccessUnitLemmas
 pub mod AccessUnitExamples

@@ -1,4 +1,4 @@
--- The main buffer counted by slots: the packets whose bytes it holds stand within the lead of one another.
+-- The main buffer counted by slots: the packets with bytes in it lie within the lead of one another
 use Rattle.std.proofs.Common.{◌≡◌, ℕ, suc, ◌+◌, ◌-◌, ◌*◌, ◌<◌, ◌≤◌, min, Bool, true, false, cond, nat_le, nat_lt, ◌&&◌, List, [], ◌∷◌, ◌++◌, length, take, drop}
 use Rattle.std.proofs.Common.{map, refl, ap, ◌∙◌, sym, inl, inr, arith, All}
 use Rattle.std.proofs.Math.Nat.{mul-le-mul_right}
@@ -16,7 +16,7 @@ use Rattle.unit_timing.proofs.PacketsInSlots.{slots_of-cut, rises_from, rising_r
 use Rattle.unit_timing.proofs.MainBufferBytes.{kept, kept-append, kept_le, kept_after, kept_before, unit_slots}
 use Rattle.unit_timing.proofs.NotEarly.{unit_parts}
 
--- a packet and the stamp of its unit
+-- A packet and the stamp of its unit
 record Piece : Type 0 where
   slot : ℕ
   dts : ℕ
@@ -30,7 +30,7 @@ all_pieces own rate lead free (unit ∷ units) slots =
     pieces unit.dts (take (packets_of_unit unit) (drop (first_slot own rate lead free unit) slots))
     ++ all_pieces own rate lead (first_slot own rate lead free unit + packets_of_unit unit) units slots
 
--- it has begun by x, and x lies before the stamp
+-- A packet is live at x if it has begun by x, and x lies before its stamp.
 abbrev is_live : ℕ → ℕ → ℕ → Piece → Bool
 is_live rate r x p = nat_le (188 * p.slot * r) x && nat_lt (x * 720000) (p.dts * rate * r)
 
@@ -51,7 +51,7 @@ live_none : (rate r x : ℕ) (p : Piece) (ps : List Piece) → is_live rate r x 
 unfolding live
 live_none rate r x p ps not = rw not (omega arith)
 
--- only then it has bytes in the main buffer, 184 at most
+-- Only a live packet has bytes in the main buffer, at most 184.
 kept_packet : (rate r x due s : ℕ) (left : List ℕ) → length left ≤ 184 → All (λ d. 188 * s * r ≤ d) left →
     kept rate r x due left ≤ 184 * (let n : ℕ = cond (is_live rate r x (record { slot = s; dts = due })) 1 0 in n)
 kept_packet rate r x due s left few all =
@@ -102,7 +102,7 @@ main_pieces own rate lead r n x (unit ∷ units) free left late =
       main_pieces own rate lead r n x units (b + p) (drop unit.size left) parts.1,
     ))
 
--- the packets stand in rising own slots
+-- The slots of the packets
 abbrev slots_in : List Piece → List ℕ
 slots_in ps = map (λ (p : Piece). p.slot) ps
 
@@ -126,7 +126,7 @@ slots_in-all own rate lead free (unit ∷ units) slots =
       slots_in-all own rate lead (b + p) units slots,
     ) refl
 
--- none is early
+-- The packet is sent no earlier than the lead before its stamp.
 abbrev NotEarly : ℕ → ℕ → Piece → Type 0
 NotEarly rate lead p = p.dts * rate ≤ p.slot * 135360000 + lead * rate
 
@@ -149,7 +149,7 @@ none_early own rate lead n (unit ∷ units) free =
     (λ s le. not_early rate lead unit.dts s le) xs (unit_slots own rate lead free n unit)))
     (none_early own rate lead n units (b + packets_of_unit unit))
 
--- those that are live stand before a slot, and so are no more than the own slots up to it
+-- If the live packets lie before slot `limit`, they are no more than the own slots before `limit`.
 live_before : (own : ℕ → Bool) (rate r x limit : ℕ) → ((s : ℕ) → 188 * s * r ≤ x → s < limit) → (ps : List Piece) (from : ℕ) → from ≤ limit →
     Rises own from (slots_in ps) →
     live rate r x ps + own_before own from ≤ own_before own limit
@@ -169,7 +169,7 @@ live_before own rate r x limit before (p ∷ ps) from le rises =
           omega (arith, none, rest)
     ]
 
--- two packets that are live stand less than w slots apart
+-- Two live packets lie less than w slots apart.
 apart_slots : (s t r x due rate lead w : ℕ) → x * 720000 < due * rate * r → due * rate ≤ s * 135360000 + lead * rate → lead * rate ≤ w * 135360000 →
     188 * t * r ≤ x → t < s + w
 apart_slots s t r x due rate lead w before early wide begun = elim (cases_lt t (s + w)) [

@@ -1,4 +1,4 @@
--- The main buffer counted by units: those whose bytes it holds are due within the lead of one another.
+-- The main buffer counted by units: the units with bytes in it are due within the lead of one another
 use Rattle.std.proofs.Common.{◌≡◌, ℕ, suc, ◌+◌, ◌-◌, ◌*◌, ◌<◌, ◌≤◌, Bool, true, cond, nat_le, nat_lt, ◌&&◌, List, [], ◌∷◌, take, drop, inl, inr, arith}
 use Rattle.std.proofs.Math.Nat.{le_trans, mul-le-mul_left, mul-le-mul_right}
 use Rattle.std.proofs.lemmas.Bool.{cases_Bool, cases_lt, le-leb, leb-true, lt-ltb, ltb-true, and_parts, and_from}
@@ -13,11 +13,11 @@ use Rattle.unit_timing.specs.MainBuffer.{mb_fullness, ByCurve}
 use Rattle.unit_timing.proofs.MainBufferBytes.{kept, kept_le, kept_after, kept_before, unit_slots}
 use Rattle.unit_timing.proofs.NotEarly.{few_left, unit_later, unit_parts}
 
--- the unit may have been released before x, and x lies before its stamp
+-- A unit is live at x if it may have been released before x, and x lies before its stamp.
 abbrev is_live : ℕ → ℕ → ℕ → ℕ → PesPacket → Bool
 is_live rate lead r x unit = nat_le ((unit.dts - lead) * rate * r) (x * 720000) && nat_lt (x * 720000) (unit.dts * rate * r)
 
--- the sum of a number of each unit that is live
+-- The sum of f over the live units
 unfoldable live : (PesPacket → ℕ) → ℕ → ℕ → ℕ → ℕ → List PesPacket → ℕ
 live f rate lead r x [] = 0
 live f rate lead r x (unit ∷ units) = cond (is_live rate lead r x unit) (f unit) 0 + live f rate lead r x units
@@ -27,7 +27,7 @@ early_slot x rate lead r due s early le =
     let soon : (due - lead) * rate ≤ s * 135360000 = omega arith in
     omega (arith, early, mul-le-mul_right r soon)
 
--- only a live unit has bytes in the main buffer, `each` for each that it counts
+-- Only a live unit has bytes in the main buffer, at most `each` times f.
 kept_unit : (own : ℕ → Bool) (rate lead r x free n : ℕ) (unit : PesPacket) (each : ℕ) (f : PesPacket → ℕ) (left : List ℕ) → unit.size ≤ each * f unit →
     NoneLeavesEarly r (cut unit.front unit.size (take (packets_of_unit unit) (drop (first_slot own rate lead free unit) (own_slots own 0 n)))) left →
     kept rate r x unit.dts left ≤ each * cond (is_live rate lead r x unit) (f unit) 0
@@ -64,14 +64,14 @@ main_units own rate lead r n x each f few (unit ∷ units) free left late =
       main_units own rate lead r n x each f few units (b + p) (drop unit.size left) parts.1,
     )
 
--- a unit that is live with another is due less than `lead` after it
+-- Two live units are due less than `lead` apart.
 still_near : (rate lead r x first due : ℕ) → x * 720000 < first * rate * r → (due - lead) * rate * r ≤ x * 720000 → due - first ≤ lead - 1
 still_near rate lead r x first due before begun = elim (cases_lt (due - lead) first) [
   | inl lt ↦ omega (arith, lt)
   | inr far ↦ absurd (omega (arith, before, begun, mul-le-mul_right (rate * r) far))
 ]
 
--- the live units after a live one, `count` of what is sent since then being live before these
+-- The live units after a live unit; `sent` is the sum over all units since then, and `count` the sum over the live ones
 live_near : (f : PesPacket → ℕ) (allowed : ℕ → ℕ) (rate lead r x first : ℕ) → x * 720000 < first * rate * r → IsRising allowed →
     (units : List PesPacket) (count sent : ℕ) → count ≤ sent → count ≤ allowed (lead - 1) → Runs f allowed first sent units →
     count + live f rate lead r x units ≤ allowed (lead - 1)

@@ -1,4 +1,4 @@
--- The bytes of one unit, or of one packet, in the main buffer.
+-- The bytes of one unit, or of one packet, in the main buffer
 use Rattle.std.proofs.Common.{◌≡◌, ℕ, zero, suc, ◌+◌, ◌*◌, ◌<◌, ◌≤◌, Bool, false, cond, nat_le, List, [], ◌∷◌, ◌++◌, length, take, drop, refl, inl, inr, arith}
 use Rattle.std.proofs.Common.{All, count_by}
 use Rattle.std.proofs.Math.Nat.{le_trans}
@@ -16,7 +16,7 @@ use Rattle.unit_timing.specs.PesPacket.{PesPacket, packets_of_unit}
 use Rattle.unit_timing.specs.Schedule.{first_slot}
 use Rattle.unit_timing.specs.MainBuffer.{is_in_main_buffer}
 
--- how many of the bytes that leave at these times are in the main buffer at x, for one unit
+-- The number of bytes of one unit, with these departures, that are in the main buffer at x
 unfoldable pub kept : ℕ → ℕ → ℕ → ℕ → List ℕ → ℕ
 kept rate r x due ds = count_by (is_in_main_buffer rate r x due) ds
 
@@ -28,7 +28,7 @@ pub kept_le : (rate r x due : ℕ) (ds : List ℕ) → kept rate r x due ds ≤ 
 unfolding kept
 kept_le rate r x due ds = count_by-le-length (is_in_main_buffer rate r x due) ds
 
--- none after the stamp
+-- After its stamp a unit has no bytes in the main buffer.
 pub kept_after : (rate r x due : ℕ) (ds : List ℕ) → due * rate * r ≤ x * 720000 → kept rate r x due ds ≡ 0
 unfolding kept
 kept_after rate r x due [] h = refl
@@ -36,7 +36,7 @@ kept_after rate r x due (d ∷ ds) h =
     let out : is_in_main_buffer rate r x due d ≡ false = and_right _ _ (le-ltb (x * 720000) (due * rate * r) h) in
     rw (sum_by-cons (λ d. cond (is_in_main_buffer rate r x due d) 1 0) d ds, out) (omega (arith, kept_after rate r x due ds h))
 
--- none before it has left the transport buffer
+-- Before its bytes have left the transport buffer, a unit has no bytes in the main buffer.
 pub kept_before : (rate r x due : ℕ) (ds : List ℕ) → All (λ d. x < d) ds → kept rate r x due ds ≡ 0
 unfolding kept
 kept_before rate r x due [] h = refl
@@ -44,13 +44,13 @@ kept_before rate r x due (d ∷ ds) h =
     let out : nat_le d x ≡ false = lt-leb d x (All-head (λ d. x < d) d ds h) in
     rw (sum_by-cons (λ d. cond (is_in_main_buffer rate r x due d) 1 0) d ds, out) (omega (arith, kept_before rate r x due ds (All-tail (λ d. x < d) d ds h)))
 
--- the bytes of a packet leave after it has begun
+-- The bytes of a packet leave after the packet has begun.
 pub packet_later : (rate r prev s low : ℕ) → low ≤ 188 * s * r → All (λ d. low + rate ≤ d) (departures rate prev (bytes_from r (188 * s) 188))
 packet_later rate r prev s low le =
     earliest rate prev low (bytes_from r (188 * s) 188)
     (All-weaker (λ t. 188 * s * r ≤ t) (λ t. low ≤ t) (λ t h. le_trans le h) (bytes_from r (188 * s) 188) (row r (188 * s) 188))
 
--- no own slot from number b on stands before a slot before which at most b stand
+-- If at most b own slots lie before slot e, the own slots from number b on lie at or after e.
 pub later_slots : (own : ℕ → Bool) (e s n b : ℕ) → own_before own e ≤ b + own_before own s → All (λ t. e ≤ t) (drop b (own_slots own s n))
 unfolding own_slots
 later_slots own e s zero b h = rw (drop_all {X = ℕ} b [] (omega arith)) (All-nil (λ t. e ≤ t))
@@ -69,7 +69,7 @@ pub released : (own : ℕ → Bool) (rate lead free : ℕ) (unit : PesPacket) �
 unfolding first_slot
 released own rate lead free unit = omega arith
 
--- so a unit's packets stand in slots from its release on
+-- A unit's packets lie in slots from its release on.
 pub unit_slots : (own : ℕ → Bool) (rate lead free n : ℕ) (unit : PesPacket) →
     All (λ s. release rate lead unit.dts ≤ s) (take (packets_of_unit unit) (drop (first_slot own rate lead free unit) (own_slots own 0 n)))
 unfolding own_before

@@ -1,4 +1,4 @@
--- The greatest fullness of the main buffer is found when a byte enters it.
+-- The main buffer is fullest when a byte enters it.
 use Rattle.std.proofs.Common.{◌≡◌, ℕ, ◌<◌, ◌≤◌, ◌⊎◌, cond, List, [], ◌∷◌, take, drop, refl, inl, inr, arith, All}
 use Rattle.std.proofs.Math.Nat.{le_trans}
 use Rattle.std.proofs.lemmas.Bool.{cases_lt}
@@ -10,11 +10,11 @@ use Rattle.unit_timing.specs.PesPacket.{PesPacket}
 use Rattle.unit_timing.specs.MainBuffer.{is_in_main_buffer, mb_fullness, MainPeakLaw}
 use Rattle.unit_timing.proofs.MainBufferBytes.{kept, kept_before}
 
--- y is no later than x, and no byte that has entered by x enters after y
+-- Every byte that has entered by x has entered by y.
 abbrev Covers : ℕ → ℕ → List ℕ → Type 0
 Covers x y ds = All (λ d. d ≤ x → d ≤ y) ds
 
--- what is there at x is there at y
+-- If y is no later than x and the byte has entered by y, the byte is there at y if it is there at x.
 one_covered : (rate r x y due d : ℕ) → y ≤ x → (d ≤ x → d ≤ y) →
     (let n : ℕ = cond (is_in_main_buffer rate r x due d) 1 0 in n) ≤ (let n : ℕ = cond (is_in_main_buffer rate r y due d) 1 0 in n)
 one_covered rate r x y due d le covers = elim (cases_lt x d) [
@@ -42,7 +42,7 @@ fullness_covered rate r x y (unit ∷ units) left le covers =
     let rest = fullness_covered rate r x y units (drop unit.size left) le (All-drop (λ d. d ≤ x → d ≤ y) unit.size left covers) in
     omega (arith, first, rest)
 
--- before the first byte enters it, it is empty
+-- The main buffer is empty before the first byte enters it.
 fullness_none : (rate r x : ℕ) (units : List PesPacket) (left : List ℕ) → All (λ d. x < d) left → mb_fullness rate r x units left ≡ 0
 unfolding mb_fullness kept
 fullness_none rate r x [] left all = refl
@@ -51,7 +51,7 @@ fullness_none rate r x (unit ∷ units) left all =
     let rest = fullness_none rate r x units (drop unit.size left) (All-drop (λ d. x < d) unit.size left all) in
     omega (arith, first, rest)
 
--- the last entry up to x
+-- The last entry up to x
 record Entry (x : ℕ) (ds : List ℕ) : Type 0 where
   at : ℕ
   within : at ≤ x
@@ -98,7 +98,7 @@ entry : (x : ℕ) (ds : List ℕ) → All (λ d. x < d) ds ⊎ Entry x ds
 entry x [] = inl (All-nil (λ d. x < d))
 entry x (d ∷ ds) = entry_more x d ds (entry x ds)
 
--- the greatest at a list of times is that at one of them, unless the list is empty
+-- The greatest value over a list of times is the value at a time of the list, unless the list is empty.
 record Greatest (f : ℕ → ℕ) (most : ℕ) : Type 0 where
   at : ℕ
   is : f at ≡ most

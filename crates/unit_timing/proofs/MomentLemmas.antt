@@ -1,4 +1,4 @@
--- What buffers hold at moments that are not whole.
+-- What buffers hold at moments that are not whole numbers
 use Rattle.std.proofs.Common.{◌≡◌, ℕ, Bool, true, false, nat_le, nat_lt, ◌&&◌, ◌+◌, ◌-◌, ◌*◌, ◌/◌, ◌<◌, ◌≤◌, cond, List, [], ◌∷◌, ◌++◌, map, take, drop, refl}
 use Rattle.std.proofs.Common.{ap, ap₂, sym, subst, ◌∙◌, inl, inr, arith}
 use Rattle.std.proofs.Math.Nat.{le_trans, mul-le-mul_left, mul-div-le, lt-mul-div-succ}
@@ -19,7 +19,7 @@ use Rattle.unit_timing.specs.FinerMoments.{SystemTransportMoments, SystemBufferM
 use Rattle.unit_timing.specs.FinerMoments.{system_tb_left_at, bsys_left_at}
 use Rattle.unit_timing.proofs.MainBufferBytes.{kept}
 
--- ---- queues
+-- ---- Queues
 
 abbrev scaled : ℕ → List ℕ → List ℕ
 scaled k ts = map (λ t. k * t) ts
@@ -55,7 +55,7 @@ system_buffer_moments k rate x slots pos =
     at_moment x k (system_tb_left_at k rate slots) (bsys_left_at k rate slots) (system_tb_left rate slots) (bsys_left rate slots) (system_left k rate slots)
     (ap (departures (k * (25 * rate)) 0) (system_left k rate slots) ∙ leave k (25 * rate) (system_tb_left rate slots)) pos
 
--- ---- payloads
+-- ---- Payloads
 
 payloads_scaled : (k : ℕ) (packets : List Packet) (ds : List ℕ) → of_payloads packets (scaled k ds) ≡ scaled k (of_payloads packets ds)
 unfolding of_payloads
@@ -78,7 +78,7 @@ multiplexing_moments k rate rx rbx x packets pos =
     (multiplexing_entered rate rx rbx packets) (multiplexing_left rate rx rbx packets) entered
     (ap (departures (k * (rx * rate)) 0) entered ∙ leave k (rx * rate) (multiplexing_entered rate rx rbx packets)) pos
 
--- ---- the main buffer
+-- ---- The main buffer
 
 abbrev one : Bool → ℕ
 one b = cond b 1 0
@@ -91,11 +91,11 @@ one_most : (a b : Bool) → b ≡ true → one a ≤ one b
 one_most true b e = rw e (omega arith)
 one_most false b e = rw e (omega arith)
 
--- a stamp that lies at or before the last whole moment lies at or before one of the finer scale
+-- A stamp at or before the last whole moment lies at or before the moment of the finer scale.
 stamp_before : (k whole x stamp : ℕ) → k * whole ≤ x → stamp ≤ whole * 720000 → k * stamp ≤ x * 720000
 stamp_before k whole x stamp le over = omega (arith, le, mul-le-mul_left k over)
 
--- a byte that is there at a moment of the finer scale is there at the last whole one
+-- A byte that is there at a moment of the finer scale is there at the last whole moment.
 one_byte : (k rate r x due d : ℕ) → 0 < k → one (is_in_main_buffer (k * rate) r x due (k * d)) ≤ one (is_in_main_buffer rate r (x / k) due d)
 one_byte k rate r x due d pos = elim (cases_lt (x / k) d) [
   | inl later ↦
@@ -140,7 +140,7 @@ main_moments k rate r x (unit ∷ units) left pos =
     let rest = main_moments k rate r x units (drop unit.size left) pos in
     rw (take-map (λ d. k * d) unit.size left, drop-map (λ d. k * d) unit.size left) (omega (arith, first, rest))
 
--- at a whole moment
+-- At a whole moment both scales agree on a byte.
 
 same_byte : (k rate r x due d : ℕ) → 0 < k → is_in_main_buffer (k * rate) r (k * x) due (k * d) ≡ is_in_main_buffer rate r x due d
 same_byte k rate r x due d pos = ap₂ (λ (a b : Bool). a && b) entered waits

@@ -1,4 +1,4 @@
--- The multiplexing buffer, where the elementary stream buffer never is full.
+-- The multiplexing buffer, if the elementary stream buffer is never full
 use Rattle.std.proofs.Common.{◌≡◌, ℕ, zero, suc, ◌+◌, ◌-◌, ◌*◌, ◌≤◌, List, [], ◌∷◌, take, drop, map, refl, ap, ◌∙◌, subst, arith, All}
 use Rattle.std.proofs.Math.Nat.{le_trans, mul-le-mul_left, mul-le-mul_right, mul-pos}
 use Rattle.std.proofs.lemmas.List.{length-map, drop-map}
@@ -20,7 +20,7 @@ use Rattle.unit_timing.proofs.ArrivalLemmas.{AllLeftBefore, arrived_before}
 use Rattle.unit_timing.proofs.ByteByByte.{no_later-length, no_later-drop, no_later-below}
 use Rattle.unit_timing.proofs.Thinning.{payloads_map, payload_departures, payload_fullness, payload_stays}
 
--- ---- room
+-- ---- Room
 
 pub multiplexing_law : MultiplexingLaw
 multiplexing_law own rate rx rbx room peak W packets x pos some slower bounds rises =
@@ -35,9 +35,9 @@ fast_leak_law rate rx rbx packets x pos some faster =
     room_law x (rx * rate) 1 (multiplexing_entered rate rx rbx packets) (mul-pos some pos)
     (payload_stays (rbx * rate) (rx * rate) packets (arrivals (rx * rbx) (slots_of packets)) (mul-le-mul_right rate faster))
 
--- ---- times
+-- ---- Times
 
--- in the second of two queues, and were it the only one
+-- A byte leaves the slower second queue one byte's time of the first queue after it would leave the slower queue alone.
 in_tandem : (rate rx rbx : ℕ) (packets : List Packet) → rbx ≤ rx →
     of_payloads packets (departures (rx * rate) 0 (departures (rbx * rate) 0 (arrivals (rx * rbx) (slots_of packets))))
     ≡ map (λ d. rx * d + rbx * rate) (pes_left rate rbx 0 packets)
@@ -66,9 +66,9 @@ leaked_law own rate rx rbx room peak W packets e slower bounds rises before =
     (All-weaker (λ d. d ≤ 188 * rbx * e + peak) (λ d. rx * d + rbx * rate ≤ limit) (λ d le. omega (arith, mul-le-mul_left rx le)) (pes_left rate rbx 0 packets)
     (left_law own rate rbx room peak W packets e bounds rises before)))
 
--- ---- deadlines
+-- ---- Deadlines
 
--- what leaves TB drained at Rbx the time of a byte before the stamp is in EB by the stamp
+-- If TB is drained at Rbx and a byte leaves it one byte's time before the stamp, the byte is in EB by the stamp.
 by_stamp : (t d rx rbx rate due : ℕ) → rbx ≤ rx → t ≤ rx * d + rbx * rate → (d + rate) * 720000 ≤ due * rate * rbx → t * 720000 ≤ due * rate * (rx * rbx)
 by_stamp t d rx rbx rate due slower le early = omega (arith, le, mul-le-mul_right (720000 * rate) slower, mul-le-mul_left rx early)
 

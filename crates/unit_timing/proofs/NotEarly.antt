@@ -1,4 +1,4 @@
--- Departures of payload bytes of which none comes before its packet's slot begins.
+-- Departures of payload bytes, none before its packet's slot begins
 use Rattle.std.proofs.Common.{◌≡◌, ℕ, ◌+◌, ◌-◌, ◌*◌, ◌≤◌, min, Bool, List, [], ◌∷◌, ◌++◌, length, take, drop, refl, ◌∙◌, sym, subst, ap, inl, inr, arith, All}
 use Rattle.std.proofs.Math.Nat.{le_trans}
 use Rattle.std.proofs.lemmas.Bool.{cases_lt}
@@ -16,7 +16,7 @@ use Rattle.unit_timing.proofs.TransportBuffer.{pes_left-cons, length-bytes_from}
 use Rattle.unit_timing.proofs.PacketsInSlots.{sent_nothing}
 use Rattle.unit_timing.proofs.MainBufferBytes.{packet_later}
 
--- ---- which departures are such
+-- ---- Which departures are not early
 
 model : (rate r prev : ℕ) (packets : List Packet) → All (λ p. p.size ≤ 188) packets → NoneLeavesEarly r packets (pes_left rate r prev packets)
 unfolding NoneLeavesEarly
@@ -48,7 +48,7 @@ joined r (p ∷ packets) packets' left left' late late' =
 pub none_leaves_early_law : NoneLeavesEarlyLaw
 none_leaves_early_law = record { model = model; joined = joined }
 
--- the packets of a run carry no more than they can
+-- No packet of a unit carries more than 188 bytes.
 small_cut : (front size : ℕ) (slots : List ℕ) → All (λ p. p.size ≤ 188) (cut front size slots)
 unfolding cut
 small_cut front size [] = All-nil (λ (p : Packet). p.size ≤ 188)
@@ -67,16 +67,16 @@ small_packets own rate lead free (unit ∷ units) slots =
     (small_cut unit.front unit.size xs)
     (small_packets own rate lead (b + packets_of_unit unit) units slots)
 
--- so those of the model are such in a run
+-- In a run, no departure of the model is early.
 pub run_left : (own : ℕ → Bool) (rate lead r n : ℕ) (units : List PesPacket) →
     NoneLeavesEarly r (packets_in_slots own rate lead 0 units (own_slots own 0 n))
     (pes_left rate r 0 (packets_in_slots own rate lead 0 units (own_slots own 0 n)))
 run_left own rate lead r n units =
     model rate r 0 (packets_in_slots own rate lead 0 units (own_slots own 0 n)) (small_packets own rate lead 0 units (own_slots own 0 n))
 
--- ---- those of one unit
+-- ---- The departures of one unit
 
--- they are no more than its bytes
+-- A unit has no more departures than bytes.
 pub few_left : (r front size : ℕ) (slots left : List ℕ) → NoneLeavesEarly r (cut front size slots) left → length left ≤ size
 unfolding cut NoneLeavesEarly
 few_left r front size [] left none = rw none (omega arith)
@@ -84,7 +84,7 @@ few_left r front size (s ∷ slots) left late =
     let rest = few_left r (front - 184) (size - (184 - front)) slots (drop (min (184 - front) size) left) late.2 in
     omega (arith, rest, length-drop (min (184 - front) size) left, length-take (min (184 - front) size) left, late.0)
 
--- and come after its first slot has begun
+-- A unit's bytes leave after its first slot has begun.
 pub unit_later : (r front size low : ℕ) (slots left : List ℕ) → NoneLeavesEarly r (cut front size slots) left → All (λ s. low ≤ 188 * s * r) slots →
     All (λ d. low ≤ d) left
 unfolding cut NoneLeavesEarly
@@ -96,7 +96,7 @@ unit_later r front size low (s ∷ slots) left late all =
     let rest = unit_later r (front - 184) (size - (184 - front)) low slots (drop k left) late.2 (All-tail (λ s. low ≤ 188 * s * r) s slots all) in
     rw (take-append-drop k left) at (All-append (λ d. low ≤ d) (take k left) (drop k left) one rest)
 
--- ---- and those of the later units
+-- ---- The departures of the later units
 
 unfoldable bytes_of : List Packet → ℕ
 bytes_of [] = 0

@@ -1,4 +1,4 @@
--- One unit more.
+-- One more unit at the end
 use Rattle.std.proofs.Common.{◌≡◌, ℕ, suc, ◌+◌, ◌-◌, ◌<◌, ◌≤◌, List, [], ◌∷◌, ◌++◌, length, take, refl, inl, inr, arith, add-one}
 use Rattle.std.proofs.lemmas.Bool.{cases_lt}
 use Rattle.std.proofs.lemmas.List.{take_all, take-append-le, length-append}
@@ -36,7 +36,7 @@ sized_back largest (first ∷ units) unit sized = let rest = sized_back largest 
 pub sized_more_law : SizedMoreLaw
 sized_more_law = record { more = sized_more; back = sized_back }
 
--- the first m + 1 units with a further one after them all: they are those from before, or all and the further one
+-- The first m + 1 units when one more unit is appended: the same as before, or all units and the appended unit
 full_group : (m : ℕ) (units : List PesPacket) (unit : PesPacket) → m < length units →
     packets_of_units (take (suc m) (units ++ unit ∷ [])) ≡ packets_of_units (take (suc m) units)
 full_group m units unit lt = let le : suc m ≤ length units = omega arith in rw (take-append-le (suc m) units (unit ∷ [])) refl
@@ -48,7 +48,7 @@ open_group m units unit le =
     let none : length units - m ≡ 0 = omega arith in
     rw (take_all (suc m) (units ++ unit ∷ []) short, none, sum_by-append packets_of_unit units (unit ∷ []), sum_by-cons packets_of_unit unit []) (omega arith)
 
--- the last m units are the same without the first, where there are more
+-- The last m units stay the same without the first unit, if at least m units follow it.
 last_rest : (m : ℕ) (first : PesPacket) (units : List PesPacket) → m ≤ length units → last_packets m (first ∷ units) ≡ last_packets m units
 last_rest m first units le = let e : suc (length units) - m ≡ suc (length units - m) = omega arith in rw e refl
 

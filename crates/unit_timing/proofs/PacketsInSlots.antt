@@ -1,4 +1,4 @@
--- The packets of units in a stream's own slots.
+-- The packets of units in a stream's own slots
 use Rattle.std.proofs.Common.{◌≡◌, ℕ, zero, suc, ◌+◌, ◌-◌, ◌*◌, ◌<◌, ◌≤◌, min, Bool, List, [], ◌∷◌, ◌++◌, length, take, drop, refl, ap, ◌∙◌, inl, inr, arith}
 use Rattle.std.proofs.Common.{All}
 use Rattle.std.proofs.Math.Nat.{le_trans}
@@ -39,7 +39,7 @@ pes_left-append rate r prev (p ∷ ps) qs =
           (pes_left rate r (last_left rate next (arrivals r (slots_of ps))) qs),
     ) refl
 
--- all that these slots can carry of the unit leaves
+-- Every byte of the unit that these slots can carry leaves.
 pub length-left-cut : (rate r front size prev : ℕ) (slots : List ℕ) →
     length (pes_left rate r prev (cut front size slots)) ≡ min size (184 * length slots - front)
 unfolding cut
@@ -57,7 +57,7 @@ length-left-cut rate r front size prev (s ∷ slots) =
       rest,
     ) (omega arith)
 
--- rising lists
+-- Lists of rising own slots
 pub rises_from : (own : ℕ → Bool) (low from : ℕ) (slots : List ℕ) → low ≤ from → Rises own from slots → Rises own low slots
 unfolding Rises
 rises_from own low from [] le rises = tt
@@ -75,7 +75,7 @@ rises_take own from zero slots rises = tt
 rises_take own from (suc k) [] rises = rises
 rises_take own from (suc k) (s ∷ slots) rises = (rises.0, rises.1, rises_take own (suc s) k slots rises.2)
 
--- the slot after the last of these, `from` if there are none
+-- The slot after the last of these slots; `from` if there are none
 unfoldable pub slot_after : ℕ → List ℕ → ℕ
 slot_after from [] = from
 slot_after from (s ∷ slots) = slot_after (suc s) slots
@@ -85,7 +85,7 @@ unfolding Rises slot_after
 rises_after own from [] ys rises = rises
 rises_after own from (s ∷ xs) ys rises = rises_after own (suc s) xs ys rises.2
 
--- the last byte of these packets lies within the work bound after them
+-- The last byte of these packets leaves within the work bound after them.
 pub level_packets : (own : ℕ → Bool) (rate r room peak : ℕ) (W : ℕ → ℕ) (from prev : ℕ) (slots : List ℕ) → BoundsWork own rate r room peak W →
     Rises own from slots →
     Level r W from prev → Level r W (slot_after from slots) (last_left rate prev (arrivals r slots))
@@ -97,7 +97,7 @@ level_packets own rate r room peak W from prev (s ∷ slots) b rises h =
     (level_packets own rate r room peak W (suc s) (last_left rate prev (bytes_from r (188 * s) 188)) slots b rises.2
     (level_packet own rate r room peak W s prev b rises.1 here))
 
--- the own slots of a run
+-- The number of own slots of a run
 pub length-own_slots : (own : ℕ → Bool) (s n : ℕ) → length (own_slots own s n) + own_before own s ≡ own_before own (s + n)
 unfolding own_slots
 length-own_slots own s zero = let e : s + 0 ≡ s = omega arith in rw e (omega arith)
@@ -109,7 +109,7 @@ length-own_slots own s (suc n) =
       | inr o ↦ rw (o, e) (omega (arith, rest, own_before_other own s o))
     ]
 
--- the first m of them stand before a slot before which m stand
+-- If m own slots lie before slot e, the first m own slots do.
 pub first_before : (own : ℕ → Bool) (e s n m : ℕ) → m + own_before own s ≤ own_before own e → All (λ t. t < e) (take m (own_slots own s n))
 unfolding own_slots
 first_before own e s zero m h = rw (take_all {A = ℕ} m [] (omega arith)) (All-nil (λ t. t < e))
@@ -120,7 +120,7 @@ first_before own e s (suc n) (suc m) h = elim (cases_Bool (own s)) [
   | inr o ↦ rw o (first_before own e (suc s) n (suc m) (omega (arith, own_before_other own s o)))
 ]
 
--- nothing is sent where all own slots are taken
+-- If all own slots are taken, nothing is sent.
 pub sent_nothing : (own : ℕ → Bool) (rate lead free : ℕ) (units : List PesPacket) (slots : List ℕ) → length slots ≤ free →
     packets_in_slots own rate lead free units slots ≡ []
 unfolding packets_in_slots cut
@@ -139,7 +139,7 @@ unfolding Rises slot_after
 rises_join own from [] ys first rest = rest
 rises_join own from (s ∷ xs) ys first rest = (first.0, first.1, rises_join own (suc s) xs ys first.2 rest)
 
--- after what is skipped the own slots still rise
+-- The own slots still rise after the skipped slots.
 pub rises_begin : (own : ℕ → Bool) (rate lead free from : ℕ) (unit : PesPacket) (slots : List ℕ) → Rises own from (drop free slots) →
     Rises own from (drop (first_slot own rate lead free unit) slots)
 rises_begin own rate lead free from unit slots rises =
@@ -147,7 +147,7 @@ rises_begin own rate lead free from unit slots rises =
     let to : free + (first_slot own rate lead free unit - free) ≡ first_slot own rate lead free unit = omega (arith, free_le own rate lead free unit) in
     rw (drop-drop (b - free) free slots, to) at (rises_drop own from (b - free) (drop free slots) rises)
 
--- and so they do after p packets
+-- The own slots still rise after p packets.
 pub rises_following : (own : ℕ → Bool) (from b p : ℕ) (slots : List ℕ) → Rises own from (drop b slots) →
     Rises own (slot_after from (take p (drop b slots))) (drop (b + p) slots)
 rises_following own from b p slots rises =
@@ -170,7 +170,7 @@ rising_sent own rate lead slots (unit ∷ units) free from rises =
     (rises_join own from xs (slots_of (packets_in_slots own rate lead (b + p) units slots)) (rises_take own from p (drop b slots) here)
     (rising_sent own rate lead slots units (b + p) (slot_after from xs) (rises_following own from b p slots here)))
 
--- the packets of a run stand in rising own slots
+-- The packets of a run lie in rising own slots.
 pub rising_run : (own : ℕ → Bool) (rate lead n : ℕ) (units : List PesPacket) →
     Rises own 0 (slots_of (packets_in_slots own rate lead 0 units (own_slots own 0 n)))
 rising_run own rate lead n units = rising_sent own rate lead (own_slots own 0 n) units 0 0 (list_law own 0 n)

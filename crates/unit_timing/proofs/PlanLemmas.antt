@@ -1,4 +1,4 @@
--- One plan and two plans in turn.
+-- One plan, and two plans in turn
 use Rattle.std.proofs.Common.{◌≡◌, ℕ, ◌+◌, ◌-◌, ◌*◌, ◌<◌, ◌≤◌, max, min, Bool, List, length, inl, inr, arith}
 use Rattle.std.proofs.Math.Nat.{mul-le-mul_right, mul-pos, lt-mul-div-succ}
 use Rattle.std.proofs.lemmas.Bool.{cases_lt}
@@ -29,7 +29,7 @@ use Rattle.unit_timing.proofs.PacketsInSlots.{rising_run}
 use Rattle.unit_timing.proofs.MainBufferBySlots.{by_slots}
 use Rattle.unit_timing.proofs.MainBufferByUnits.{by_curve}
 
--- enough units and slots to wait in
+-- The units that can wait cover the lead.
 enough_units : (s : Declaration) → 0 < s.interval → s.lead ≤ waiting_units s * s.interval
 enough_units s pos = omega (arith, lt-mul-div-succ (s.lead + (s.interval - 1)) pos)
 
@@ -39,7 +39,7 @@ enough_slots rate s = omega arith
 pub some_slots : (rate : ℕ) (s : Declaration) → 0 < rate → 0 < s.lead → 0 < waiting_slots rate s
 some_slots rate s pos pos' = let some : 0 < s.lead * rate = mul-pos pos' pos in omega arith
 
--- from deadlines, work and the main buffer to what is promised
+-- Deadlines, work and the main buffer give the promises of a plan.
 served : (rate : ℕ) (s : Declaration) (own : ℕ → Bool) (peak : ℕ) (W : ℕ → ℕ) (units : List PesPacket) → IsProper rate s →
     BoundsWork own rate s.drain 512 peak W → InTime own rate s.lead s.drain peak 0 units →
     ((n x : ℕ) (left : List ℕ) → NoneLeavesEarly s.drain (run_packets own rate s units n) left → mb_fullness rate s.drain x units left ≤ s.main) →
@@ -51,7 +51,7 @@ served rate s own peak W units proper work in_time main = record {
   main = main;
 }
 
--- the slower of two plans still has slots enough in the long run
+-- The slower of two plans still has enough slots in the long run.
 slower : (most n1 n2 c1 c2 time rate : ℕ) → most * n1 ≤ c1 * time * rate → most * n2 ≤ c2 * time * rate →
     most * max (n1 * c2) (n2 * c1) ≤ c1 * c2 * time * rate
 slower most n1 n2 c1 c2 time rate first second = elim (cases_lt (n1 * c2) (n2 * c1)) [
@@ -59,13 +59,13 @@ slower most n1 n2 c1 c2 time rate first second = elim (cases_lt (n1 * c2) (n2 * 
   | inr le ↦ let m : max (n1 * c2) (n2 * c1) ≡ n1 * c2 = omega arith in rw m (omega (arith, mul-le-mul_right c2 first))
 ]
 
--- the condition on the lead, as it is used
+-- The condition on the lead in the form that the proofs use
 lead_form : (a b c1 c2 few cost e k d late : ℕ) →
     (a * c2 + b * c1 + few * cost + c1 * c2 * (e + 1)) * 135360000 * d + c1 * c2 * late * 720000 ≤ k →
     (a * c2 + b * c1 + c1 * c2 * e + few * cost + c1 * c2) * 135360000 * d + c1 * c2 * late * 720000 ≤ k
 lead_form a b c1 c2 few cost e k d late h = omega (arith, h)
 
--- from a pace that pays for the declaration to the deadlines
+-- A pace that pays for the declaration gives the deadlines.
 pub in_time : (rate : ℕ) (s : Declaration) (own : ℕ → Bool) (share cost base late : ℕ) (units : List PesPacket) → 0 < allowance_rows s.allowance →
     0 < s.interval →
     HasPace own share cost base → 0 < share → steady_packets s.allowance * cost ≤ share * steady_time s.allowance s.interval * rate →
@@ -90,7 +90,7 @@ deadline_switch_law rate s claim first next second periods units rows pos one tw
     (c1 * c2 * (s.lead + (m - 1) * s.interval) * rate * s.drain) s.drain late (lead m some most))
     keeps
 
--- the bytes of a unit, by their number and by its packets
+-- The bytes of a unit, bounded by its size and by its packets
 all_bytes : (unit : PesPacket) → unit.size ≤ 1 * unit.size
 all_bytes unit = omega arith
 

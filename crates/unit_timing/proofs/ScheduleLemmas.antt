@@ -1,4 +1,4 @@
--- Slot by slot and unit by unit; the two buffers of a program's tables.
+-- The schedule slot by slot and unit by unit, and the two buffers of a program's tables
 use Rattle.std.proofs.Common.{◌≡◌, ℕ, zero, suc, ◌+◌, ◌-◌, ◌*◌, ◌<◌, ◌≤◌, min, Bool, Option, Some, None, List, [], ◌∷◌, ◌++◌, take, drop, refl, ap, ap₂, ◌∙◌}
 use Rattle.std.proofs.Common.{inl, inr, arith}
 use Rattle.std.proofs.Math.Nat.{le_trans}
@@ -23,7 +23,7 @@ system_law own rate slots x pos rises = (
       (work_scale_law own rate 80000 room peak 25 W b) rises)),
 )
 
--- the packets in these slots, the first of which is own slot number i
+-- The packets in these slots; the first slot is own slot number i
 unfoldable picked : (ℕ → Option ℕ) → ℕ → List ℕ → List Packet
 picked f i [] = []
 picked f i (s ∷ slots) = packet_in s (f i) ++ picked f (suc i) slots
@@ -64,7 +64,7 @@ picked_same f g i [] same = refl
 picked_same f g i (s ∷ slots) same =
     rw (same i (omega arith), picked_same f g (suc i) slots (λ j from. same j (omega arith))) refl
 
--- what the first packet of a unit carries, and the later ones, which are those of what is then left
+-- The first packet of a unit carries at most 184 - front bytes, and the later packets carry the rest.
 first_size : (front size : ℕ) → payload_size front size 0 ≡ min (184 - front) size
 first_size front size =
     let room : front - 184 * 0 ≡ front = omega arith in
@@ -100,7 +100,7 @@ picked_cut f (suc p) front size i (s ∷ slots) pieces =
           ap f e ∙ pieces (suc j) (omega arith) ∙ ap (λ (n : ℕ). Some n) (later_size front size j)),
     ) refl
 
--- what own slot number i carries: nothing before the unit, its pieces, and then what the later units give it
+-- Own slot number i carries nothing before the unit, then the unit's pieces, then the packets of the later units.
 carried_before : (own : ℕ → Bool) (rate lead free i : ℕ) (unit : PesPacket) (units : List PesPacket) → i < first_slot own rate lead free unit →
     payload_size_at own rate lead free (unit ∷ units) i ≡ None
 unfolding payload_size_at

@@ -1,5 +1,5 @@
--- A multiplexing buffer that leaks a little slower than declared, as one does whose byte takes a whole number of units of time: it needs no more
--- room, since the headers of packets, which the plan counts in its work, never enter it.
+-- A multiplexing buffer may leak a little slower than declared, for example if a byte takes a whole number of units of time. It needs no more room, because
+-- the headers of packets, which the plan counts in its work, never enter it.
 use Rattle.std.proofs.Common.{◌≡◌, ◌∙◌, sym, ℕ, zero, suc, ◌+◌, ◌-◌, ◌*◌, ◌<◌, ◌≤◌, max, Bool, true, false, List, [], ◌∷◌, ◌++◌, map, replicate, refl}
 use Rattle.std.proofs.Common.{ap, ap₂, subst, inl, inr, arith, All}
 use Rattle.std.proofs.Math.Nat.{mul-le-mul_left, mul-le-mul_right, mul-pos}
@@ -20,9 +20,9 @@ use Rattle.unit_timing.specs.VideoBuffers.{NoLater, SlowLeakLaw, multiplexing_en
 use Rattle.unit_timing.proofs.Thinning.{payload_bytes, payloads_thin, thin}
 use Rattle.unit_timing.proofs.TransportBuffer.{Level, level_le, level_packet, stays-append}
 
--- ---- each byte leaves a queue some time before there is no room
+-- ---- Each byte leaves a queue some time before the room runs out
 
--- the bytes of one packet, k of which have come: `low` is no more than the time between two of them, nor than the time that one takes to leave
+-- The bytes of one packet, after k of them have arrived: `low` is at most the time between two bytes, and at most the time that one byte takes to leave.
 packet_soon : (rate r low room less i n k prev : ℕ) → low ≤ r → low ≤ rate → less ≤ rate → less ≤ 187 * low → n + k ≡ 188 → 188 ≤ room →
     prev + n * rate + k * low ≤ i * r + room * rate → Stays (room * rate - less) (bytes_from r i n) (departures rate prev (bytes_from r i n))
 unfolding bytes_from departures Stays
@@ -69,7 +69,7 @@ all_soon own rate r low room less peak W (s ∷ slots) from prev pos le le' few 
       | inr within ↦ within
     ]
 
--- ---- some of the bytes
+-- ---- Some of the bytes
 
 thin_stays : (wait : ℕ) (keeps : List Bool) (ts ds : List ℕ) → Stays wait ts ds → Stays wait (thin keeps ts) (thin keeps ds)
 unfolding thin Stays
@@ -85,7 +85,7 @@ thin_stays wait (false ∷ keeps) (t ∷ ts) [] stays = nothing (thin keeps ts)
 thin_stays wait (true ∷ keeps) (t ∷ ts) (d ∷ ds) stays = (stays.0, thin_stays wait keeps ts ds stays.1)
 thin_stays wait (false ∷ keeps) (t ∷ ts) (d ∷ ds) stays = thin_stays wait keeps ts ds stays.1
 
--- bytes that leave no later stay no longer
+-- Bytes that leave no later stay no longer.
 sooner_stays : (wait wait' : ℕ) (ts ds us : List ℕ) → wait ≤ wait' → NoLater ds us → Stays wait ts us → Stays wait' ts ds
 unfolding NoLater Stays
 sooner_stays wait wait' [] ds us le sooner stays = tt
@@ -94,7 +94,7 @@ sooner_stays wait wait' (t ∷ ts) (d ∷ ds) [] le sooner stays = absurd sooner
 sooner_stays wait wait' (t ∷ ts) (d ∷ ds) (u ∷ us) le sooner stays =
     (omega (arith, le, sooner.0, stays.0), sooner_stays wait wait' ts ds us le sooner.1 stays.1)
 
--- bytes that come to a queue as they leave another, in which each stays `first` or longer, and that leave it `first` later than they would it alone
+-- If bytes pass a first queue, where each takes `first`, and leave a second queue `first + less` later, they stay in the second at most `wait`.
 second_stays : (first less wait prev : ℕ) (ts ds : List ℕ) → less ≤ wait → Stays (wait - less) ts ds →
     Stays wait (departures first prev ts) (map (λ d. d + (first + less)) ds)
 unfolding departures Stays
@@ -103,18 +103,18 @@ second_stays first less wait prev (t ∷ ts) [] le stays = tt
 second_stays first less wait prev (t ∷ ts) (d ∷ ds) le stays =
     (omega (arith, le, stays.0), second_stays first less wait (max t prev + first) ts ds le stays.1)
 
--- ---- a slower queue of payloads
+-- ---- A slower queue of payloads
 
--- these leave it at most `less` after they leave a queue of all bytes
+-- Payload bytes leave the slower queue at most `less` after they leave the queue of all bytes.
 abbrev Soon : ℕ → ℕ → ℕ → ℕ → ℕ → List Bool → List ℕ → Type 0
 Soon step slow less early prev keeps ts =
     NoLater (departures slow early (thin keeps ts)) (map (λ d. d + less) (thin keeps (departures step prev ts)))
 
--- so whatever comes later, if the last of them so far did
+-- If the last byte so far left the slower queue soon, so do all bytes after it.
 abbrev AllSoon : ℕ → ℕ → ℕ → List Bool → Type 0
 AllSoon step slow less keeps = (early prev : ℕ) (ts : List ℕ) → early ≤ prev + less → Soon step slow less early prev keeps ts
 
--- the bytes of a header take time in the other queue alone
+-- Header bytes take time only in the queue of all bytes.
 header_soon : (step slow less n m early prev : ℕ) (keeps : List Bool) (ts : List ℕ) → early + m * step ≤ prev + less → less ≤ step → 0 < n + m →
     ((prev' : ℕ) (us : List ℕ) → early ≤ prev' → Soon step slow less early prev' keeps us) → Soon step slow less early prev (replicate n false ++ keeps) ts
 unfolding thin departures NoLater
@@ -124,7 +124,7 @@ header_soon step slow less (suc n) m early prev keeps [] ahead few some rest = t
 header_soon step slow less (suc n) m early prev keeps (t ∷ ts) ahead few some rest =
     header_soon step slow less n (suc m) early (max t prev + step) keeps ts (omega (arith, ahead)) few (omega arith) rest
 
--- each byte of a payload loses no more than `each`
+-- Each byte of a payload loses at most `each`.
 payload_soon : (step slow each less n k early prev : ℕ) (keeps : List Bool) (ts : List ℕ) → slow ≤ step + each → (n + k) * each ≤ less →
     early ≤ prev + k * each →
     AllSoon step slow less keeps → Soon step slow less early prev (replicate n true ++ keeps) ts
@@ -156,7 +156,7 @@ all_payloads_soon step slow each less (p ∷ packets) le few short small early p
     count : (size : ℕ) → size ≤ 184 → 188 - (188 - size) + 0 ≤ 184
     count size most = omega (arith, most)
 
--- ---- the law
+-- ---- The law
 
 map_two : (a b : ℕ) (keeps : List Bool) (ds : List ℕ) → map (λ d. d + b) (thin keeps (map (λ d. d + a) ds)) ≡ thin keeps (map (λ d. d + (a + b)) ds)
 unfolding thin

@@ -14,7 +14,7 @@ use Rattle.unit_timing.proofs.NotEarly.{unit_later, unit_parts}
 slot_begins : (s t r : ℕ) → s ≤ t → 188 * s * r ≤ 188 * t * r
 slot_begins s t r le = mul-le-mul_right r (mul-le-mul_left 188 le)
 
--- a byte from the release slot on waits at most the lead
+-- A byte from the release slot on waits at most the lead.
 from_release : (rate lead r due t : ℕ) → 188 * release rate lead due * r ≤ t → due * rate * r ≤ t * 720000 + lead * rate * r
 from_release rate lead r due t le = waits rate lead r (release rate lead due) (due - lead) due t (omega arith) (omega arith) le
   where

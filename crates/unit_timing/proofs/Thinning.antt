@@ -1,4 +1,4 @@
--- A list with some entries left out, as the departures of payloads are of those of all bytes.
+-- Lists with some entries left out, for example the departures of payload bytes in a list of the departures of all bytes
 use Rattle.std.proofs.Common.{◌≡◌, ℕ, zero, suc, ◌+◌, ◌-◌, ◌*◌, ◌≤◌, max, Bool, true, false, cond, List, [], ◌∷◌, ◌++◌, take, drop, map, replicate, refl, ap}
 use Rattle.std.proofs.Common.{◌∙◌, sym, arith}
 use Rattle.std.proofs.lemmas.Bool.Decides.{nat_tests}
@@ -10,16 +10,16 @@ use Rattle.unit_timing.specs.Transport.{of_payloads}
 use Rattle.unit_timing.specs.VideoBuffers.{NoLater}
 use Rattle.unit_timing.specs.LeakMethod.{NeverFalls}
 
--- the entries that are kept: those beside `true`
+-- The entries with `true` beside them
 unfoldable pub thin : List Bool → List ℕ → List ℕ
 thin [] ts = []
 thin (keep ∷ keeps) [] = []
 thin (true ∷ keeps) (t ∷ ts) = t ∷ thin keeps ts
 thin (false ∷ keeps) (t ∷ ts) = thin keeps ts
 
--- ---- payloads
+-- ---- Payloads
 
--- of 188 bytes of each packet its payload
+-- Marks the payload bytes of each packet's 188 bytes.
 unfoldable pub payload_bytes : List Packet → List Bool
 payload_bytes [] = []
 payload_bytes (p ∷ packets) = replicate (188 - p.size) false ++ (replicate (188 - (188 - p.size)) true ++ payload_bytes packets)
@@ -30,14 +30,14 @@ thin_none [] = refl
 thin_none (true ∷ keeps) = refl
 thin_none (false ∷ keeps) = refl
 
--- without the first k
+-- The first k entries are left out.
 thin_out : (k : ℕ) (keeps : List Bool) (ts : List ℕ) → thin (replicate k false ++ keeps) ts ≡ thin keeps (drop k ts)
 unfolding thin
 thin_out zero keeps ts = refl
 thin_out (suc k) keeps [] = sym (thin_none keeps)
 thin_out (suc k) keeps (t ∷ ts) = thin_out k keeps ts
 
--- with the first k
+-- The first k entries are kept.
 thin_in : (k : ℕ) (keeps : List Bool) (ts : List ℕ) → thin (replicate k true ++ keeps) ts ≡ take k ts ++ thin keeps (drop k ts)
 unfolding thin
 thin_in zero keeps ts = refl
@@ -65,7 +65,7 @@ payloads_thin (p ∷ packets) ds =
       payloads_thin packets (drop 188 ds),
     ) refl
 
--- ---- what follows of lists that are thinned in the same places
+-- ---- Lists that are thinned in the same places
 
 thin_map : (f : ℕ → ℕ) (keeps : List Bool) (ts : List ℕ) → thin keeps (map f ts) ≡ map f (thin keeps ts)
 unfolding thin
@@ -78,7 +78,7 @@ pub payloads_map : (f : ℕ → ℕ) (packets : List Packet) (ds : List ℕ) →
 payloads_map f packets ds =
     payloads_thin packets (map f ds) ∙ thin_map f (payload_bytes packets) ds ∙ ap (map f) (sym (payloads_thin packets ds))
 
--- fewer bytes leave a queue no later
+-- Fewer bytes leave a queue no later.
 thin_departures : (step early prev : ℕ) (keeps : List Bool) (ts : List ℕ) → early ≤ prev →
     NoLater (departures step early (thin keeps ts)) (thin keeps (departures step prev ts))
 unfolding thin departures NoLater
@@ -96,7 +96,7 @@ pub payload_departures : (step : ℕ) (packets : List Packet) (ts : List ℕ) �
 payload_departures step packets ts =
     rw (payloads_thin packets ts, payloads_thin packets (departures step 0 ts)) (thin_departures step 0 0 (payload_bytes packets) ts (omega arith))
 
--- and a queue of fewer bytes is no fuller
+-- A queue of fewer bytes is no fuller.
 one_sooner : (x t d e : ℕ) → d ≤ e → (let n : ℕ = cond (is_in_buffer x t d) 1 0 in n) ≤ (let n : ℕ = cond (is_in_buffer x t e) 1 0 in n)
 one_sooner x t d e le = grind (arith, nat_tests)
 
@@ -118,7 +118,7 @@ pub payload_fullness : (x step : ℕ) (packets : List Packet) (ts : List ℕ) �
 payload_fullness x step packets ts =
     rw (payloads_thin packets ts) (thin_fullness x step 0 0 (payload_bytes packets) ts (omega arith))
 
--- bytes that leave a slower queue, all or some of them, never wait for one another in a faster one
+-- Bytes that leave a slower queue, all or some of them, never wait for one another in a faster queue.
 thin_stays : (first second prev last : ℕ) (keeps : List Bool) (ts : List ℕ) → second ≤ first → last ≤ prev + first →
     Stays (1 * second) (thin keeps (departures first prev ts)) (departures second last (thin keeps (departures first prev ts)))
 unfolding thin departures Stays
@@ -138,7 +138,7 @@ pub payload_stays : (first second : ℕ) (packets : List Packet) (ts : List ℕ)
 payload_stays first second packets ts faster =
     rw (payloads_thin packets (departures first 0 ts)) (thin_stays first second 0 0 (payload_bytes packets) ts faster (omega arith))
 
--- departures never fall, nor do some of them
+-- Departures never fall, even if some are left out.
 pub falls_from : (low from : ℕ) (ts : List ℕ) → low ≤ from → NeverFalls from ts → NeverFalls low ts
 unfolding NeverFalls
 falls_from low from [] le falls = tt

@@ -1,4 +1,4 @@
--- The transport buffer.
+-- The transport buffer
 use Rattle.std.proofs.Common.{◌≡◌, ℕ, zero, suc, ◌+◌, ◌-◌, ◌*◌, ◌<◌, ◌≤◌, max, Bool, true, List, [], ◌∷◌, ◌++◌, length, drop, refl, ap, ◌∙◌, sym, inl, inr}
 use Rattle.std.proofs.Common.{arith, add-one, All}
 use Rattle.std.proofs.Math.Nat.{mul-le-mul_right, le_trans}
@@ -15,11 +15,11 @@ use Rattle.own_slots.specs.Work.{BoundsWork}
 use Rattle.unit_timing.specs.Schedule.{Packet}
 use Rattle.unit_timing.specs.Transport.{slots_of, of_payloads, pes_left, RoomLaw, LeftLaw}
 
--- a last departure lies within the work bound at slot s
+-- A last departure lies within the work bound at slot s.
 abbrev pub Level : ℕ → (ℕ → ℕ) → ℕ → ℕ → Type 0
 Level r W s prev = prev ≤ 188 * s * r + W s
 
--- it stays within at the next slot
+-- A last departure within the bound stays within it at the next slot.
 level_next : (own : ℕ → Bool) (rate r room peak : ℕ) (W : ℕ → ℕ) (s prev : ℕ) → BoundsWork own rate r room peak W → Level r W s prev → Level r W (suc s) prev
 level_next own rate r room peak W s prev b h = rw (← add-one s)
     (elim (cases_Bool (own s)) [
@@ -27,7 +27,7 @@ level_next own rate r room peak W s prev b h = rw (← add-one s)
       | inr n ↦ omega (arith, h, (b s).idle n)
     ])
 
--- and at each later one
+-- A last departure within the bound stays within it at each later slot.
 level_more : (own : ℕ → Bool) (rate r room peak : ℕ) (W : ℕ → ℕ) (k s prev : ℕ) → BoundsWork own rate r room peak W → Level r W s prev → Level r W (s + k) prev
 level_more own rate r room peak W zero s prev b h = let e : s + 0 ≡ s = omega arith in rw e h
 level_more own rate r room peak W (suc k) s prev b h =
@@ -40,12 +40,12 @@ level_le own rate r room peak W s t prev b le h =
     let e : s + (t - s) ≡ t = omega arith in
     rw e at (level_more own rate r room peak W (t - s) s prev b h)
 
--- the last byte of a packet in an own slot
+-- The last byte of a packet in an own slot leaves within the bound at the next slot.
 pub level_packet : (own : ℕ → Bool) (rate r room peak : ℕ) (W : ℕ → ℕ) (s prev : ℕ) → BoundsWork own rate r room peak W → own s ≡ true → Level r W s prev →
     Level r W (suc s) (last_left rate prev (bytes_from r (188 * s) 188))
 level_packet own rate r room peak W s prev b y h = rw (← add-one s) (omega (arith, h, (b s).busy y, last_packet rate prev r (188 * s) 188))
 
--- leaves within the greatest work
+-- The last byte of a packet in an own slot leaves within the greatest work.
 peak_packet : (own : ℕ → Bool) (rate r room peak : ℕ) (W : ℕ → ℕ) (s prev e : ℕ) → BoundsWork own rate r room peak W → own s ≡ true → Level r W s prev → s < e →
     last_left rate prev (bytes_from r (188 * s) 188) ≤ 188 * r * e + peak
 peak_packet own rate r room peak W s prev e b y h lt =
@@ -63,7 +63,7 @@ stays-append wait [] (d ∷ ds) ts' ds' e h h' = cc
 stays-append wait (t ∷ ts) [] ts' ds' e h h' = cc
 stays-append wait (t ∷ ts) (d ∷ ds) ts' ds' e h h' = (h.0, stays-append wait ts ds ts' ds' (cc) h.1 h')
 
--- the bytes of one packet, where it fits after what is there
+-- The bytes of one packet stay within the room, if the packet fits after the bytes that are there.
 packet_stays : (rate r room i n prev : ℕ) → prev + n * rate ≤ i * r + room * rate → n * rate ≤ room * rate →
     Stays (room * rate) (bytes_from r i n) (departures rate prev (bytes_from r i n))
 unfolding bytes_from departures Stays
@@ -90,7 +90,7 @@ transport_room own rate r room peak W slots x pos b rises =
     let start : Level r W 0 0 = omega arith in
     room_law x rate room (arrivals r slots) pos (all_stay own rate r room peak W slots 0 0 b rises start)
 
--- one packet, and those after it
+-- The departures of one packet, and of the packets after it
 pub pes_left-cons : (rate r prev : ℕ) (p : Packet) (packets : List Packet) → pes_left rate r prev (p ∷ packets)
     ≡ drop (188 - p.size) (departures rate prev (bytes_from r (188 * p.slot) 188))
     ++ pes_left rate r (last_left rate prev (bytes_from r (188 * p.slot) 188)) packets

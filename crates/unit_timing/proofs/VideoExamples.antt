@@ -13,9 +13,8 @@ use Rattle.unit_timing.specs.Transport.{of_payloads}
 use Rattle.unit_timing.specs.MainBuffer.{mb_fullness}
 use Rattle.unit_timing.specs.VideoBuffers.{multiplexing_fullness, elementary_fullness, video_fullness}
 use Rattle.unit_timing.specs.LeakMethod.{transfers, rooms_of, removed_at, latest}
-use Rattle.unit_timing.specs.EmptyBuffers.{empty_slots}
 
--- ---- a unit of 590 bytes with one stamp, in four packets
+-- ---- A unit of 590 bytes with one stamp, in four packets
 
 in_slots : ℕ → ℕ → ℕ → ℕ → List Packet
 in_slots a b c d = record { slot = a; size = 184 } ∷ record { slot = b; size = 184 } ∷ record { slot = c; size = 184 } ∷ record { slot = d; size = 38 } ∷ []
@@ -23,8 +22,8 @@ in_slots a b c d = record { slot = a; size = 184 } ∷ record { slot = b; size =
 unit : List PesPacket
 unit = record { dts = 1600; size = 590; front = 0 } ∷ []
 
--- four slots in a row at 3,008,000 bits a second, TB drained at 2,000,000 and MB at 1,000,000: when the last byte of the third
--- packet enters MB, MB holds 273 bytes, and EB 279 of the 552 that have entered MB
+-- Four slots in a row at 3,008,000 bits a second, TB drained at 2,000,000 and MB at 1,000,000: when the last byte of the third packet enters MB, 552 bytes
+-- have entered MB; MB holds 273 and EB 279.
 multiplexing : multiplexing_fullness 3008000 2000000 1000000 1696512000000000 (in_slots 0 1 2 3) ≡ 273
 unfolding in_slots of_payloads arrivals bytes_from departures fullness
 multiplexing = refl
@@ -37,12 +36,12 @@ together : video_fullness 3008000 2000000 1000000 1696512000000000 unit (in_slot
 unfolding unit in_slots of_payloads arrivals bytes_from departures mb_fullness
 together = refl
 
--- where MB leaks as fast as TB is drained it holds the byte that enters, and no other
+-- If MB leaks as fast as TB is drained, MB holds only the byte that enters.
 fast_leak : multiplexing_fullness 1504000 2000000 2000000 19008000000000 (in_slots 0 4 8 12) ≡ 1
 unfolding in_slots of_payloads arrivals bytes_from departures fullness
 fast_leak = refl
 
--- ---- the work of MB: four own slots of 24, of which the work finds room in 627 bytes
+-- ---- The work of MB: four own slots of 24; the work has room in 627 bytes
 
 four_of_24 : List Bool
 four_of_24 = replicate 4 true ++ replicate 20 false
@@ -55,17 +54,8 @@ peak_of_mb : most_after 3008000 1000000 0 four_of_24 ≡ 1698016000
 unfolding four_of_24 greatest work_at
 peak_of_mb = refl
 
--- MB becomes empty in slot 13, TB in slot 7: from the last slot of a period to them 14 slots, and 8
-mb_empties : gap (empty_slots 3008000 1000000 0 four_of_24) 1 ≡ 14
-unfolding four_of_24 empty_slots places greatest
-mb_empties = refl
-
-tb_empties : gap (empty_slots 3008000 2000000 0 four_of_24) 1 ≡ 8
-unfolding four_of_24 empty_slots places greatest
-tb_empties = refl
-
--- ---- the leak where EB is full: four bytes enter MB one after another and take 3 to leave it; EB has room for two, and the
--- first two are removed at 10. So the other two go from 10 on
+-- ---- The leak if EB is full: four bytes enter MB one after another, and each takes 3 to leave it. EB has room for two bytes, and its first two are removed
+-- at 10, so the last two leave MB from 10 on
 
 held_back : transfers 3 0 (bytes_from 1 0 4) (rooms_of 2 (10 ∷ 10 ∷ 20 ∷ 20 ∷ [])) ≡ 3 ∷ 6 ∷ 13 ∷ 16 ∷ []
 unfolding transfers bytes_from
@@ -75,12 +65,12 @@ never_held_back : transfers 3 0 (bytes_from 1 0 4) (rooms_of 4 (10 ∷ 10 ∷ 20
 unfolding transfers bytes_from
 never_held_back = refl
 
--- each at the later of two times: of MB alone, and of the room in EB alone
+-- Each byte leaves at the later of two times: the time by MB alone, and the time by the room in EB alone.
 two_queues : latest (departures 3 0 (bytes_from 1 0 4)) (departures 3 0 (rooms_of 2 (10 ∷ 10 ∷ 20 ∷ 20 ∷ []))) ≡ 3 ∷ 6 ∷ 13 ∷ 16 ∷ []
 unfolding latest departures bytes_from
 two_queues = refl
 
--- two units of two bytes and one: each byte is removed at its unit's stamp
+-- Two units, with two bytes and one byte: each byte is removed at its unit's stamp.
 removed : removed_at 1504000 2000000 (record { dts = 1; size = 2; front = 0 } ∷ record { dts = 3; size = 1; front = 0 } ∷ []) ≡ 3008000000000 ∷ 3008000000000 ∷
     9024000000000 ∷ []
 unfolding removed_at

@@ -1,4 +1,4 @@
--- A video stream over one plan and over two plans in turn.
+-- A video stream over one plan, and over two plans in turn
 use Rattle.std.proofs.Common.{◌≡◌, ℕ, zero, suc, ◌+◌, ◌*◌, ◌/◌, ◌<◌, ◌≤◌, max, Bool, cond, nat_le, nat_lt, ◌&&◌, List, [], ◌∷◌, ◌++◌, length, take, drop, map}
 use Rattle.std.proofs.Common.{replicate, refl, ap, ◌∙◌, sym, subst, inl, inr, arith}
 use Rattle.std.proofs.Math.Nat.{le_trans, mul-le-mul_left, mul-le-mul_right, mul-pos}
@@ -39,7 +39,7 @@ use Rattle.unit_timing.proofs.SlowLeaks.{slow_leak_law}
 use Rattle.unit_timing.proofs.MultiplexingLemmas.{multiplexing_law, whole_in_time_law}
 use Rattle.unit_timing.proofs.LeakMethodLemmas.{never_full_law}
 
--- ---- no byte enters MB or EB before its packet's slot begins
+-- ---- No byte enters MB or EB before its packet's slot begins
 
 entered_early : (own : ℕ → Bool) (rate lead rx rbx n : ℕ) (units : List PesPacket) →
     NoneLeavesEarly (rx * rbx) (packets_in_slots own rate lead 0 units (own_slots own 0 n))
@@ -57,9 +57,9 @@ leaked_early own rate lead rx rbx n units =
     leaves_later (rx * rbx) packets entered (multiplexing_left rate rx rbx packets) (departures_later (rx * rate) 0 entered)
     (entered_early own rate lead rx rbx n units)
 
--- ---- EB never full
+-- ---- EB is never full
 
--- on a scale on which stamps are whole, both buffers together are a buffer whose bytes leave it at their stamps
+-- On a scale with whole stamps, both buffers together are a buffer whose bytes leave at their stamps.
 before_stamp : (x due rate r : ℕ) → nat_lt x (due * rate * r) ≡ nat_lt (x * 720000) (due * (720000 * rate) * r)
 before_stamp x due rate r =
     let same : due * (720000 * rate) * r ≡ due * rate * r * 720000 = omega arith in
@@ -89,7 +89,7 @@ of_units x rate r (unit ∷ units) us =
     of_unit x unit.dts rate r unit.size us (removed_at rate r units)
     ∙ ap (λ (k : ℕ). kept (720000 * rate) r x unit.dts (take unit.size us) + k) (of_units x rate r units (drop unit.size us))
 
--- stamps never fall
+-- Stamps never fall.
 same_removed : (low time n : ℕ) (rest : List ℕ) → low ≤ time → NeverFalls time rest → NeverFalls low (replicate n time ++ rest)
 unfolding NeverFalls
 same_removed low time zero rest le falls = falls_from low time rest le falls
@@ -110,7 +110,7 @@ unfolding NeverFalls
 falls_scaled k from [] falls = tt
 falls_scaled k from (t ∷ ts) falls = (mul-le-mul_left k falls.0, falls_scaled k t ts falls.1)
 
--- no more bytes are written of units than they have
+-- No more bytes of units are written than the units have.
 few_bytes : (own : ℕ → Bool) (rate lead r n k : ℕ) (units : List PesPacket) (free : ℕ) (left : List ℕ) →
     NoneLeavesEarly r (packets_in_slots own rate lead free units (own_slots own 0 n)) left → length left ≤ length (removed_at rate k units)
 unfolding packets_in_slots NoneLeavesEarly removed_at
@@ -123,7 +123,7 @@ few_bytes own rate lead r n k (unit ∷ units) free left early =
     rw (length-append (replicate unit.size (unit.dts * rate * k)) (removed_at rate k units), length-replicate unit.size (unit.dts * rate * k))
     (omega (arith, rest, length-drop unit.size left))
 
--- bytes on a scale on which stamps are whole
+-- Bytes on a scale with whole stamps
 leave : (k step : ℕ) (ts : List ℕ) → departures (k * step) 0 (map (λ t. k * t) ts) ≡ map (λ t. k * t) (departures step 0 ts)
 leave k step ts =
     let none : k * 0 ≡ 0 = omega arith in
@@ -140,7 +140,7 @@ freely rate r step size apart from units left falls spaced few fits =
     (λ x. rw (of_units x rate r units fine) (le_trans (main_moments 720000 rate r x units left (omega arith)) (fits (x / 720000))))
     ∙ leave 720000 step left
 
--- ---- what is promised
+-- ---- The promises for a video stream
 
 keeps_drained : (s : Declaration) (r : ℕ) (units : List PesPacket) → KeepsDeclaration s units → KeepsDeclaration (drained s r) units
 keeps_drained s r units keeps = record { spaced = keeps.spaced; sized = keeps.sized; allowed = keeps.allowed }
@@ -198,7 +198,7 @@ video_law rate s m claim leak marks units proper leaks holds keeps =
     (share_law marks claim.spread (waiting_slots rate s) holds.owned holds.spread_claimed (some_slots rate s proper.some_rate proper.some_lead))
     holds.elementary_fits)
 
--- a claim on the stream's own slots by which the lead pays for the way through MB
+-- A claim on the stream's own slots; the lead pays for the way through MB
 abbrev through : ℕ → StreamClaim → LeakClaim → StreamClaim
 through rate claim leak = record { spread = claim.spread; start = leak.start; peak = leak.peak + rate }
 

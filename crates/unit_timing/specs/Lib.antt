@@ -19,5 +19,4 @@ pub mod VideoPlans
 pub mod EmptyBuffers
 pub mod LongestStay
 pub mod PesHeaders
-pub mod EmptyPlans
 pub mod AccessUnits

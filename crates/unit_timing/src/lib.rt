@@ -20,7 +20,6 @@
 //! - [`multiplexing_buffer`]: a video stream's declaration of its multiplexing buffer.
 //! - [`system_buffers`]: the two buffers of a program's tables.
 //! - [`video_buffers`]: the multiplexing buffer and the elementary stream buffer of a video stream.
-//! - [`empty_buffers`]: transport and multiplexing buffers that are empty at least once a second.
 //! - [`schedule`]: slot by slot is unit by unit.
 //! - [`units`]: one unit more within the declaration.
 //! - [`shares`]: the unit of an output's shares.
@@ -33,7 +32,6 @@ pub mod allowances;
 pub mod arrived;
 pub mod buffers;
 pub mod deadlines;
-pub mod empty_buffers;
 pub mod framing;
 pub mod main_buffer;
 pub mod moments;

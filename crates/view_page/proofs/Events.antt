@@ -1,4 +1,4 @@
--- Events one by one.
+-- Events, one by one.
 use Rattle.std.proofs.Common.{◌≡◌, ℕ, ◌+◌, List, [], ◌∷◌, drop, Result, Ok, Err, refl, subst}
 use Rattle.std.specs.Prelude.{OnOk}
 use Rattle.events.specs.declared.timed_event.TimedEvent.{TimedEvent}
@@ -9,7 +9,7 @@ pub on_ok : {V E A B : Type 0} (r : Result V E) → (A → B) → OnOk r A → O
 on_ok (Ok v) f a = f a
 on_ok (Err e) f a = tt
 
--- events that are still to come bring a page to this state
+-- The later events bring a page to this state.
 pub record ComesTo (page : Page) (events : List TimedEvent) (whole : PageState) : Type 0 where
   pub state : PageState
   pub is : IsPage page state
@@ -24,7 +24,7 @@ taken : (before after : Page) (event : TimedEvent) (events : List TimedEvent) (w
 unfolding after_events
 taken before after event events whole takes c = record { state = after_event c.state event; is = takes c.state c.is; same = c.same }
 
--- one more
+-- One more event.
 pub one_taken : (before after : Page) (events : List TimedEvent) (i : ℕ) (event : TimedEvent) (whole : PageState) →
     drop i events ≡ event ∷ drop (i + 1) events →
     ((s : PageState) → IsPage before s → IsPage after (after_event s event)) → ComesTo before (drop i events) whole →

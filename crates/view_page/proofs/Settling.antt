@@ -1,4 +1,4 @@
--- Programs one by one, at the end of a window.
+-- Programs, one by one, at the end of a window.
 use Rattle.std.proofs.Common.{◌≡◌, ◌∙◌, ℕ, ◌-◌, List, [], ◌∷◌, Some, sym, ap, subst}
 use Rattle.view_page.specs.Services.{AreServiceCurves, KeptServiceCurves, plus, rate_in, settled, settled_all, total_from, with_program}
 use Rattle.view_page.specs.declared.services.ProgramRate.{ProgramRate}
@@ -6,7 +6,7 @@ use Rattle.view_page.specs.declared.services.ServiceCurves.{ServiceCurves}
 
 -- 1. The sum of all rates
 
--- one more
+-- The sum with one more program.
 pub total_more : (number sum next : ℕ) (it more : List (ℕ × ProgramRate)) (e : ℕ × ProgramRate) (whole : ℕ) → it ≡ e ∷ more →
     next ≡ plus sum (rate_in number (Some e.1)) → total_from number sum it ≡ whole → total_from number next more ≡ whole
 unfolding total_from
@@ -17,7 +17,7 @@ pub total_end : (number sum : ℕ) (it : List (ℕ × ProgramRate)) (whole : ℕ
 unfolding total_from
 total_end number sum it whole none before = sym (ap (λ (es : List (ℕ × ProgramRate)). total_from number sum es) none) ∙ before
 
--- 2. The curves: programs that are still to come, with this sum, bring them to this state
+-- 2. The curves: with this sum, the later programs bring them to this state
 
 pub record SettlesTo (curves : ServiceCurves) (number sum : ℕ) (programs : List (ℕ × ProgramRate)) (whole : KeptServiceCurves) : Type 0 where
   pub state : KeptServiceCurves
@@ -43,7 +43,7 @@ one_more before after number sum e more whole takes c = record {
   same = c.same;
 }
 
--- one more
+-- The curves with one more program.
 pub one_taken : (before after : ServiceCurves) (number sum next rate : ℕ) (it more : List (ℕ × ProgramRate)) (e : ℕ × ProgramRate) (whole : KeptServiceCurves) →
     it ≡ e ∷ more → rate ≡ rate_in number (Some e.1) → next ≡ sum - rate →
     ((s : KeptServiceCurves) → AreServiceCurves before s → AreServiceCurves after (with_program number e.0 rate sum s)) →

@@ -138,6 +138,7 @@ with_rule v (rules.SectionDistance e) = v
 with_rule v (rules.OtherTable e) = v
 with_rule v (rules.ScrambledTable e) = v
 with_rule v (rules.NoCat e) = v
+with_rule v (rules.NoTable e) = v
 with_rule v (rules.NotEmpty e) = v
 with_rule v (rules.Delayed e) = v
 with_rule v (rules.VariableRate e) = v

@@ -155,7 +155,8 @@ impl Services {
 
     // Ends the window of the last line.
     fn end_window(&mut self) -> Result<(), AllocError>
-        ensures { (kept : KeptServices) → AreServices self.old kept → OnOk result (AreServices self.new (spec.ended kept)) }
+        ensures { (kept : KeptServices) → AreServices self.old kept →
+            OnOk result (AreServices self.new (spec.ended kept)) }
     {
         settle(&self.programs, self.number, &mut self.curves)
     }

@@ -96,7 +96,8 @@ fn write_measured(text: &mut String, page: &Page, ticks: u128) -> Result<(), All
 // The rate of a stream.
 #[tactic(auto, unfolding(crate::specs::SummaryText::rate_text))]
 fn write_rate(text: &mut String, page: &Page, ticks: u128) -> Result<(), AllocError>
-    ensures { OnOk result (string_bytes text.new ≡ string_bytes text.old ++ spec.rate_text page.now page.now.rate ticks) }
+    ensures { OnOk result (string_bytes text.new
+        ≡ string_bytes text.old ++ spec.rate_text page.now page.now.rate ticks) }
 {
     match page.rate {
         None => write_measured(text, page, ticks),
@@ -125,7 +126,8 @@ fn write_known(text: &mut String, page: &Page, ticks: u128) -> Result<(), AllocE
 // How long a stream is, and its rate, if packets have moments.
 #[tactic(auto, unfolding(crate::specs::SummaryText::length_text))]
 fn write_length(text: &mut String, page: &Page) -> Result<(), AllocError>
-    ensures { OnOk result (string_bytes text.new ≡ string_bytes text.old ++ spec.length_text page.now page.now.end.length) }
+    ensures { OnOk result (string_bytes text.new
+        ≡ string_bytes text.old ++ spec.length_text page.now page.now.end.length) }
 {
     match page.end.length {
         None => text.push_str("<p>Length: not known; no packet has a moment.</p>\n"),

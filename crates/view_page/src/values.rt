@@ -167,7 +167,8 @@ impl Values {
 
     // The greatest drift of all so far.
     fn note_drift(&mut self, clock: &ClockFigures)
-        ensures { (kept : KeptValues) → AreValues self.old kept → AreValues self.new (spec.with_greatest kept clock.now) }
+        ensures { (kept : KeptValues) → AreValues self.old kept →
+            AreValues self.new (spec.with_greatest kept clock.now) }
     {
         let ahead = nanoseconds_of(clock.ahead);
         let behind = nanoseconds_of(clock.behind);

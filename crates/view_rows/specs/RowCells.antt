@@ -1,8 +1,8 @@
 -- The cells of the row of each event that has one.
 use Rattle.std.specs.Prelude.{ℕ, List, [], ◌∷◌, Option, Some, None}
 use Rattle.events.specs.declared.check_counts.CheckTotals.{CheckTotals}
-use Rattle.events.specs.declared.check_counts.Untold.{Untold}
-use Rattle.events.specs.declared.check_counts.Untold.TheVariants as reasons
+use Rattle.events.specs.declared.check_counts.NoVerdict.{NoVerdict}
+use Rattle.events.specs.declared.check_counts.NoVerdict.TheVariants as reasons
 use Rattle.events.specs.declared.event.BufferExcess.{BufferExcess}
 use Rattle.events.specs.declared.event.ClockFault.{ClockFault}
 use Rattle.events.specs.declared.event.ClockTotals.{ClockTotals}
@@ -162,7 +162,7 @@ check_word_cells e =
     Word words.CheckWord ∷ Number e.pid Same ∷ Number e.packet Same ∷ Word words.Nothing ∷ Word words.Nothing ∷ Word words.Nothing ∷ []
 
 -- how often a check failed, with a mark if it did, or why it can't be made
-unfoldable pub result_cell : Option Untold → ℕ → Cell
+unfoldable pub result_cell : Option NoVerdict → ℕ → Cell
 result_cell None faults = Checked faults (Some 0) Same
 result_cell (Some reasons.NoClock) faults = Word words.NoClock
 result_cell (Some reasons.VariableRate) faults = Word words.RateVaries
@@ -170,4 +170,4 @@ result_cell (Some reasons.VariableRate) faults = Word words.RateVaries
 -- cells for a check
 abbrev pub check_cells : CheckTotals → List Cell
 check_cells e =
-    CheckNumber e.check ∷ CheckName e.check ∷ result_cell e.untold e.count.faults ∷ Number e.count.first Same ∷ Number e.count.last Same ∷ []
+    CheckNumber e.check ∷ CheckName e.check ∷ result_cell e.no_verdict e.count.faults ∷ Number e.count.first Same ∷ Number e.count.last Same ∷ []

@@ -62,6 +62,7 @@ pub enum CellWord {
     OtherTable,
     ScrambledTable,
     NoCat,
+    NoTable,
     NotEmpty,
     Delayed,
     NoClock,
@@ -93,7 +94,7 @@ pub fn short(number: u128) -> u64
     number.min(u128::from(u64::MAX)) as u64
 }
 
-/// Returns a limit, if there is one: 0 is none.
+/// Returns a limit, if there is one: the number 0 is no limit.
 pub(crate) fn limit_if(limit: u64) -> Option<u64>
     ensures { result ≡ spec.limit_if limit }
 {
@@ -155,6 +156,7 @@ fn word_text(word: CellWord) -> &'static str
         CellWord::OtherTable => "section that does not belong on its PID",
         CellWord::ScrambledTable => "scrambled packet of a table",
         CellWord::NoCat => "scrambled packets, and no conditional access table",
+        CellWord::NoTable => "no section of the table in the whole input",
         CellWord::NotEmpty => "buffer that is not empty for too long",
         CellWord::Delayed => "byte that is in its buffer for too long",
         CellWord::NoClock => "can't be checked: no clock references",
@@ -163,7 +165,7 @@ fn word_text(word: CellWord) -> &'static str
     }
 }
 
-// Whether a number is over a limit.
+// Returns whether a number is over a limit.
 #[tactic(auto, unfolding(crate::specs::Cells::is_over))]
 fn is_over(value: u64, limit: Option<u64>) -> bool
     ensures { result ≡ spec.is_over value limit }
@@ -184,7 +186,7 @@ fn write_scaled(text: &mut String, value: u64, unit: CellUnit) -> Result<(), All
     }
 }
 
-// How the cell of a number begins.
+// Returns the begin of the cell of a number.
 fn cell_head(over: bool) -> &'static str
     ensures { result.now ≡ spec.cell_head over }
 {
@@ -207,14 +209,14 @@ fn write_checked(
     write_scaled(text, value, unit)
 }
 
-// How long a bar is, where its limit lies at 100; it ends at 200.
+// Returns the length of a bar whose limit lies at 100; a bar ends at 200.
 fn bar_length(value: u64, limit: u64) -> u64
     ensures { result ≡ spec.bar_length value limit }
 {
     (value.min(1 << 50) * 100 / limit.max(1)).min(200)
 }
 
-// The class of a bar.
+// Returns the class of a bar.
 fn bar_class(over: bool) -> &'static str
     ensures { result.now ≡ spec.bar_class over }
 {

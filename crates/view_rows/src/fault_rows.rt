@@ -28,7 +28,7 @@ impl Model for FaultRow {
     ghost view = { λ r. record { buffer = r.buffer; cells = string_bytes r.cells } };
 }
 
-// A buffer of a kind at the place of a fault, if that is a stream.
+// Returns the buffer of a kind at the place of a fault, if that place is a stream.
 #[tactic(auto, unfolding(crate::specs::FaultRows::buffer_at))]
 fn buffer_at(kind: BufferKind, source: FaultSource) -> Option<FaultBuffer>
     ensures { result ≡ spec.buffer_at kind source }

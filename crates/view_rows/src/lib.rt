@@ -1,6 +1,7 @@
 //! Rows of the tables of a page, and what each PID carries.
 //!
-//! - [`Rows`]: takes events, and keeps the rows of the page's tables: the first 100 faults, and the rows of the last events.
+//! - [`Rows`]: takes events, and keeps the rows of the page's tables: the first 100 faults, and the rows of the last
+//!   events.
 //! - [`take_label`]: takes what a PID carries, its program and the name of its service (`page_labels`, `html_text`).
 //!
 //! `row_cells`, `input_cells`, `mark_cells` and `summary_cells` have the cells of an event's row; `cells` writes them.

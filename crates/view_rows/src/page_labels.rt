@@ -7,7 +7,7 @@ use events::{Event, WindowFigures};
 use page_curves::{PidLabels, PidProgram};
 use std::alloc::{AllocError, Global};
 
-// The name of a program's service, if it is known.
+// Takes the name of a program's service, if it is known.
 #[tactic(auto, unfolding(crate::specs::PageLabels::with_name))]
 fn take_name(
     alloc: Global,
@@ -23,7 +23,7 @@ fn take_name(
     }
 }
 
-// A PID of a program.
+// Takes what a PID of a program carries, and the name of the program's service.
 fn take_named(
     alloc: Global,
     labels: &mut PidLabels,
@@ -40,7 +40,7 @@ fn take_named(
     take_name(alloc, labels, program, &window.service)
 }
 
-// `window`.
+// Takes what a PID carries, by its figures in a window.
 fn take_window(
     alloc: Global,
     labels: &mut PidLabels,

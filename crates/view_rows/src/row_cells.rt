@@ -6,11 +6,11 @@ use crate::cells::{Cell, CellUnit, CellWord, limit_if, short};
 use events::{
     BufferExcess, CheckTotals, CheckWordFault, ClockFault, ClockTotals, CounterFault,
     ElementaryLate, ElementaryTotals, FarAhead, LateCause, LateUnit, MainTotals,
-    MultiplexingTotals, PidTotals, ProgramExcess, RefusalCause, RefusedPacket, StreamBegin,
-    SystemTotals, TableFault, TableTotals, TransportTotals, UnclockedPackets, Untold,
+    MultiplexingTotals, NoVerdict, PidTotals, ProgramExcess, RefusalCause, RefusedPacket,
+    StreamBegin, SystemTotals, TableFault, TableTotals, TransportTotals, UnclockedPackets,
 };
 
-/// Returns the cells of a stream, after its PID and what that carries.
+/// Returns the cells of a stream, after its PID and what the PID carries.
 pub(crate) fn stream_cells(e: &StreamBegin) -> [Cell; 3]
     ensures { result ≡ spec.stream_cells e.now }
 {
@@ -192,7 +192,7 @@ pub(crate) fn late_cells(e: &LateUnit) -> [Cell; 6]
     ]
 }
 
-// What makes a unit of video late.
+// Returns the word for what makes a unit of video late.
 #[tactic(auto, unfolding(crate::specs::RowCells::late_word))]
 fn late_word(cause: LateCause) -> CellWord
     ensures { result ≡ spec.late_word cause }
@@ -350,26 +350,26 @@ pub(crate) fn check_word_cells(e: &CheckWordFault) -> [Cell; 6]
     ]
 }
 
-// How often a check failed, or why it can't be made.
+// Returns the cell of how often a check failed, or of why the check can't be made.
 #[tactic(auto, unfolding(crate::specs::RowCells::result_cell))]
-fn result_cell(untold: Option<Untold>, faults: u64) -> Cell
-    ensures { result ≡ spec.result_cell untold faults }
+fn result_cell(no_verdict: Option<NoVerdict>, faults: u64) -> Cell
+    ensures { result ≡ spec.result_cell no_verdict faults }
 {
-    match untold {
+    match no_verdict {
         None => Cell::Checked(faults, Some(0), CellUnit::Same),
-        Some(Untold::NoClock) => Cell::Word(CellWord::NoClock),
-        Some(Untold::VariableRate) => Cell::Word(CellWord::RateVaries),
+        Some(NoVerdict::NoClock) => Cell::Word(CellWord::NoClock),
+        Some(NoVerdict::VariableRate) => Cell::Word(CellWord::RateVaries),
     }
 }
 
-/// Returns the cells of a check: its number and name, its faults, and the packets of the first and the last of them.
+/// Returns the cells of a check: its number and name, its faults, and the packets of its first and its last fault.
 pub(crate) fn check_cells(e: &CheckTotals) -> [Cell; 5]
     ensures { result ≡ spec.check_cells e.now }
 {
     [
         Cell::CheckNumber(e.check),
         Cell::CheckName(e.check),
-        result_cell(e.untold, e.count.faults),
+        result_cell(e.no_verdict, e.count.faults),
         Cell::Number(e.count.first, CellUnit::Same),
         Cell::Number(e.count.last, CellUnit::Same),
     ]

@@ -126,7 +126,7 @@ impl Rows {
         Ok(())
     }
 
-    // A fault, with a row if fewer than 100 came before it.
+    // Takes a fault; it has a row if fewer than 100 faults came before it.
     fn take_fault(
         &mut self,
         labels: &PidLabels,
@@ -144,7 +144,7 @@ impl Rows {
         }
     }
 
-    // A fault of a rule, if it is one.
+    // Takes the fault of a rule, if there is one.
     #[tactic(auto, unfolding(crate::specs::Rows::with_rule_fault))]
     fn take_rule(&mut self, labels: &PidLabels, fault: &Option<Fault>) -> Result<(), AllocError>
         ensures { OnOk result (self.new ≡ spec.with_rule_fault labels.now self.old fault.now) }
@@ -155,7 +155,7 @@ impl Rows {
         }
     }
 
-    // A row of faults by kind and stream.
+    // Takes a row of faults by kind and stream.
     fn take_totals(&mut self, labels: &PidLabels, e: &FaultTotals) -> Result<(), AllocError>
         ensures { OnOk result (self.new ≡ spec.with_totals labels.now self.old e.now) }
     {
@@ -168,14 +168,14 @@ impl Rows {
         Ok(())
     }
 
-    // A sentence of the verdict.
+    // Takes a sentence of the verdict.
     fn take_sentence(&mut self, verdict: &Verdict) -> Result<(), AllocError>
         ensures { OnOk result (self.new ≡ spec.with_sentence self.old verdict.now) }
     {
         write_sentence(&mut self.verdict, verdict)
     }
 
-    // The faults by kind and stream, or a sentence of the verdict.
+    // Takes faults by kind and stream, or a sentence of the verdict.
     #[tactic(auto, unfolding(crate::specs::Rows::with_summary))]
     fn take_summary(&mut self, labels: &PidLabels, event: &SummaryEvent) -> Result<(), AllocError>
         ensures { OnOk result (self.new ≡ spec.with_summary labels.now self.old event.now) }
@@ -186,7 +186,7 @@ impl Rows {
         }
     }
 
-    // A fault, if an event is one.
+    // Takes the fault of an event, if the event is about a fault.
     #[tactic(auto, unfolding(crate::specs::Rows::with_fault_event))]
     fn take_faults(
         &mut self,
@@ -255,7 +255,7 @@ impl Rows {
         }
     }
 
-    // How the bytes of the input are packets.
+    // Takes an event about the packets of the input.
     #[tactic(auto, unfolding(crate::specs::Rows::with_input))]
     fn take_input(
         &mut self,
@@ -279,7 +279,7 @@ impl Rows {
         }
     }
 
-    // `stream`.
+    // Takes the begin of a stream.
     fn take_stream(&mut self, labels: &PidLabels, stream: &StreamBegin) -> Result<(), AllocError>
         ensures { OnOk result (self.new ≡ spec.with_stream labels.now self.old stream.now) }
     {
@@ -292,14 +292,14 @@ impl Rows {
         Ok(())
     }
 
-    // A row of a buffer.
+    // Takes a row of a buffer.
     fn take_buffer(&mut self, labels: &PidLabels, cells: &[Cell]) -> Result<(), AllocError>
         ensures { OnOk result (self.new ≡ spec.with_buffer labels.now self.old cells.now) }
     {
         write_row(&mut self.buffers, labels, cells)
     }
 
-    // An event, with the fault that it says there is.
+    // Takes an event, and the fault that it is about.
     #[tactic(auto, unfolding(crate::specs::Rows::with_kind))]
     fn take_kind(
         &mut self,
@@ -350,14 +350,15 @@ impl Rows {
     }
 }
 
-// Appends the row of a fault but its end: when it is, and its cells.
+// Appends the row of a fault without its end: when the fault is, and its cells.
 fn write_fault_row(
     text: &mut String,
     labels: &PidLabels,
     fault: &Option<Fault>,
     cells: &[Cell],
 ) -> Result<(), AllocError>
-    ensures { OnOk result (string_bytes text.new ≡ string_bytes text.old ++ spec.fault_row labels.now fault.now cells.now) }
+    ensures { OnOk result (string_bytes text.new
+        ≡ string_bytes text.old ++ spec.fault_row labels.now fault.now cells.now) }
 {
     text.push_str("<tr>")?;
     write_cells(text, labels, &time_cells(fault))?;
@@ -372,7 +373,7 @@ fn write_begun(text: &mut String, labels: &PidLabels, cells: &[Cell]) -> Result<
     write_cells(text, labels, cells)
 }
 
-// Appends the row of all faults of a kind at one place but its end.
+// Appends the row of all faults of a kind at one place, without its end.
 fn write_totals_row(
     text: &mut String,
     labels: &PidLabels,

@@ -26,7 +26,7 @@ pub fn kinds_text() -> &'static str
     KINDS
 }
 
-// Of a fault without a value.
+// Returns the words of a fault without a value.
 fn plain(word: CellWord) -> KindCells
     ensures { result ≡ spec.plain word }
 {
@@ -37,7 +37,7 @@ fn plain(word: CellWord) -> KindCells
     }
 }
 
-// Of a fault whose value is a number of bytes.
+// Returns the words of a fault whose value is a number of bytes.
 fn bytes(word: CellWord) -> KindCells
     ensures { result ≡ spec.bytes word }
 {
@@ -48,7 +48,7 @@ fn bytes(word: CellWord) -> KindCells
     }
 }
 
-// Of a fault whose value is a time.
+// Returns the words of a fault whose value is a time.
 fn time(word: CellWord) -> KindCells
     ensures { result ≡ spec.time word }
 {
@@ -59,7 +59,7 @@ fn time(word: CellWord) -> KindCells
     }
 }
 
-// Of an inaccurate clock reference, whose value is in nanoseconds.
+// Returns the words of an inaccurate clock reference, whose value is in nanoseconds.
 fn nanos(word: CellWord) -> KindCells
     ensures { result ≡ spec.nanos word }
 {
@@ -110,10 +110,11 @@ fn kind_cells(kind: FaultKind) -> KindCells
         FaultKind::Rest => plain(CellWord::Rest),
         FaultKind::NoStamps => plain(CellWord::NoStamps),
         FaultKind::StampJump => time(CellWord::StampJump),
+        FaultKind::NoTable => plain(CellWord::NoTable),
     }
 }
 
-// A moment, if it is known.
+// Returns the cell of a moment, if it is known.
 #[tactic(auto, unfolding(crate::specs::SummaryCells::moment_cell))]
 fn moment_cell(at: Option<u128>) -> Cell
     ensures { result ≡ spec.moment_cell at }
@@ -135,7 +136,7 @@ pub(crate) fn time_cells(fault: &Option<Fault>) -> [Cell; 2]
     }
 }
 
-// A measured value, if there is one.
+// Returns the cell of a measured value, if there is one.
 #[tactic(auto, unfolding(crate::specs::SummaryCells::value_cell))]
 fn value_cell(measured: Option<Measured>, scale: CellUnit) -> Cell
     ensures { result ≡ spec.value_cell measured scale }
@@ -146,7 +147,7 @@ fn value_cell(measured: Option<Measured>, scale: CellUnit) -> Cell
     }
 }
 
-// Its limit.
+// Returns the cell of the limit of a measured value.
 #[tactic(auto, unfolding(crate::specs::SummaryCells::limit_cell))]
 fn limit_cell(measured: Option<Measured>, scale: CellUnit) -> Cell
     ensures { result ≡ spec.limit_cell measured scale }
@@ -191,7 +192,7 @@ pub(crate) fn fault_cells(e: &Fault) -> [Cell; 6]
     ]
 }
 
-// How a sentence begins.
+// Returns the begin of a sentence.
 #[tactic(auto, unfolding(crate::specs::SummaryCells::sentence_head))]
 fn sentence_head(verdict: &Verdict) -> &'static str
     ensures { result.now ≡ spec.sentence_head verdict.now }

@@ -1,4 +1,4 @@
--- The first of a list whose items are seen in another form, and whether there is one.
+-- The first match in a list whose items are viewed in another form, and whether any item matches.
 use Rattle.std.proofs.Common.{◌≡◌, ◌∙◌, ◌||◌, ℕ, Bool, List, [], ◌∷◌, Option, Some, None, ap, map, option_map, find, refl, inl, inr, sym}
 use Rattle.std.specs.Prelude.{option_and_then}
 use Rattle.std.specs.Borrow.{Bor}
@@ -20,7 +20,7 @@ pub any_mapped : {A B : Type 0} (f : A → B) (test : B → Bool) (xs : List A) 
 any_mapped f test [] = refl
 any_mapped f test (x ∷ xs) = ap (λ (b : Bool). test (f x) || b) (any_mapped f test xs)
 
--- the row of a word, of rows in memory
+-- The row of a word, among rows in memory
 
 seen_twice : (found : Option (Bor (Row (Bor (List ℕ))))) → option_map (λ row. view row.now) found ≡ option_map view (option_map (λ row. row.now) found)
 seen_twice None = refl

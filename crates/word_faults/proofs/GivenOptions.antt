@@ -1,4 +1,4 @@
--- The command line of a table is one of which `clap` says what it reads.
+-- `clap` reads the command line of a table as its contracts describe.
 use Rattle.std.proofs.Common.{◌≡◌, ◌&&◌, Bool, true, false, List, [], ◌∷◌, refl, sym, subst, Some, None, Result, Ok, Err}
 use Rattle.std.specs.Prelude.{IfOk}
 use Rattle.clap.specs.Words.{App, FailsBy, HasMatchesOf, IsAmong, Kinds, Row, fault_of, found_of, is_simple, is_simple_and_free, matches_of, rows_of}
@@ -21,7 +21,7 @@ pub faulty : {T : Type 0} (app declared : App) (words : List Text) (r : Result T
     (is_simple_and_free app ≡ true → FailsBy (fault_of app words) r) → FailsBy (fault_of declared words) r
 faulty app declared words r e s h = subst (λ (a : App). FailsBy (fault_of a words) r) e (h (subst (λ (a : App). is_simple_and_free a ≡ true) (sym e) s))
 
--- words without a fault, and with one
+-- Words without a fault, and words with a fault
 pub faultless : (faults : Kinds) (given : List Row) → faults ≡ [] → Some given ≡ unless_faulty faults given
 unfolding unless_faulty
 faultless faults given e = rw e refl

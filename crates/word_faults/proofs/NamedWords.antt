@@ -1,4 +1,4 @@
--- A fault names words that are really there: of one word first, and then of all.
+-- A fault names words that are present: the faults of one word, and then all faults.
 use Rattle.std.proofs.Common.{◌≡◌, if◌then◌else◌, ◌<◌, ◌||◌, Bool, true, false, not, List, [], ◌∷◌, ◌++◌, length, Option, Some, None, inl, inr, refl, arith}
 use Rattle.std.proofs.Common.{append_assoc, length-append, subst}
 use Rattle.std.specs.Prelude.{IfSome}
@@ -11,7 +11,7 @@ use Rattle.word_faults.specs.declared.word_fault.WordFault.{WordFault}
 use Rattle.word_faults.specs.declared.word_fault.Reason.{Reason}
 use Rattle.word_faults.specs.declared.word_fault.Reason.TheVariants.{Unknown, Twice, NoValue, BadValue, BadNextWord, Alone, Apart, Missing, Help}
 
--- what the words after a word have to be for a reason
+-- The words that may follow a word, by the reason of the fault
 unfoldable Reaches : List Text → Reason → Type 0
 Reaches rest Unknown = Unit {0}
 Reaches rest Twice = Unit {0}
@@ -64,7 +64,7 @@ at_may c has_word before w rest =
     (by_case rest (is_dashed w) _ (word_reason c has_word w) (option_may c (c.takes_value (option_in w)) before (option_in w) (value_in w) rest)
     (by_case rest _ None (Some Unknown) tt tt))))
 
--- the word at this place
+-- The word at this place
 there : (c : CommandLine) (before rest : List Text) (w : Text) (r : Reason) → Reaches rest r → NamesWords c (before ++ w ∷ rest) (length before) r
 unfolding Reaches NamesWords
 there c before rest w Unknown h = rw length-append (omega arith)
@@ -104,7 +104,7 @@ from c before has_word false (w ∷ rest) =
     (subst (λ (words : List Text). Named c words later) (append_assoc before (w ∷ []) rest)
     (from c (before ++ w ∷ []) (has_word || not (is_dashed w)) (wants_value c w) rest)))
 
--- the option that has to be given
+-- The required option
 lacks : (c : CommandLine) (required : Option Text) (words : List Text) → c.required ≡ required → Named c words (missing required words)
 unfolding NamesWords
 lacks c None words e = tt

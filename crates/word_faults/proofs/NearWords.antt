@@ -1,4 +1,4 @@
--- The word that may be meant is known and near, and none is nearer.
+-- The suggested word is known and near, and no known word is nearer.
 use Rattle.std.proofs.Common.{◌≡◌, ◌≤◌, ◌∙◌, ◌⊎◌, true, false, List, [], ◌∷◌, length, Option, Some, None, inl, inr, refl, arith, ap, sym, ◌/◌}
 use Rattle.std.specs.Prelude.{nat_le, nat_lt}
 use Rattle.std.specs.List.{list_all}
@@ -13,7 +13,7 @@ first word others best e = record { before = []; after = others; is = ap (λ (w 
 after_one : (word : Text) (others : List Text) (best : Text) → IsAmong others best → IsAmong (word ∷ others) best
 after_one word others best a = record { before = word ∷ a.before; after = a.after; is = ap (λ (l : List Text). word ∷ l) a.is }
 
--- where a word was near before these, the one that is kept
+-- The word that is kept, if a word was near before this list
 record Holds (others : List Text) (word best x : Text) : Type 0 where
   known : (x ≡ best) ⊎ IsAmong others x
   near : is_near word x ≡ true
@@ -24,7 +24,7 @@ abbrev Keeps : List Text → Text → Text → Option Text → Type 0
 Keeps others word best None = ⊥
 Keeps others word best (Some x) = Holds others word best x
 
--- the better of two is kept before the others
+-- The kept word is the best word so far, or a word of the list.
 known_more : (others : List Text) (other best better x : Text) → (better ≡ best) ⊎ (better ≡ other) → (x ≡ better) ⊎ IsAmong others x →
     (x ≡ best) ⊎ IsAmong (other ∷ others) x
 known_more others other best better x (inl e) (inl f) = inl (f ∙ e)
@@ -56,7 +56,7 @@ kept (other ∷ others) word best near = elim (cases_Bool (nat_lt (edits_of word
       rw e (one_more others word other best best _ (inl refl) (omega arith) (omega (arith, no_fewer)) (kept others word best near))
 ]
 
--- the first that is near
+-- The first word that is near
 from_first : (others : List Text) (word other : Text) (best : Option Text) → Keeps others word other best → IsMeant (other ∷ others) word best
 from_first others word other None h = absurd h
 from_first others word other (Some x) h = record {
@@ -68,7 +68,7 @@ from_first others word other (Some x) h = record {
   least = rw (le-leb (edits_of word x) (edits_of word other) h.less, h.least) refl;
 }
 
--- one that is not near before them
+-- A word that is not near, before the list
 not_first : (others : List Text) (word other : Text) (best : Option Text) → is_near word other ≡ false → IsMeant others word best →
     IsMeant (other ∷ others) word best
 not_first others word other None far h = rw (far, h) refl

@@ -1,33 +1,33 @@
--- The report by what is known, or of a usage text, that is equal to another.
+-- Reports for equal command lines or equal usage texts are equal.
 use Rattle.std.proofs.Common.{◌≡◌, ◌∙◌, ◌++◌, ◌⊎◌, ℕ, Bool, true, false, List, Option, ap, subst, sym, inr}
 use Rattle.devices.specs.Devices.{Device}
 use Rattle.devices.specs.Runs.{LacksMemory}
-use Rattle.devices.specs.Usage.{TellsUsage}
+use Rattle.devices.specs.Usage.{ReportsUsage}
 use Rattle.word_faults.specs.CommandLine.{CommandLine, Text}
 use Rattle.word_faults.specs.UsageReport.{AnswersWords, Prints, asks_version, fault_line, hint_line, is_help_fault, usage_report, version_text}
 use Rattle.word_faults.specs.WordFaults.{first_fault}
 use Rattle.word_faults.specs.declared.word_fault.WordFault.{WordFault}
 
 pub of_usage : (c : CommandLine) (words : List Text) (usage text : Text) (input output faults : Device) (status : ℕ) → usage ≡ text →
-    TellsUsage (usage_report c words usage) input output faults status ⊎ LacksMemory input output faults status →
-    TellsUsage (usage_report c words text) input output faults status ⊎ LacksMemory input output faults status
+    ReportsUsage (usage_report c words usage) input output faults status ⊎ LacksMemory input output faults status →
+    ReportsUsage (usage_report c words text) input output faults status ⊎ LacksMemory input output faults status
 of_usage c words usage text input output faults status e t =
-    subst (λ (u : Text). TellsUsage (usage_report c words u) input output faults status ⊎ LacksMemory input output faults status) e t
+    subst (λ (u : Text). ReportsUsage (usage_report c words u) input output faults status ⊎ LacksMemory input output faults status) e t
 
 pub of_known : (c d : CommandLine) (words : List Text) (usage : Text) (input output faults : Device) (status : ℕ) → c ≡ d →
-    TellsUsage (usage_report c words usage) input output faults status ⊎ LacksMemory input output faults status →
-    TellsUsage (usage_report d words usage) input output faults status ⊎ LacksMemory input output faults status
+    ReportsUsage (usage_report c words usage) input output faults status ⊎ LacksMemory input output faults status →
+    ReportsUsage (usage_report d words usage) input output faults status ⊎ LacksMemory input output faults status
 of_known c d words usage input output faults status e t =
-    subst (λ (k : CommandLine). TellsUsage (usage_report k words usage) input output faults status ⊎ LacksMemory input output faults status) e t
+    subst (λ (k : CommandLine). ReportsUsage (usage_report k words usage) input output faults status ⊎ LacksMemory input output faults status) e t
 
--- all answers by what is known and a usage text that are equal to others
+-- The answers for a command line and a usage text are the answers for an equal command line and an equal text.
 pub of_words : (program : Text) (c d : CommandLine) (words : List Text) (usage text : Text) (input output faults : Device) (status : ℕ) → c ≡ d → usage ≡ text →
     AnswersWords program c words usage input output faults status → AnswersWords program d words text input output faults status
 of_words program c d words usage text input output faults status known is a =
     subst (λ (u : Text). AnswersWords program d words u input output faults status) is
     (subst (λ (k : CommandLine). AnswersWords program k words usage input output faults status) known a)
 
--- out of memory is an answer to all words
+-- Running out of memory is an answer to any words.
 pub of_memory : (program : Text) (c : CommandLine) (words : List Text) (usage : Text) (input output faults : Device) (status : ℕ) →
     LacksMemory input output faults status → AnswersWords program c words usage input output faults status
 of_memory program c words usage input output faults status m = record {
@@ -36,12 +36,12 @@ of_memory program c words usage input output faults status m = record {
   fault = λ none other. inr m;
 }
 
--- a text that is equal to one that was printed
+-- A text that equals a printed text is printed.
 pub of_printed : (text shown : Text) (input output faults : Device) (status : ℕ) → text ≡ shown → Prints text input output faults status →
     Prints shown input output faults status
 of_printed text shown input output faults status is p = subst (λ (t : Text). Prints t input output faults status) is p
 
--- one of the three answers is an answer
+-- Each of the three kinds of answer is an answer.
 
 both : (b : Bool) → b ≡ true → b ≡ false → ⊥
 both b is unlike = let clash : true ≡ false = sym is ∙ unlike in absurd cc
@@ -65,11 +65,11 @@ of_help program c words usage fault input output faults status same none is p = 
 
 pub of_fault : (program : Text) (c : CommandLine) (words : List Text) (usage : Text) (fault : Option WordFault) (input output faults : Device) (status : ℕ) →
     fault ≡ first_fault c words → asks_version words ≡ false → is_help_fault fault ≡ false →
-    TellsUsage (fault_line c words fault ++ (hint_line c words fault ++ usage)) input output faults status ⊎ LacksMemory input output faults status →
+    ReportsUsage (fault_line c words fault ++ (hint_line c words fault ++ usage)) input output faults status ⊎ LacksMemory input output faults status →
     AnswersWords program c words usage input output faults status
 of_fault program c words usage fault input output faults status same none is t = record {
   version = λ alike. absurd (both (asks_version words) alike none);
   help = λ unlike wants. absurd (both (is_help_fault fault) (ap is_help_fault same ∙ wants) is);
-  fault = λ unlike isnt. subst (λ (f : Option WordFault). TellsUsage (fault_line c words f ++ (hint_line c words f ++ usage)) input output faults status
+  fault = λ unlike isnt. subst (λ (f : Option WordFault). ReportsUsage (fault_line c words f ++ (hint_line c words f ++ usage)) input output faults status
       ⊎ LacksMemory input output faults status) same t;
 }

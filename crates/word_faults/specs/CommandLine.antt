@@ -11,7 +11,7 @@ pub record CommandLine : Type 0 where
   pub takes_value : Text → Option Bool
   pub reads : Text → Text → Bool
   pub is_word : Text → Bool
-  pub stands_alone : Text → Bool
+  pub must_be_alone : Text → Bool
   pub required : Option Text
   pub apart : Text → Text
   pub takes : Text → Text

@@ -1,15 +1,15 @@
 -- The report of a usage error, and the output of `--version`.
-use Rattle.std.specs.Prelude.{◌≡◌, ◌⊎◌, ◌+◌, ◌&&◌, ◌||◌, ℕ, Bool, true, false, not, List, [], ◌∷◌, ◌++◌, Option, Some, None, codes, slice_get, unwrap_or}
+use Rattle.std.specs.Prelude.{◌≡◌, ◌⊎◌, ◌+◌, ◌==◌, ◌&&◌, ◌||◌, ℕ, Bool, true, false, not, List, [], ◌∷◌, ◌++◌, length, Option, Some, None, codes, slice_get, unwrap_or}
 use Rattle.std.specs.Str.{bytes_eq}
 use Rattle.devices.specs.Devices.{Device, HasFailed, IsClean, IsUntouched, Takes}
 use Rattle.devices.specs.Lines.{Reports, Stopped}
 use Rattle.devices.specs.Outcomes.{halt_line}
 use Rattle.devices.specs.Runs.{LacksMemory}
-use Rattle.devices.specs.Usage.{TellsUsage}
+use Rattle.devices.specs.Usage.{ReportsUsage}
 use Rattle.devices.specs.declared.halt.Halt.TheVariants.{Write}
 use Rattle.word_faults.specs.CommandLine.{CommandLine, Text}
 use Rattle.word_faults.specs.Hints.{meant_line}
-use Rattle.word_faults.specs.WordFaults.{first_fault, is_dashed, option_in}
+use Rattle.word_faults.specs.WordFaults.{first_fault, option_in}
 use Rattle.word_faults.specs.declared.word_fault.WordFault.{WordFault}
 use Rattle.word_faults.specs.declared.word_fault.Reason.{Reason}
 use Rattle.word_faults.specs.declared.word_fault.Reason.TheVariants.{Unknown, Twice, NoValue, BadValue, BadNextWord, Alone, Apart, Missing, Help}
@@ -44,9 +44,14 @@ fault_line c words (Some f) =
 abbrev pub usage_report : CommandLine → List Text → Text → Text
 usage_report c words usage = fault_line c words (first_fault c words) ++ usage
 
+-- two hyphens first, or a hyphen and one byte after it
+abbrev pub has_option_form : Text → Bool
+has_option_form (x ∷ y ∷ rest) = x == 45 && (y == 45 || length rest == 0)
+has_option_form word = false
+
 -- a word that may be the name of a file after `--`
 abbrev pub names_files : CommandLine → Text → Bool
-names_files c word = c.is_word (codes "--") && not (is_dashed word)
+names_files c word = c.is_word (codes "--") && not (has_option_form word)
 
 -- what to type instead: what the option takes, or the word that may be meant
 unfoldable pub hint_by : CommandLine → Reason → Text → Text
@@ -115,4 +120,4 @@ pub record AnswersWords (program : Text) (c : CommandLine) (words : List Text) (
   pub version : asks_version words ≡ true → Prints (version_text program) input output faults status
   pub help : asks_version words ≡ false → wants_help c words ≡ true → Prints usage input output faults status
   pub fault : asks_version words ≡ false → wants_help c words ≡ false →
-      TellsUsage (hinted_report c words usage) input output faults status ⊎ LacksMemory input output faults status
+      ReportsUsage (hinted_report c words usage) input output faults status ⊎ LacksMemory input output faults status

@@ -66,7 +66,7 @@ word_reason c has_word word = if c.is_word word && not has_word then None else S
 
 -- a word that has to be the only one: the version, or a word that allows no other
 abbrev pub is_alone : CommandLine → Text → Bool
-is_alone c word = bytes_eq word (codes "--version") || c.stands_alone word
+is_alone c word = bytes_eq word (codes "--version") || c.must_be_alone word
 
 abbrev pub alone_reason : List Text → List Text → Option Reason
 alone_reason before rest = if length before == 0 && length rest == 0 then None else Some Alone

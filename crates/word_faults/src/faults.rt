@@ -143,7 +143,7 @@ fn option_reason(
 fn is_alone(known: KnownWords, word: &str) -> bool
     ensures { result ≡ spec.is_alone (known_of known) word.now }
 {
-    word == "--version" || known.stands_alone(word)
+    word == "--version" || known.must_be_alone(word)
 }
 
 // Returns why a word that allows no other word cannot be taken.

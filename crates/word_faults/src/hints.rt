@@ -190,7 +190,8 @@ fn push_option(
     row: OptionRow,
 ) -> Result<(), AllocError>
     ensures { OnOk result (map (λ s. string_bytes s) words.new.items
-        ≡ map (λ s. string_bytes s) words.old.items ++ word_of (option_map (λ s. s.now) barred.entry) (view row.entry)) }
+        ≡ map (λ s. string_bytes s) words.old.items
+        ++ word_of (option_map (λ s. s.now) barred.entry) (view row.entry)) }
 {
     if let ValueKind::Word = row.value {
         return Ok(());

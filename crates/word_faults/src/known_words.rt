@@ -143,8 +143,8 @@ impl KnownWords {
     }
 
     /// Returns whether the word allows no other word.
-    pub(crate) fn stands_alone(self, word: &str) -> bool
-        ensures { result ≡ (spec.known_of self).stands_alone word.now }
+    pub(crate) fn must_be_alone(self, word: &str) -> bool
+        ensures { result ≡ (spec.known_of self).must_be_alone word.now }
     {
         is_among(self.alone, word) || is_alone(kind_but(self.barred, self.options, word))
     }

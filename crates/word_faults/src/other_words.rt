@@ -2,7 +2,7 @@
 ghost use Rattle.std.specs.Prelude.{◌≡◌, ◌++◌, ◌⊎◌, true, false, map};
 ghost use Rattle.devices.specs.Devices.{Device, IsUntouched, writes};
 ghost use Rattle.devices.specs.Runs.{LacksMemory};
-ghost use Rattle.devices.specs.Usage.{TellsUsage};
+ghost use Rattle.devices.specs.Usage.{ReportsUsage};
 ghost use Rattle.word_faults.specs.KnownWords.{known_of};
 ghost use Rattle.word_faults.specs.UsageReport as spec;
 
@@ -24,7 +24,7 @@ fn report_words<E: Sink>(
     faults: &mut E,
 ) -> u8
     ensures { (input output : Device) → IsUntouched input → IsUntouched output →
-        TellsUsage (spec.usage_report (known_of known) (map (λ s. s.now) words.now) usage.now) input output
+        ReportsUsage (spec.usage_report (known_of known) (map (λ s. s.now) words.now) usage.now) input output
         (writes E.Sink faults.old faults.new) result
         ⊎ LacksMemory input output (writes E.Sink faults.old faults.new) result }
 {
@@ -53,7 +53,7 @@ pub fn answer_other_words<W: Sink, E: Sink>(
         spec.Prints (spec.version_text program.now) input (writes W.Sink output.old output.new)
         (writes E.Sink faults.old faults.new) result }
     ensures usage { (input : Device) → IsUntouched input → spec.is_version (map (λ s. s.now) words.now) ≡ false →
-        TellsUsage (spec.usage_report (known_of known) (map (λ s. s.now) words.now) usage.now) input
+        ReportsUsage (spec.usage_report (known_of known) (map (λ s. s.now) words.now) usage.now) input
         (writes W.Sink output.old output.new) (writes E.Sink faults.old faults.new) result
         ⊎ LacksMemory input (writes W.Sink output.old output.new) (writes E.Sink faults.old faults.new) result }
 {
@@ -74,7 +74,7 @@ fn report_hinted<E: Sink>(
     faults: &mut E,
 ) -> u8
     ensures { (input output : Device) → IsUntouched input → IsUntouched output →
-        TellsUsage (spec.fault_line (known_of known) (map (λ s. s.now) words.now) fault
+        ReportsUsage (spec.fault_line (known_of known) (map (λ s. s.now) words.now) fault
         ++ (spec.hint_line (known_of known) (map (λ s. s.now) words.now) fault ++ usage.now)) input output
         (writes E.Sink faults.old faults.new) result
         ⊎ LacksMemory input output (writes E.Sink faults.old faults.new) result }

@@ -3,7 +3,7 @@ ghost use Rattle.std.specs.Prelude.{◌≡◌, ◌+◌, ◌++◌, IfOk, OnOk, ma
 ghost use Rattle.word_faults.specs.KnownWords.{known_of};
 ghost use Rattle.word_faults.specs.UsageReport as spec;
 
-use crate::faults::{first_fault, is_dashed, split_word};
+use crate::faults::{first_fault, split_word};
 use crate::known_words::KnownWords;
 use crate::word_fault::{Reason, WordFault};
 use std::alloc::{AllocError, Global};
@@ -81,11 +81,21 @@ fn write_fault(
     write_reason(text, reason, word, next, required, known.apart(option))
 }
 
+// Returns whether a word is two hyphens and more, or a hyphen and one byte, as options are.
+fn has_option_form(word: &str) -> bool
+    ensures { result ≡ spec.has_option_form word.now }
+{
+    match word.as_bytes() {
+        [first, second, rest @ ..] => *first == b'-' && (*second == b'-' || rest.is_empty()),
+        _ => false,
+    }
+}
+
 // Returns whether a word may be the name of a file after `--`.
 fn names_files(known: KnownWords, word: &str) -> bool
     ensures { result ≡ spec.names_files (known_of known) word.now }
 {
-    known.is_word("--") && !is_dashed(word)
+    known.is_word("--") && !has_option_form(word)
 }
 
 // Appends what to type instead of a word that cannot be taken.

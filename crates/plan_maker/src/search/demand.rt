@@ -79,7 +79,8 @@ pub fn demands<'a, A: Allocator>(
     period: u64,
 ) -> Result<Option<Vec<Demand<'a>, A>>, AllocError>
     requires { period ≤ 65536 }
-    ensures { IfOk result (λ found. option_map (λ ds. map demand_view ds.items) found ≡ spec.demands_of description.now period) }
+    ensures { IfOk result (λ found. option_map (λ ds. map demand_view ds.items) found
+        ≡ spec.demands_of description.now period) }
 {
     let mut demands = Vec::new(alloc);
     push_streams(&mut demands, description, period)?;
@@ -136,7 +137,8 @@ fn push_streams<'a, A: Allocator>(
     period: u64,
 ) -> Result<(), AllocError>
     requires { period ≤ 65536 }
-    ensures { OnOk result (map demand_view demands.new.items ≡ map demand_view demands.old.items ++ spec.stream_demands description.now period) }
+    ensures { OnOk result (map demand_view demands.new.items
+        ≡ map demand_view demands.old.items ++ spec.stream_demands description.now period) }
 {
     let kind = description.streams().len();
     let rate = description.rate().bits_per_second();
@@ -154,7 +156,8 @@ fn push_pcrs<'a, A: Allocator>(
     period: u64,
 ) -> Result<(), AllocError>
     requires { period ≤ 65536 }
-    ensures { OnOk result (map demand_view demands.new.items ≡ map demand_view demands.old.items ++ spec.pcr_demands description.now period) }
+    ensures { OnOk result (map demand_view demands.new.items
+        ≡ map demand_view demands.old.items ++ spec.pcr_demands description.now period) }
 {
     let kind = description.programs().len();
     let rate = description.rate().bits_per_second();
@@ -172,7 +175,8 @@ fn push_tables<'a, A: Allocator>(
     period: u64,
 ) -> Result<(), AllocError>
     requires { period ≤ 65536 }
-    ensures { OnOk result (map demand_view demands.new.items ≡ map demand_view demands.old.items ++ spec.table_demands description.now period) }
+    ensures { OnOk result (map demand_view demands.new.items
+        ≡ map demand_view demands.old.items ++ spec.table_demands description.now period) }
 {
     description.keeps_ranges();
     let kind = description.tables();

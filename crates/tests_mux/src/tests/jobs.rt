@@ -109,7 +109,7 @@ fn written(alloc: Global, job: &Job) -> Option<Written> {
 }
 
 /// Returns whether these bytes are at an offset.
-fn stands_at(output: &[u8], place: usize, bytes: &[u8]) -> bool {
+fn holds_at(output: &[u8], place: usize, bytes: &[u8]) -> bool {
     output.get(place..).unwrap_or(&[]).starts_with(bytes)
 }
 
@@ -125,7 +125,7 @@ fn is_answered(
         return None;
     }
     for (place, bytes) in places {
-        if !stands_at(&output, *place, *bytes) {
+        if !holds_at(&output, *place, *bytes) {
             return None;
         }
     }

@@ -58,7 +58,7 @@ static OTHER_BYTES: [u8; 11] = [
 ];
 
 /// Returns whether each change of this byte of the plan is refused, or makes the text of another plan.
-fn are_changes_told(alloc: Global, place: usize) -> Option<bool> {
+fn are_changes_reported(alloc: Global, place: usize) -> Option<bool> {
     for byte in &OTHER_BYTES {
         let text = changed(alloc, PLAN.as_bytes(), place, *byte)?;
         if reading(alloc, &text) == None {
@@ -69,9 +69,9 @@ fn are_changes_told(alloc: Global, place: usize) -> Option<bool> {
 }
 
 #[test]
-fn each_change_is_told(rt: HostRuntime) {
+fn each_change_is_reported(rt: HostRuntime) {
     for place in 0..PLAN.len() {
-        assert!(rt; are_changes_told(rt.alloc(), place) == Some(true));
+        assert!(rt; are_changes_reported(rt.alloc(), place) == Some(true));
     }
 }
 

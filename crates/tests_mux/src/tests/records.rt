@@ -66,8 +66,8 @@ fn byte_of(marks: Marks) -> u8 {
         (marks.flags.original, 1),
     ];
     let mut byte = 0u8;
-    for (stands, value) in &flags {
-        if *stands {
+    for (is_set, value) in &flags {
+        if *is_set {
             byte |= *value;
         }
     }

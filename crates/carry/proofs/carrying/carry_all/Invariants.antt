@@ -1,5 +1,5 @@
 use Rattle.std.proofs.Common.{◌≡◌, ◌<◌, ◌≤◌, ◌+◌, ◌-◌, ◌^◌, ℕ, List, Option, Some}
-use Rattle.carry.specs.RecordRuns.{after_records}
+use Rattle.carry.specs.RecordRuns.{IsOwn, after_records}
 use Rattle.packet_output.specs.Buffer.{IsOutput}
 use Rattle.carry.proofs.Runs.{Midway}
 use Rattle.carry.proofs.carrying.carry_all.Given as goal
@@ -13,9 +13,9 @@ invariant-records g l = record {
   reads : g.R.Source.fault_count l.input ≡ g.R.Source.fault_count l.fn.input;
   writes : g.W.Sink.fault_count l.output ≡ g.W.Sink.fault_count l.fn.output;
   rest : (xs : List ℕ) → g.R.Read.remaining l.fn.input ≡ Some xs → g.R.Read.remaining l.input ≡ Some (after_records l.index xs);
-  known : (xs : List ℕ) (start : Option (List ℕ)) (all : List ℕ) → g.R.Read.remaining l.fn.input ≡ Some xs →
-      IsOutput start (g.W.Write.contents l.fn.output) l.fn.packets all
-      → Midway l.pid l.id l.fn.packets.hex xs l.min_next_dts l.index l.counter (g.R.Read.remaining l.input) start (g.W.Write.contents l.output) l.packets all;
+  midway : (start : Option (List ℕ)) (all rest : List ℕ) → IsOutput start (g.W.Write.contents l.fn.output) l.fn.packets all →
+      IsOwn (g.R.Read.remaining l.input) rest → (bytes : List ℕ) × IsOwn (g.R.Read.remaining l.fn.input) bytes
+      × Midway l.pid l.id l.fn.packets.hex bytes l.min_next_dts l.index l.counter rest start (g.W.Write.contents l.output) l.packets all;
 }
 
 abbrev pub decreases-records : goal.decreases-records

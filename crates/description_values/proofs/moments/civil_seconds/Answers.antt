@@ -5,7 +5,7 @@ use mir.Val.{SFits}
 use Rattle.description_values.proofs.CivilTimes.{some_seconds, no_seconds}
 use Rattle.description_values.proofs.moments.civil_seconds.Goals as goal
 
--- the seconds that jiff gives are those of the six numbers
+-- The seconds that jiff returns are the seconds of the six numbers.
 pub returns-in-Ok : goal.returns-in-Ok
 returns-in-Ok c =
     let year : to_z w16 c.args.year ≡ pos c.args.year = to_z_pos w16 c.args.year (omega arith) in
@@ -20,7 +20,7 @@ returns-in-Ok c =
     rw (to_z-of_z fits, c.to_second.ensures.value, c.to_plain.ensures)
     (some_seconds c.args.year c.args.month c.args.day c.args.hour c.args.minute c.args.second c.in-Ok.time ok parts)
 
--- where jiff refuses, no calendar or clock has the six numbers
+-- If jiff refuses the six numbers, no calendar or clock has them.
 pub returns-in-Err : goal.returns-in-Err
 returns-in-Err c =
     let year : to_z w16 c.args.year ≡ pos c.args.year = to_z_pos w16 c.args.year (omega arith) in

@@ -11,7 +11,7 @@ none_there : {X : Type 0} (o : Option X) (r : Bool) → is_some o ≡ not r → 
 none_there None r e t = refl
 none_there (Some x) r e t = absurd (true≢false (e ∙ ap not t))
 
--- where nothing has ended, there is no event
+-- If nothing has ended, there is no event.
 quiet : (options : ViewOptions) (place : Place) (e : Entered) → e.lead ≡ None → e.header ≡ None → e.payload ≡ None → e.main ≡ None → e.unit ≡ None →
     ended_events options place (entered_view e) ≡ []
 unfolding Rattle.es_events.specs.EntryEvents.late_events

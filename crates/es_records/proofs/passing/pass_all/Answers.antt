@@ -33,8 +33,8 @@ returns-in-Ok-pass_last g c =
     (record { bytes = g.E.Write.contents c.args.faults.now; failed = g.E.Sink.fault_count c.args.faults.now })
     (record { bytes = g.E.Write.contents c.pass_pieces.new.faults; failed = g.E.Sink.fault_count c.pass_pieces.new.faults })
     (record { bytes = g.E.Write.contents c.pass_last.new.faults; failed = g.E.Sink.fault_count c.pass_last.new.faults })
-    c.in-Ok-pass_pieces.early c.in-Ok-pass_last.late c.either.result c.pass_pieces.new.stream m pieces.1
-    (c.in-Ok-pass_last.ensures c.args.feed m.came m.fed m.by) c.either.ensures
+    c.in-Ok-pass_pieces.early c.in-Ok-pass_last.late c.is_faulty_pass.result c.pass_pieces.new.stream m pieces.1
+    (c.in-Ok-pass_last.ensures c.args.feed m.came m.fed m.by) c.is_faulty_pass.ensures
 
 pub returns : goal.returns
 returns g c =

@@ -1,7 +1,7 @@
 use Rattle.std.proofs.Common.{◌≡◌, ◌∙◌, ◌||◌, true, List, ap, arith, sym}
 use Rattle.devices.specs.Devices.{Port, between}
 use Rattle.es_records.proofs.PassedStreams.{feed_ends, feed_fails, feeds_none, feeds_some, long_enough, long_first, long_more, long_refused, piece_fails}
-use Rattle.es_records.proofs.ToldLines.{joined_false, joined_true}
+use Rattle.es_records.proofs.ReportedLines.{joined_false, joined_true}
 use Rattle.fed_streams.specs.Feeding.{Fed}
 use Rattle.es_feed.specs.FedLines.{have_refusal}
 use Rattle.es_records.proofs.passing.pass_pieces.Goals as goal

@@ -9,6 +9,10 @@ pub returns-in-NoCat : goal.returns-in-NoCat
 unfolding rule_line
 returns-in-NoCat c = rw c.in-NoCat.is c.write_scrambled-in-NoCat.ensures
 
+pub returns-in-NoTable : goal.returns-in-NoTable
+unfolding rule_line
+returns-in-NoTable c = rw c.in-NoTable.is c.write_no_table.ensures
+
 pub returns-in-NotEmpty : goal.returns-in-NotEmpty
 unfolding rule_line
 returns-in-NotEmpty c = rw c.in-NotEmpty.is c.write_stay.ensures

@@ -11,6 +11,6 @@ returns-clause-streams c =
     let made = c.args.options.now.make_dts in
     let fs = map finding_view c.args.findings.now in
     let are : c.in_ok-streams.streams.items ≡ map (timed_stream fs) c.args.draft.streams =
-    c.in_ok-streams.ensures ∙ ap (λ (d : InputDraftView). map (timed_stream fs) d.streams) c.draft.view_is in
+    c.in_ok-streams.ensures.streams ∙ ap (λ (d : InputDraftView). map (timed_stream fs) d.streams) c.draft.view_is in
     λ all. are_streams made fs c.in_ok-streams.streams.items c.with_moved.result (subst (All (IsMoved made fs)) (sym are) all)
     c.with_moved.ensures.same c.with_moved.ensures.fits c.with_moved.ensures.stream_count

@@ -10,7 +10,7 @@ use Rattle.job_programs.specs.JobPrograms.{JobProgramView, job_programs, all_pro
 use Rattle.job_inputs.specs.JobInput.{service_warnings, with_streams}
 use Rattle.job_programs.specs.Warnings.{pid_warnings}
 use Rattle.job_units.specs.WireStreams.{wire_streams, all_left_out_warnings}
-use Rattle.job_programs.specs.JobTables.{job_tables, told}
+use Rattle.job_programs.specs.JobTables.{job_tables, reported}
 use Rattle.job_programs.specs.JobStreams.{WireStreamView}
 use Rattle.job_inputs.proofs.JobInputs.{all_warnings, in_pids}
 use Rattle.job_inputs.proofs.input_draft.with_pids.Goals as goal
@@ -43,17 +43,19 @@ returns-clause-value c =
     (c.deref-3.ensures.value ∙ made) in
     let tables : c.in_ok-tables.tables.items ≡ job_tables options.without c.args.count findings c.in_ok-programs.programs.items streams c.args.found.tables =
     search (rules, c.in_ok-tables.ensures) in
-    let left : c.told-told.result.items ≡ told c.in_ok-tables.tables.items c.push_service_warnings.new.warnings.items = search (rules, c.told-told.ensures) in
+    let left : c.reported-reported.result.items ≡ reported c.in_ok-tables.tables.items c.push_service_warnings.new.warnings.items =
+    search (rules, c.reported-reported.ensures) in
     let id = ap (λ (a : AssociationView). a.transport_stream_id) c.association.view_is in
     let value : Leads
     (with_streams options findings c.args.association.now.transport_stream_id c.in_ok-programs.programs.items c.in_ok-tables.tables.items
-    c.told-told.result.items streams) (finished options findings) c.with_streams.result =
+    c.reported-reported.result.items streams) (finished options findings) c.with_streams.result =
     search (rules, c.with_streams.ensures.value, id) in
     let warnings = all_warnings options c.args.count findings c.args.association.now c.args.named.now c.args.found c.args.assigned.items streams
     c.in_ok-warnings.warnings.items c.wire_streams.new.warnings.items c.job_programs.new.warnings.items c.push_stream_warnings.new.warnings.items
     c.push_service_warnings.new.warnings.items
     c.in_ok-warnings.ensures empties programs pids texts in
     in_pids options c.args.count findings c.args.association.now c.args.named.now c.args.found c.args.assigned.items streams
-    c.in_ok-programs.programs.items c.in_ok-tables.tables.items c.push_service_warnings.new.warnings.items c.told-told.result.items (finished options findings)
+    c.in_ok-programs.programs.items c.in_ok-tables.tables.items c.push_service_warnings.new.warnings.items c.reported-reported.result.items
+    (finished options findings)
     c.with_streams.result
     are made tables warnings left value

@@ -2,7 +2,7 @@ use Rattle.std.proofs.Common.{◌≡◌, ◌+◌, ◌<◌, ◌^◌, length}
 use Rattle.job_inputs.specs.JoinedInputs.{joined_inputs, with_inputs}
 use Rattle.job_inputs.proofs.joined_inputs.all_joined.Given as goal
 
--- those that are left come to those so far; there are never so many that their number is not one
+-- The remaining inputs are joined to the inputs so far, and their number always fits.
 abbrev pub invariant-inputs : goal.invariant-inputs
 invariant-inputs l = record {
   most : l.number + length l.left.items < 2 ^ 64;

@@ -3,7 +3,7 @@ use Rattle.job_programs.specs.Warnings.{option_warnings}
 use Rattle.job_programs.specs.declared.warning.Warning.{Warning}
 use Rattle.job_programs.proofs.option_warnings.push_option_warnings.Goals as goal
 
--- lists, one after the other
+-- Three lists are appended in order.
 three : (old a b c one two all : List Warning) → one ≡ old ++ a → two ≡ one ++ b → all ≡ two ++ c → all ≡ old ++ ((a ++ b) ++ c)
 three old a b c one two all first second third =
     rw (third, second, first) (ap (λ (ws : List Warning). ws ++ c) (append_assoc old a b) ∙ append_assoc old (a ++ b) c)

@@ -1,7 +1,8 @@
 use Rattle.std.proofs.Common.{◌≡◌, ◌∙◌, ◌++◌, ◌∷◌, [], List, map, ap, sym, refl, rules}
 use Rattle.pid_findings.specs.Shown.{finding_view}
-use Rattle.job_units.proofs.TakenStreams.{Taken, pids_of, taken_start, taken_more, taken_end}
+use Rattle.job_units.proofs.TakenStreams.{others_more, others_start, pids_of, taken_start, taken_more, taken_end}
 use Rattle.job_units.proofs.timed_streams.timed_streams.Goals as goal
+use Rattle.job_programs.specs.JobOptions.{is_among}
 use Rattle.job_units.specs.Moments.{StreamMomentsView, with_units, timed_stream}
 
 pub streams-init : goal.streams-init
@@ -10,6 +11,7 @@ streams-init c =
     record {
       taken = taken_start (map finding_view c.args.findings.now) c.as_slice-later.result.now c.from-left.result.items c.in_ok-timed.timed.items pids
           (let none : c.in_ok-timed.timed.items ≡ [] = search rules in none);
+      others = others_start (pids_of c.from-left.result.items) c.as_slice-later.result.now (map finding_view c.args.findings.now) pids;
       pids = refl;
     }
 
@@ -25,12 +27,20 @@ streams-preserved c =
           c.push.new.self.items
           c.streams.invariant.taken c.in-Some-split_first.ensures.cases.0 c.in-Some.ensures.items c.in_ok-units.ensures.units c.in_ok-units.ensures.others
           c.in_ok-timed_stream.ensures pushed;
+      others = others_more (pids_of c.from-left.result.items) c.streams.later.now c.in-Some-split_first.rest.now c.in-Some-split_first.pid.now old
+          (map finding_view c.streams.findings) (map finding_view c.units_of.new.findings) c.streams.invariant.others c.in-Some-split_first.ensures.cases.0
+          c.in_ok-units.ensures.own;
       pids = c.in_ok-units.ensures.pids ∙ c.streams.invariant.pids;
     }
 
-pub returns : goal.returns
-returns c =
+pub returns-clause-streams : goal.returns-clause-streams
+returns-clause-streams c =
     let none : c.streams.left.items ≡ [] = search rules in
     taken_end (map finding_view c.args.findings.now) (map finding_view c.streams.findings) c.streams.later.now c.streams.left.items
     (map (timed_stream (map finding_view c.args.findings.now)) c.from-left.result.items) c.streams.timed.items c.streams.invariant.taken none
     ∙ ap (map (timed_stream (map finding_view c.args.findings.now))) c.from-left.ensures.0
+
+pub returns-clause-others : goal.returns-clause-others
+returns-clause-others c =
+    let same : pids_of c.from-left.result.items ≡ pids_of c.args.streams.items = ap pids_of c.from-left.ensures.0 in
+    λ pid none. c.streams.invariant.others.stay pid (ap (is_among pid) same ∙ none)

@@ -1,3 +1,4 @@
+use Rattle.laws_monitor.proofs.QuietEnds.{ends}
 use Rattle.laws_monitor.proofs.Tables.{gap_law, table_law}
 use Rattle.laws_monitor.proofs.TableErrors.{nit_errors, sdt_errors, tdt_errors}
 use Rattle.laws_monitor.proofs.laws.tables.Goals as goal
@@ -16,3 +17,6 @@ returns-clause-sdt c = sdt_errors
 
 pub returns-clause-tdt : goal.returns-clause-tdt
 returns-clause-tdt c = tdt_errors
+
+pub returns-clause-ends : goal.returns-clause-ends
+returns-clause-ends c = ends

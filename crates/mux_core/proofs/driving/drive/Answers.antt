@@ -2,8 +2,8 @@ use Rattle.std.proofs.Common.{◌≡◌, ◌∷◌, [], ℕ, List, length, map, 
 use Rattle.mux_core.specs.Histories.{bytes_of}
 use Rattle.mux_core.specs.Headline.{Headline}
 use Rattle.mux_core.specs.declared.driving.Event.{Event}
-use Rattle.mux_core.specs.Events.{Step, FeedStep, SlotStep, shown, history_after, Adds, StandsOn}
-use Rattle.mux_core.proofs.EventSteps.{Driven, driven_none, driven_more, driven_unit, driven_stands, driven_adds, driven_headline}
+use Rattle.mux_core.specs.Events.{Step, FeedStep, SlotStep, shown, history_after, Adds, StillRepresents}
+use Rattle.mux_core.proofs.EventSteps.{Driven, driven_none, driven_more, driven_unit, driven_represents, driven_adds, driven_headline}
 use Rattle.mux_core.proofs.driving.drive.Goals as goal
 
 pub events-init : goal.events-init
@@ -29,7 +29,7 @@ events-preserved-in-Feed g c =
           (λ (l : List Step). Driven h c.args.mux.now c.events.mux (map (shown {A = g.row.A.Denot}) c.from-left.result.items) l c.args.out.now.items
           c.events.out.items) next
           (c.events.invariant.driven h st) in
-          let on = c.take_unit.ensures w.so_far w.stands.stands in
+          let on = c.take_unit.ensures w.so_far w.represents.represents in
           driven_more h c.args.mux.now c.events.mux c.take_unit.new.mux (map (shown {A = g.row.A.Denot}) c.from-left.result.items) left
           (FeedStep c.in-Feed.stream c.in-Feed.unit)
           c.args.out.now.items c.events.out.items c.events.out.items w on.0 (driven_unit c.events.mux.schedule w.so_far _ c.events.out.items on.1);
@@ -55,16 +55,17 @@ events-preserved g c =
           c.events.out.items) next
           (c.events.invariant.driven h st) in
           driven_more h c.args.mux.now c.events.mux c.write_slot.new.mux (map (shown {A = g.row.A.Denot}) c.from-left.result.items) left SlotStep
-          c.args.out.now.items c.events.out.items c.write_slot.new.out.items w (c.write_slot.ensures.stands w.so_far w.stands.stands)
-          (c.write_slot.ensures.written w.so_far w.stands.stands);
+          c.args.out.now.items c.events.out.items c.write_slot.new.out.items w (c.write_slot.ensures.represents w.so_far w.represents.represents)
+          (c.write_slot.ensures.written w.so_far w.represents.represents);
     }
 
-pub returns-clause-stands : goal.returns-clause-stands
-returns-clause-stands g c = λ h st.
+pub returns-clause-represents : goal.returns-clause-represents
+returns-clause-represents g c = λ h st.
     let none : c.events.left.items ≡ [] = search rules in
-    subst (λ (l : List (Event g.row.A.Denot)). StandsOn (history_after c.args.mux.now.schedule c.args.mux.now.capacity h (map (shown {A = g.row.A.Denot}) l))
+    subst (λ (l : List (Event g.row.A.Denot)). StillRepresents
+    (history_after c.args.mux.now.schedule c.args.mux.now.capacity h (map (shown {A = g.row.A.Denot}) l))
     c.args.mux.now c.events.mux) c.from-left.ensures.0
-    (driven_stands h c.args.mux.now c.events.mux _ _ _ _ (c.events.invariant.driven h st) (ap (map (shown {A = g.row.A.Denot})) none))
+    (driven_represents h c.args.mux.now c.events.mux _ _ _ _ (c.events.invariant.driven h st) (ap (map (shown {A = g.row.A.Denot})) none))
 
 pub returns-clause-written : goal.returns-clause-written
 returns-clause-written g c = λ h st.

@@ -1,10 +1,10 @@
 use Rattle.std.proofs.Common.{◌≡◌, ◌++◌, ℕ, List, sym, subst, rules}
 use Rattle.mux_core.specs.Events.{SlotStep, step_history, Adds}
-use Rattle.mux_core.proofs.EventSteps.{slot_given, slot_added, done_stands, done_added}
+use Rattle.mux_core.proofs.EventSteps.{slot_given, slot_added, done_represents, done_added}
 use Rattle.mux_core.proofs.driving.write_slot.Goals as goal
 
-pub returns-in-Ok-clause-stands : goal.returns-in-Ok-clause-stands
-returns-in-Ok-clause-stands g c = λ h st. slot_given h c.args.mux.now c.next_packet.new.self c.in-Ok.packet (c.in-Ok.ensures.next h st)
+pub returns-in-Ok-clause-represents : goal.returns-in-Ok-clause-represents
+returns-in-Ok-clause-represents g c = λ h st. slot_given h c.args.mux.now c.next_packet.new.self c.in-Ok.packet (c.in-Ok.ensures.next h st)
 
 pub returns-in-Ok-clause-written : goal.returns-in-Ok-clause-written
 returns-in-Ok-clause-written g c = λ h st.
@@ -13,8 +13,9 @@ returns-in-Ok-clause-written g c = λ h st.
     (sym items)
     (slot_added h c.args.mux.now c.next_packet.new.self c.in-Ok.packet c.args.out.now.items (c.in-Ok.ensures.next h st))
 
-pub returns-in_default-clause-stands : goal.returns-in_default-clause-stands
-returns-in_default-clause-stands g c = λ h st. done_stands h c.args.mux.now c.next_packet.new.self c.in_default.field-0 st (c.in_default.ensures.next h st)
+pub returns-in_default-clause-represents : goal.returns-in_default-clause-represents
+returns-in_default-clause-represents g c =
+    λ h st. done_represents h c.args.mux.now c.next_packet.new.self c.in_default.field-0 st (c.in_default.ensures.next h st)
 
 pub returns-in_default-clause-written : goal.returns-in_default-clause-written
 returns-in_default-clause-written g c = λ h st.

@@ -3,7 +3,7 @@ use Rattle.std.specs.Prelude.{IfErr}
 use Rattle.std.proofs.Math.ListN.{set}
 use Rattle.mux_core.proofs.multiplexer.feed_stream.Goals as goal
 
--- what stands there written again changes nothing
+-- Setting an element to its own value changes nothing.
 set_same : {Q : Type 0} (qs : List Q) (i : ℕ) (q : Q) → q ≡ get_or qs i q → set qs i q ≡ qs
 set_same [] i q h = refl
 set_same {Q} (x ∷ qs) zero q h = ap (λ (y : Q). y ∷ qs) h

@@ -11,7 +11,7 @@ units-preserved g c = record {
       let w = subst (λ (l : List (ℕ × AccessUnit)). FedSoFar c.args.mux.now c.from-left.result.items c.units.mux c.units.index l) c.in-Some.ensures.items
       (c.units.invariant.fed st) in
       fed_more c.args.mux.now c.units.mux c.from-left.result.items c.units.index (c.in-Some.stream, c.in-Some.unit) c.pop_front.new.self.items c.feed.new.self w
-      (c.in-Ok.ensures.takes (job_history w.fed 0) w.stands);
+      (c.in-Ok.ensures.takes (job_history w.fed 0) w.represents);
 }
 
 pub returns-in-Err : goal.returns-in-Err
@@ -22,7 +22,7 @@ returns-in-Err g c = record {
       ap (λ (l : List (ℕ × AccessUnit)). first_refused c.args.mux.now.schedule c.args.mux.now.capacity [] l) (sym c.from-left.ensures.0)
       ∙ fed_refused c.args.mux.now c.units.mux c.from-left.result.items c.units.index (c.in-Some.stream, c.in-Some.unit) c.pop_front.new.self.items
       c.in-Err.cause c.feed.new.self w
-      (c.in-Err.ensures.takes (job_history w.fed 0) w.stands);
+      (c.in-Err.ensures.takes (job_history w.fed 0) w.represents);
 }
 
 pub returns : goal.returns

@@ -1,7 +1,7 @@
 use Rattle.std.proofs.Common.{◌≡◌, ℕ, List, [], Option}
 use Rattle.packet_output.specs.Buffer.{IsOutput}
 use Rattle.mux_core.specs.Histories.{History}
-use Rattle.mux_core.specs.MuxStates.{Stands}
+use Rattle.mux_core.specs.MuxStates.{Represents}
 use Rattle.mux_core.proofs.JobWriting.{SlotsWritten}
 use Rattle.mux_core.proofs.multiplexing.write_slots.Given as goal
 
@@ -9,6 +9,6 @@ abbrev pub invariant-slots : goal.invariant-slots
 invariant-slots g l = record {
   hex : l.packets.hex ≡ l.fn.packets.hex;
   clean : g.W.Sink.fault_count l.to ≡ g.W.Sink.fault_count l.fn.to;
-  written : (h : History) (start : Option (List ℕ)) → Stands h l.fn.mux → h.slots ≡ 0 → IsOutput start (g.W.Write.contents l.fn.to) l.fn.packets []
+  written : (h : History) (start : Option (List ℕ)) → Represents h l.fn.mux → h.slots ≡ 0 → IsOutput start (g.W.Write.contents l.fn.to) l.fn.packets []
       → SlotsWritten h l.fn.mux l.mux l.fn.packets.hex l.counter start (g.W.Write.contents l.to) l.packets;
 }

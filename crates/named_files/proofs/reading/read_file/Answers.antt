@@ -16,6 +16,6 @@ returns g c =
     (record { bytes = g.F.Reader.Read.remaining c.read_whole.new.input; failed = g.F.Reader.Source.fault_count c.read_whole.new.input }) in (
       stops_unread files _ input _ c.in-Err.halt c.in-Some.ensures.opens c.in-Some.ensures.reader
           (λ e f. g.met.F.NamedFiles.counts_none e c.in-Some.file c.read_whole.new.input f) c.in-Err.ensures
-          c.report_unread.ensures.tells,
+          c.report_unread.ensures.reports_text,
       c.report_unread.ensures.status,
     )

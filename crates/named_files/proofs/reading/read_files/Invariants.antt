@@ -8,5 +8,5 @@ abbrev pub invariant-loop-name : goal.invariant-loop-name
 invariant-loop-name g l = record {
   bytes : HaveBytes (files_of (g.F.NamedFiles.contents_of l.files) (g.F.NamedFiles.opens l.files) g.F.NamedFiles.never_fails)
       (take l.name-index (map (λ s. s.now) l.names)) l.all.items;
-  told : port (g.E.Write.contents l.faults) (g.E.Sink.fault_count l.faults) ≡ port (g.E.Write.contents l.fn.faults) (g.E.Sink.fault_count l.fn.faults);
+  reported : port (g.E.Write.contents l.faults) (g.E.Sink.fault_count l.faults) ≡ port (g.E.Write.contents l.fn.faults) (g.E.Sink.fault_count l.fn.faults);
 }

@@ -11,10 +11,11 @@ returns-then-is_tick g c = λ run a carries promises near.
 pub returns-in-Ok : goal.returns-in-Ok
 returns-in-Ok g c = λ run a carries promises near.
     let unit : is_tick (c.args.stream, c.args.unit) ≡ false = sym c.is_tick.ensures ∙ c.if-is_tick.false in
-    fed run a c.args.mux.now c.feed.new.self (c.args.stream, c.args.unit) carries promises near unit (c.in-Ok.ensures.takes (job_of a) carries.stands)
+    fed run a c.args.mux.now c.feed.new.self (c.args.stream, c.args.unit) carries promises near unit (c.in-Ok.ensures.takes (job_of a) carries.represents)
 
 pub returns-in-Err : goal.returns-in-Err
 returns-in-Err g c = λ run a carries promises near.
     let unit : is_tick (c.args.stream, c.args.unit) ≡ false = sym c.is_tick.ensures ∙ c.if-is_tick.false in
-    unfed run a c.args.mux.now c.feed.new.self (c.args.stream, c.args.unit) c.in-Err.cause carries near unit (c.in-Err.ensures.takes (job_of a) carries.stands)
+    unfed run a c.args.mux.now c.feed.new.self (c.args.stream, c.args.unit) c.in-Err.cause carries near unit
+    (c.in-Err.ensures.takes (job_of a) carries.represents)
     c.in-Err.ensures.handed_back.1

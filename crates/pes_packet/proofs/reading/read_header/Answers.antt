@@ -1,4 +1,4 @@
--- The reading function is the table of fields, both ways.
+-- The reading function agrees with the table of fields in both directions.
 use Rattle.std.proofs.Common.{◌∙◌, arith}
 use Rattle.pes_packet.proofs.reading.read_header.Goals as goal
 use Rattle.pes_packet.proofs.HeaderFields.{is_found, header_is_read}

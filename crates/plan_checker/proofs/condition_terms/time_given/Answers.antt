@@ -2,7 +2,7 @@ use Rattle.std.proofs.Common.{ℕ, ◌+◌, ◌-◌, ◌*◌, ◌^◌, ◌≤◌
 use Rattle.std.proofs.lemmas.Nat.{mul-le}
 use Rattle.plan_checker.proofs.condition_terms.time_given.Goals as goal
 
--- the decoding time of the last unit in a row, after that of the first
+-- The decoding time of the last unit in a row, counted from the first, is within its bound.
 time_most : (lead units interval : ℕ) → lead ≤ 90000 → units ≤ 64 → interval ≤ 90000 → lead + (units - 1) * interval ≤ 5760000
 time_most lead units interval a b d = omega (arith, a, mul-le (units - 1) interval 63 90000 (omega arith) d)
 

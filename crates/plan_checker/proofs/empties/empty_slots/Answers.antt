@@ -42,7 +42,7 @@ loop-at-preserved c =
           c.loop-at.invariant.walks);
     }
 
--- the walk over the whole period
+-- The walk has passed the whole period.
 at_end : (rate drain start : ℕ) (item : Item) (slots : List Slot) (at : ℕ) (w : EmptyWalk) → at ≡ length slots →
     Walks (empty_slots rate drain start (marks item slots)) at w →
     Walks (empty_slots rate drain start (marks item slots)) (length (empty_slots rate drain start (marks item slots))) w

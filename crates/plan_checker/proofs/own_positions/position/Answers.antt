@@ -6,7 +6,7 @@ use Rattle.slot_plan.specs.Items.{marks}
 use Rattle.plan_checker.proofs.own_positions.position.Goals as goal
 use Rattle.plan_checker.proofs.OwnMarks.{position_split}
 
--- own slot number i is that of the first period, as many periods on
+-- The position of own slot number i is a position in the first period, plus whole periods.
 split : (item : Item) (slots : List Slot) (i count first : ℕ) → count ≡ per_period (marks item slots) → 0 < per_period (marks item slots) →
     first ≡ position (marks item slots) (i % count) → first + i / count * length slots ≡ position (marks item slots) i
 split item slots i count first e pos f =

@@ -1,4 +1,4 @@
--- The least rate was looked for among the shares and what recurs of this description.
+-- The least rate is searched among the shares and the recurring packets of this description.
 use Rattle.std.proofs.Common.{◌≡◌, List, refl, rules, subst}
 use Rattle.stream_choice.specs.Rates.{IsTooMuch}
 use Rattle.stream_choice.specs.declared.recurring.Recurring.{Recurring}

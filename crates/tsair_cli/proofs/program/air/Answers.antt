@@ -9,9 +9,9 @@ returns-in-Err g c = λ run h.
     let begin : Port = record { bytes = g.W.Write.contents c.args.output.now; failed = g.W.Sink.fault_count c.args.output.now } in
     let mid : Port = record { bytes = g.W.Write.contents c.hear_all.new.output; failed = g.W.Sink.fault_count c.hear_all.new.output } in
     let before : Port = record { bytes = g.E.Write.contents c.args.faults.now; failed = g.E.Sink.fault_count c.args.faults.now } in
-    let told : Port = record { bytes = g.E.Write.contents c.hear_all.new.faults; failed = g.E.Sink.fault_count c.hear_all.new.faults } in
+    let so_far : Port = record { bytes = g.E.Write.contents c.hear_all.new.faults; failed = g.E.Sink.fault_count c.hear_all.new.faults } in
     let after : Port = record { bytes = g.E.Write.contents c.report_halt.new.faults; failed = g.E.Sink.fault_count c.report_halt.new.faults } in
-    records_failed c.args.options run input (between begin mid) before told after c.in-Err.field-0.sent _ (c.in-Err.ensures run begin.bytes h)
+    records_failed c.args.options run input (between begin mid) before so_far after c.in-Err.field-0.sent _ (c.in-Err.ensures run begin.bytes h)
     c.report_halt.ensures.reports
     c.report_halt.ensures.status
 
@@ -23,10 +23,10 @@ returns-in-Ok-end g c = λ run h.
     let mid : Port = record { bytes = g.W.Write.contents c.hear_all.new.output; failed = g.W.Sink.fault_count c.hear_all.new.output } in
     let end : Port = record { bytes = g.W.Write.contents c.end.new.to; failed = g.W.Sink.fault_count c.end.new.to } in
     let before : Port = record { bytes = g.E.Write.contents c.args.faults.now; failed = g.E.Sink.fault_count c.args.faults.now } in
-    let told : Port = record { bytes = g.E.Write.contents c.hear_all.new.faults; failed = g.E.Sink.fault_count c.hear_all.new.faults } in
+    let so_far : Port = record { bytes = g.E.Write.contents c.hear_all.new.faults; failed = g.E.Sink.fault_count c.hear_all.new.faults } in
     let after : Port = record { bytes = g.E.Write.contents c.report_end.new.faults; failed = g.E.Sink.fault_count c.report_end.new.faults } in
     let e = c.in-Ok.ensures run begin.bytes h in
-    run_ended c.args.options run input begin mid end before told after c.in-Ok.end c.hear_all.new.on_air c.end.new.self c.records.result _ e
+    run_ended c.args.options run input begin mid end before so_far after c.in-Ok.end c.hear_all.new.on_air c.end.new.self c.records.result _ e
     (c.in-Ok-end.ensures.ok run e.airs.came begin.bytes e.state) c.in-Ok-end.ensures.out c.in-Ok-end.ensures.clean c.records.ensures c.report_end.ensures.report
     c.report_end.ensures.status
 
@@ -38,10 +38,10 @@ returns-in-Err-end g c = λ run h.
     let mid : Port = record { bytes = g.W.Write.contents c.hear_all.new.output; failed = g.W.Sink.fault_count c.hear_all.new.output } in
     let end : Port = record { bytes = g.W.Write.contents c.end.new.to; failed = g.W.Sink.fault_count c.end.new.to } in
     let before : Port = record { bytes = g.E.Write.contents c.args.faults.now; failed = g.E.Sink.fault_count c.args.faults.now } in
-    let told : Port = record { bytes = g.E.Write.contents c.hear_all.new.faults; failed = g.E.Sink.fault_count c.hear_all.new.faults } in
+    let so_far : Port = record { bytes = g.E.Write.contents c.hear_all.new.faults; failed = g.E.Sink.fault_count c.hear_all.new.faults } in
     let after : Port =
     record { bytes = g.E.Write.contents c.report_halt-in-Err-end.new.faults; failed = g.E.Sink.fault_count c.report_halt-in-Err-end.new.faults } in
     let e = c.in-Ok.ensures run begin.bytes h in
-    end_failed c.args.options run input begin mid end before told after c.in-Ok.end c.hear_all.new.on_air c.in-Err-end.field-0.sent _ e
+    end_failed c.args.options run input begin mid end before so_far after c.in-Ok.end c.hear_all.new.on_air c.in-Err-end.field-0.sent _ e
     (c.in-Err-end.ensures.err run e.airs.came begin.bytes e.state) c.in-Err-end.ensures.fault c.report_halt-in-Err-end.ensures.reports
     c.report_halt-in-Err-end.ensures.status

@@ -22,8 +22,8 @@ returns-in-Err-begin g c =
     let before : Port = record { bytes = g.R.Read.remaining c.args.input.now; failed = g.R.Source.fault_count c.args.input.now } in
     let left : Port = record { bytes = g.R.Read.remaining c.read_front.new.input; failed = g.R.Source.fault_count c.read_front.new.input } in
     let out : Port = record { bytes = g.W.Write.contents c.args.output.now; failed = g.W.Sink.fault_count c.args.output.now } in
-    let told : Port = record { bytes = g.E.Write.contents c.args.faults.now; failed = g.E.Sink.fault_count c.args.faults.now } in
+    let so_far : Port = record { bytes = g.E.Write.contents c.args.faults.now; failed = g.E.Sink.fault_count c.args.faults.now } in
     let after : Port = record { bytes = g.E.Write.contents c.report_begin.new.faults; failed = g.E.Sink.fault_count c.report_begin.new.faults } in
-    not_begun c.args.options (between before left) (between out out) (between told after) _ (plans_view c.in-Ok.plans []) c.in-Err-begin.cause
+    not_begun c.args.options (between before left) (between out out) (between so_far after) _ (plans_view c.in-Ok.plans []) c.in-Err-begin.cause
     (begun c.args.options before left c.in-Ok.plans c.is_some.result c.is_some.ensures c.in-Ok.ensures) c.in-Err-begin.ensures.refused refl
     c.report_begin.ensures.report c.report_begin.ensures.status

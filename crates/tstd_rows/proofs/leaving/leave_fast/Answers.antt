@@ -6,7 +6,7 @@ use Rattle.tstd_rows.proofs.EvenRows.{no_bytes, fast_left, fast_last}
 use Rattle.tstd_rows.proofs.SoonRows.{rows_soon}
 use Rattle.tstd_rows.proofs.leaving.leave_fast.Goals as goal
 
--- the first of the row, or the byte before it
+-- The first byte begins to leave at its arrival or when the byte before it has left, whichever is later.
 first : (c : goal.After-leaving_rows) → c.max-first.result ≡ max (c.args.row.now.from / c.args.row.now.parts) c.args.prev
 first c =
     let e : c.args.row.now.from + 0 * c.args.row.now.pace ≡ c.args.row.now.from = omega arith in

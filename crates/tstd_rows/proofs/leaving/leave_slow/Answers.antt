@@ -5,12 +5,12 @@ use Rattle.tstd_rows.proofs.SoonRows.{rows_soon}
 use Rattle.tstd_rows.proofs.leaving.leave_slow.Goals as goal
 use Rattle.tstd_rows.proofs.leaving.leave_slow.Goals.{then-count-row, else-count-row}
 
--- those that wait gain less on one another than the first lacks
+-- The bytes that wait have not made up for the wait of the first byte.
 waits : (c : goal.After-leaving_rows) → (j : ℕ) → j < c.multiples_below-count.result →
     j * (c.args.row.now.pace - c.args.step * c.args.row.now.parts) < (c.args.prev + 1) * c.args.row.now.parts - c.args.row.now.from
 waits c = rw (c.saturating_sub-room.ensures, c.from.ensures, c.from-2.ensures, c.from-3.ensures, c.from-4.ensures) at c.multiples_below-count.ensures.below
 
--- where there are others, the first of them gains as much
+-- If there are bytes that do not wait, the first has made up for the wait.
 gains : (c : goal.After-leaving_rows) → c.multiples_below-count.result < c.args.row.now.bytes →
     (c.args.prev + 1) * c.args.row.now.parts - c.args.row.now.from ≤ c.multiples_below-count.result * (c.args.row.now.pace - c.args.step * c.args.row.now.parts)
 gains c = rw (c.saturating_sub-room.ensures, c.from.ensures, c.from-2.ensures, c.from-3.ensures, c.from-4.ensures) at c.multiples_below-count.ensures.next

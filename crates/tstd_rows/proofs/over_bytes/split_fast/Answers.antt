@@ -3,7 +3,7 @@ use Rattle.arrival.specs.declared.row.Row.{Row}
 use Rattle.tstd_rows.proofs.OverBytes.{fast_room, fast_over}
 use Rattle.tstd_rows.proofs.over_bytes.split_fast.Goals as goal
 
--- the first of the row, or the byte before it
+-- The first byte begins to leave at its arrival or when the byte before it has left, whichever is later.
 first : (c : goal.After-split) → c.max-first.result ≡ max (c.args.row.now.from / c.args.row.now.parts) c.args.prev
 first c =
     let e : c.args.row.now.from + 0 * c.args.row.now.pace ≡ c.args.row.now.from = omega arith in

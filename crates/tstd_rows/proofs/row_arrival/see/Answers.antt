@@ -13,12 +13,12 @@ use Rattle.tstd_rows.proofs.row_arrival.see.Goals as goal
 some_bytes : (n : ℕ) → 0 < n → n ≡ 0 → ⊥
 some_bytes n some none = omega (arith, some, none)
 
--- where the most that one finds is within the size, each finds room
+-- If the most bytes that a byte finds are within the size, each byte finds room.
 all_room : (buffer : TransportBuffer) (size most : ℕ) (row : Row) → most ≤ size → most ≡ most_found buffer.step buffer.last (times_of row) →
     AreOver false buffer.step size buffer.last (times_of row)
 all_room buffer size most row within is = none_over buffer.step size buffer.last (times_of row) (rw is at within)
 
--- the excess under way ends then, if there is one
+-- The current excess then ends, if there is one.
 ends : (buffer : TransportBuffer) (size : ℕ) (under_way : Option Excess) (row : Row) → 0 < row.bytes →
     AreOver false buffer.step size buffer.last (times_of row) →
     option_to_list under_way ≡ excesses_ended buffer.step size buffer.last under_way (times_of row)

@@ -4,7 +4,7 @@ use Rattle.tstd_rows.specs.declared.watched_queue.WatchedQueue.{WatchedQueue}
 use Rattle.tstd_rows.specs.TableQueues.{AreInTime}
 use Rattle.tstd_rows.proofs.system_view.pass_row.Goals as goal
 
--- when the last of so many bytes leaves the first buffer, and the second
+-- The last of `n` bytes leaves a buffer within the bound for all bytes so far.
 soon : (between prev step before n : ℕ) → between ≤ max (2 ^ 87) prev + n * step → prev ≤ 2 ^ 87 + before * 2 ^ 33 → step ≤ 2 ^ 33 →
     between ≤ 2 ^ 87 + (before + n) * 2 ^ 33
 soon between prev step before n le early slow = omega (arith, le, early, mul-le-mul_left n slow)
@@ -13,7 +13,7 @@ system_soon : (left between prev step before n : ℕ) → left ≤ max between p
     prev ≤ 2 ^ 87 + before * 2 ^ 34 → step ≤ 2 ^ 33 → left ≤ 2 ^ 87 + (before + n) * 2 ^ 34
 system_soon left between prev step before n le come early slow = omega (arith, le, come, early, mul-le-mul_left n slow)
 
--- a buffer whose last byte has come and leaves at these times, later than the one before
+-- A buffer whose last byte arrived and leaves at these times, later than the byte before it
 record IsLater (old new : WatchedQueue) (comes leaves : ℕ) : Type 0 where
   step : new.queue.step ≡ old.queue.step
   last : new.queue.last ≡ leaves

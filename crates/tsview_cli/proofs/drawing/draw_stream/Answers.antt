@@ -1,10 +1,14 @@
 use Rattle.std.proofs.Common.{refl, string_bytes}
 use Rattle.std.specs.Prelude.{if◌then◌else◌}
 use Rattle.devices.specs.Outcomes.{printed}
-use Rattle.devices.proofs.Performances.{reports_none, text_unwritten, text_written}
+use Rattle.devices.proofs.Performances.{reports_none, text_unwritten, text_written, unread}
 use Rattle.tsview_cli.specs.Drawing.{DrawsPage}
 use Rattle.tsview_cli.proofs.Drawn.{draws}
 use Rattle.tsview_cli.proofs.drawing.draw_stream.Goals as goal
+
+pub returns-in-Err : goal.returns-in-Err
+returns-in-Err g c =
+    unread (DrawsPage c.args.request) _ _ _ _ c.in-Err.halt c.in-Err.ensures refl c.report_halt.ensures.reports c.report_halt.ensures.status
 
 pub returns-in-Ok-write_text : goal.returns-in-Ok-write_text
 returns-in-Ok-write_text g c =

@@ -1,3 +1,5 @@
+use Rattle.std.proofs.Common.{◌++◌}
+use Rattle.unit_records.proofs.RecordFound.{found}
 use Rattle.unit_records.proofs.RecordReading.{at_end, start_refused, stamps_refused, bytes_refused, whole_record}
 use Rattle.unit_records.proofs.reading.read_unit.Goals as goal
 
@@ -24,3 +26,12 @@ returns-in-Err-read_bytes-clause-known g c = λ xs e.
     bytes_refused xs (g.R.Read.remaining c.read_start.new.from) (g.R.Read.remaining c.read_stamps.new.from) (g.R.Read.remaining c.read_bytes.new.from)
     c.in-Ok-Some.start c.in-Ok.stamps c.in-Err-read_bytes.refusal
     (rw c.in-Ok-Some.field-0-is at (c.in-Ok-Some.ensures.known xs e)) c.in-Ok.ensures.known c.in-Err-read_bytes.ensures.known
+
+pub returns-in-Ok-read_bytes-clause-found : goal.returns-in-Ok-read_bytes-clause-found
+returns-in-Ok-read_bytes-clause-found g c =
+    let start = rw c.in-Ok-Some.field-0-is at c.in-Ok-Some.ensures.found in
+    let stamps = c.in-Ok.ensures.found in (
+      (start.0 ++ stamps.0) ++ c.in-Ok-read_bytes.bytes.items,
+      rw (c.parted-bytes.ensures.marks, c.parted-bytes.ensures.bytes)
+          (found start.0 stamps.0 c.in-Ok-read_bytes.bytes.items c.in-Ok-Some.start c.in-Ok.stamps start.1 stamps.1 c.in-Ok-read_bytes.ensures.size),
+    )

@@ -10,7 +10,7 @@ returns-clause-before c =
     (all_before c.args.moment row.from row.pace row.parts c.multiples_below.result c.requires.timed.some
     (rw (c.saturating_sub-room.ensures, c.from.ensures, c.from-2.ensures) at c.multiples_below.ensures.below))
 
--- where others are left, the first of them comes no earlier
+-- If bytes remain, the first of them arrives no earlier than the moment.
 reached : (c : goal.After-split_at) → c.multiples_below.result < c.args.self.now.bytes →
     c.args.moment * c.args.self.now.parts - c.args.self.now.from ≤ c.multiples_below.result * c.args.self.now.pace
 reached c = rw (c.saturating_sub-room.ensures, c.from.ensures, c.from-2.ensures) at c.multiples_below.ensures.next

@@ -9,7 +9,7 @@ use Rattle.pid_findings.specs.Shown.{entry_with}
 use Rattle.demux.proofs.MapSteps.{state_at, stepped, unstepped}
 use Rattle.demux.proofs.states.States.step.Goals as goal
 
--- where the entry of a PID is in the same map
+-- The entry of a PID is at the same index in the same map.
 index_in : (pid i : ℕ) (new old : PidEntries PidState) → new ≡ old → Some i ≡ position (nat_eq pid) (keys_of old.entries) →
     position (nat_eq pid) (keys_of new.entries) ≡ Some i
 index_in pid i new old same at = rw same (sym at)

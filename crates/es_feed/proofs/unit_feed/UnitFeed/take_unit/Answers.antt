@@ -97,7 +97,7 @@ returns-clause-fed c =
     let due : c.due-due.result ≡ due_of feed = c.due-due.ensures.value ∙ ap (λ (v : FeedView). due_of v) (sym c.self.view_is) in
     let at = c.in-Some.ensures.value ∙ ap (λ (ss : List FedStreamView). place_from f.pid 0 ss) c.deref.ensures.value in
     let below : c.in-Some.k < length feed.streams = omega (arith, c.in-Some.ensures.bound, ap (length {A = FedStreamView}) c.deref.ensures.value) in
-    placed_fed feed f c.in-Some.k c.due-due.result c.in_ok-found.found.unit c.in_ok-found.found.told c.args.fed.now.items c.push_fed.new.fed.items
+    placed_fed feed f c.in-Some.k c.due-due.result c.in_ok-found.found.unit c.in_ok-found.found.reported c.args.fed.now.items c.push_fed.new.fed.items
     c.push_fed-2.new.fed.items at below due
-    c.in_ok-found.ensures.fed c.in_ok-found.ensures.told c.in_ok-push_fed.ensures c.in_ok-push_fed-2.ensures
+    c.in_ok-found.ensures.fed c.in_ok-found.ensures.reported c.in_ok-push_fed.ensures c.in_ok-push_fed-2.ensures
     ∙ ap (λ (v : FeedView). c.args.fed.now.items ++ fed_unit v f) c.self.view_is

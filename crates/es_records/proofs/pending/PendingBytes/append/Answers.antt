@@ -3,7 +3,7 @@ use Rattle.std.proofs.lemmas.List.{append_assoc, take_at, length-append, length-
 use Rattle.es_records.specs.Records.{PendingView}
 use Rattle.es_records.proofs.pending.PendingBytes.append.Goals as goal
 
--- what stands before a place and what is written over the bytes from there on
+-- The bytes before a place, and a part that is written over the bytes from that place on
 written_over : (room part now : List ℕ) (size : ℕ) → size ≤ length room → now ≡ take size room ++ (part ++ drop (size + length part) room) →
     take (size + length part) now ≡ take size room ++ part
 written_over room part now size within is =

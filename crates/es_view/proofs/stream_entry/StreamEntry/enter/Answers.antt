@@ -14,7 +14,7 @@ use Rattle.es_view.proofs.Framings.{whole_found, whole_video}
 use Rattle.es_view.proofs.Payloads.{alike_after, alike_events}
 use Rattle.es_view.proofs.stream_entry.StreamEntry.enter.Goals as goal
 
--- by PES packets
+-- A stream that is viewed by PES packets
 
 pub returns-in_ok-enter_whole-in-None-clause-entry : goal.returns-in_ok-enter_whole-in-None-clause-entry
 returns-in_ok-enter_whole-in-None-clause-entry c = λ e k.
@@ -62,7 +62,7 @@ returns-in_ok-enter_whole-in-None-clause-found c = λ e k.
     ∙ ap (λ (x : Arriving). events ++ whole_events options c.args.place.now x e.video e.held) same
     ∙ ap (λ (l : List Event). events ++ l) (whole_found options index clock c.args.place.now e packet none)
 
--- by access units
+-- A stream that is viewed by access units
 
 pub returns-in_ok-enter-in-Some-clause-entry : goal.returns-in_ok-enter-in-Some-clause-entry
 returns-in_ok-enter-in-Some-clause-entry c = λ e k.

@@ -3,7 +3,7 @@ use Rattle.description_parts.specs.Ranges.{IsInRange}
 use Rattle.plan_timing.specs.Promised.{Promised}
 use Rattle.mux_core.specs.MuxStates.{MuxState}
 use Rattle.mux_core.proofs.MuxStates.{gives}
-use Rattle.mux_core.proofs.Accepted.{standing}
+use Rattle.mux_core.proofs.Accepted.{any_state}
 use Rattle.mux_core.proofs.multiplexer.Mux.write_next.Goals as goal
 
 pub returns-clause-next : goal.returns-clause-next
@@ -19,4 +19,4 @@ returns-clause-headline g c = λ h st.
     let ranges : IsInRange old.schedule.description = subst (λ (m : MuxState). IsInRange m.schedule.description) c.self.view_is c.self.invariant.0 in
     let promised : Promised old.schedule.description old.schedule.schedule =
     subst (λ (m : MuxState). Promised m.schedule.description m.schedule.schedule) c.self.view_is c.self.invariant.1 in
-    standing h old (suc h.slots) ranges promised st
+    any_state h old (suc h.slots) ranges promised st

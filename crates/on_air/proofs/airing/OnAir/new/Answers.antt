@@ -13,7 +13,7 @@ returns-in-Ok-clause-begun g c = λ start.
     let room = c.numbers_of-of.ensures.room
     ∙ ap (λ (d : Described). room_by c.args.terms.room (room_of (greatest_lead d.streams + c.args.terms.wait) d.streams)) same in
     let carries : Carries (plan_run c.args.plan c.args.terms c.args.hex) empty_history c.in-Ok.mux =
-    record { stands = c.in-Ok.ensures.stands; scheduled = c.in-Ok.ensures.schedule; capacity = c.in-Ok.ensures.capacity ∙ room } in
+    record { represents = c.in-Ok.ensures.represents; scheduled = c.in-Ok.ensures.schedule; capacity = c.in-Ok.ensures.capacity ∙ room } in
     let ranges = subst (λ (d : Described). IsInRange d) c.description-2.ensures.description c.keeps_ranges.ensures in
     let promises : Promises (plan_schedule c.args.plan) =
     record { ranges = ranges; promised = c.accepted_plan.ensures c.args.plan.description c.args.plan.plan ranges c.description.ensures.serving } in

@@ -1,5 +1,5 @@
 use Rattle.std.proofs.Common.{◌≡◌, ◌+◌, true, false, refl, sym, ap, ◌∙◌, subst}
-use Rattle.mux_core.specs.MuxStates.{MuxState, Stands}
+use Rattle.mux_core.specs.MuxStates.{MuxState, Represents}
 use Rattle.on_air.specs.declared.leap.Leap.{Leap}
 use Rattle.on_air.specs.declared.options.Terms.{Terms}
 use Rattle.on_air.specs.Leaps.{is_followed}
@@ -23,7 +23,7 @@ returns-then-not-is_followed-clause-passes g c = λ run a entry start now h due 
 pub returns-clause-passes : goal.returns-clause-passes
 returns-clause-passes g c = λ run a entry start now h due far.
     let terms = ap (λ (x : AirState). x.terms) c.self.view_is in
-    let stands = subst (λ (m : MuxState). Stands (job_of a) m) (sym (ap (λ (x : AirState). x.mux) c.self.view_is)) h.mux.stands in
+    let represents = subst (λ (m : MuxState). Represents (job_of a) m) (sym (ap (λ (x : AirState). x.mux) c.self.view_is)) h.mux.represents in
     let leap = c.with-leap.ensures
     ∙ leap_same run a entry start now c.args.self.now c.self.inside.leap c.self.inside.terms.ahead c.args.due h (ap (λ (t : Terms). t.ahead) terms)
     (ap (λ (x : AirState). x.leap) c.self.view_is) due in
@@ -31,6 +31,6 @@ returns-clause-passes g c = λ run a entry start now h due far.
     ∙ c.if-not-is_followed.false in
     passed_last run a entry c.now-packet.result c.self.inside.greatest c.args.due start now c.args.self.now _ h
     (record { terms = terms; rate = ap (λ (x : AirState). x.rate) c.self.view_is; lead = ap (λ (x : AirState). x.lead) c.self.view_is }) far many
-    (c.now-packet.ensures (job_of a) stands) (ap (λ (x : AirState). x.greatest) c.self.view_is) due
+    (c.now-packet.ensures (job_of a) represents) (ap (λ (x : AirState). x.greatest) c.self.view_is) due
     (ap (λ (x : AirState). x.mux) c.self.view_is) (ap (λ (x : AirState). x.packets) c.self.view_is) refl c.none-self-inside.ensures
     (ap (λ (x : AirState). x.records + 1) c.self.view_is)

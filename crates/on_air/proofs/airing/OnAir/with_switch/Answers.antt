@@ -22,7 +22,7 @@ returns-in-Ok-clause-begun g c = λ start.
     let room = c.numbers_of-of.ensures.room
     ∙ ap (λ (d : Described). room_by c.args.terms.room (room_of (greatest_lead d.streams + c.args.terms.wait) d.streams)) same in
     let carries : Carries (switch_run c.args.switch c.args.periods c.args.terms c.args.hex) empty_history c.in-Ok.mux =
-    record { stands = c.in-Ok.ensures.stands; scheduled = c.in-Ok.ensures.schedule; capacity = c.in-Ok.ensures.capacity ∙ room } in
+    record { represents = c.in-Ok.ensures.represents; scheduled = c.in-Ok.ensures.schedule; capacity = c.in-Ok.ensures.capacity ∙ room } in
     let again = c.description-2.ensures.description ∙ ap (λ (p : Served). p.description) c.first-2.ensures.first in
     let ranges = subst (λ (d : Described). IsInRange d) again c.keeps_ranges.ensures in
     let serving = subst (λ (p : Served). IsServing p.description p.plan) c.first.ensures.first c.description.ensures.serving in

@@ -5,7 +5,7 @@ use Rattle.std.proofs.lemmas.Nat.{mul-le}
 use Rattle.clock27.proofs.MinMax.{max_is}
 use Rattle.plan_maker.proofs.reason.streams.units_lead.Goals as goal
 
--- a quotient of a number below 2 ^ 90 by one of at least 2 ^ 32
+-- A quotient of a number below 2 ^ 90 by a number of at least 2 ^ 32 is below 2 ^ 64.
 short : (x y : ℕ) → x < 2 ^ 90 → 2 ^ 32 ≤ y → div_ceil x y < 2 ^ 64
 short x y few some = omega (arith, div-mul-le_self x y, mul-le-mul_left (x / y) some, few)
 

@@ -12,10 +12,10 @@ pub returns-in-Ok-Some-clause-takes : goal.returns-in-Ok-Some-clause-takes
 returns-in-Ok-Some-clause-takes c =
     let s = rw c.in-Ok-Some.field-0-is at c.in-Ok-Some.ensures in
     passes_on c.pass_on.result c.args.self.now c.pass_on.new.self c.take.new.self c.args.byte (c.in-Ok-Some.stream, c.in-Ok-Some.unit) s.0 s.1
-    c.pass_on.ensures.frame c.pass_on.ensures.count c.pass_on.ensures.told c.pass_on.ensures.records c.pass_on.ensures.drops
+    c.pass_on.ensures.frame c.pass_on.ensures.count c.pass_on.ensures.reported c.pass_on.ensures.records c.pass_on.ensures.drops
 
 pub returns-in-Err-Dropped-clause-takes : goal.returns-in-Err-Dropped-clause-takes
 returns-in-Err-Dropped-clause-takes c =
     let s = rw c.in-Err-Dropped.field-0-is at c.in-Err-Dropped.ensures in
     notes_drop c.note_drop.result c.args.self.now c.note_drop.new.self c.take.new.self c.args.byte Dropped s.0 s.1
-    c.note_drop.ensures.frame c.note_drop.ensures.count c.note_drop.ensures.told c.note_drop.ensures.records c.note_drop.ensures.drops
+    c.note_drop.ensures.frame c.note_drop.ensures.count c.note_drop.ensures.reported c.note_drop.ensures.records c.note_drop.ensures.drops

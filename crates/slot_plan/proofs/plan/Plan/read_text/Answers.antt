@@ -1,11 +1,11 @@
-use Rattle.slot_plan.proofs.TextPlans.{stands}
+use Rattle.slot_plan.proofs.TextPlans.{begins_with_plan}
 use Rattle.slot_plan.proofs.plan.Plan.read_text.Goals as goal
 
 pub overflow_sub-bytes : goal.overflow_sub-bytes
-overflow_sub-bytes g c = (stands c.args.text.now _ c.in_ok-slots.rest.now c.in_ok-slots.ensures).0
+overflow_sub-bytes g c = (begins_with_plan c.args.text.now _ c.in_ok-slots.rest.now c.in_ok-slots.ensures).0
 
 pub invariant_of-result : goal.invariant_of-result
-invariant_of-result g c = (stands c.args.text.now _ c.in_ok-slots.rest.now c.in_ok-slots.ensures).1.is_plan.within
+invariant_of-result g c = (begins_with_plan c.args.text.now _ c.in_ok-slots.rest.now c.in_ok-slots.ensures).1.is_plan.within
 
 pub returns-clause-read : goal.returns-clause-read
-returns-clause-read g c = (stands c.args.text.now _ c.in_ok-slots.rest.now c.in_ok-slots.ensures).1
+returns-clause-read g c = (begins_with_plan c.args.text.now _ c.in_ok-slots.rest.now c.in_ok-slots.ensures).1

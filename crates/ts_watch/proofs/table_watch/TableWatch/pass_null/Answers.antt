@@ -9,10 +9,10 @@ invariant_of-self c = rw c.skip.ensures.taken (taken_takes c.self.inside.demux n
 
 pub returns-clause-tables : goal.returns-clause-tables
 returns-clause-tables c = λ options.
-    let t : TablesState = record { demux = c.self.inside.demux; times = c.self.inside.times } in
+    let t : TablesState = record { demux = c.self.inside.demux; times = c.self.inside.times; named = c.self.inside.named } in
     rw (sym c.self.view_is) (null_passed options t c.skip.new.self c.self.invariant c.skip.ensures.taken)
 
 pub returns-clause-found : goal.returns-clause-found
 returns-clause-found c = λ options.
-    let t : TablesState = record { demux = c.self.inside.demux; times = c.self.inside.times } in
+    let t : TablesState = record { demux = c.self.inside.demux; times = c.self.inside.times; named = c.self.inside.named } in
     rw (sym c.self.view_is) (null_events options t c.self.invariant)

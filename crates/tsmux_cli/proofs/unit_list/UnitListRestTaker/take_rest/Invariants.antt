@@ -1,11 +1,11 @@
 use Rattle.std.proofs.Common.{List, ℕ, ◌++◌, length}
-use Rattle.tsmux_cli.specs.UnitList.{StandsOn, TakesRecords}
+use Rattle.tsmux_cli.specs.UnitList.{IsReadUpTo, TakesRecords}
 use Rattle.tsmux_cli.proofs.unit_list.UnitListRestTaker.take_rest.Given as goal
 
 abbrev pub invariant-records : goal.invariant-records
 invariant-records l = record {
-  stands : (before more : List ℕ) → TakesRecords before l.fn.self.units.items l.fn.self.record l.fn.self.fault →
-      StandsOn (before ++ (l.fn.bytes ++ more)) (l.rest ++ more) l.self.units.items l.self.record l.self.fault;
+  state_is : (before more : List ℕ) → TakesRecords before l.fn.self.units.items l.fn.self.record l.fn.self.fault →
+      IsReadUpTo (before ++ (l.fn.bytes ++ more)) (l.rest ++ more) l.self.units.items l.self.record l.self.fault;
 }
 
 abbrev pub decreases-records : goal.decreases-records

@@ -3,7 +3,7 @@ use Rattle.std.proofs.Math.Nat.{mul-le-mul, mul-le-mul_right}
 use Rattle.tstd_rows.proofs.ExcessBytes.{in_two_after, in_two_ended, first_ended, second_ended}
 use Rattle.tstd_rows.proofs.excess.ExcessWatch.enter.Goals as goal
 
--- all that have come leave by the end of a stream
+-- All bytes that have arrived leave by the end of a stream.
 soon : (last prev bytes more few step : ℕ) → last ≤ max (2 ^ 86 + 2 ^ 69) prev + few * step → few ≤ more → prev ≤ 2 ^ 86 + 2 ^ 69 + bytes * step →
     bytes + more ≤ 2 ^ 40 → step ≤ 2 ^ 40 →
     last ≤ 2 ^ 86 + 2 ^ 81

@@ -61,7 +61,7 @@ returns-clause-bytes c = omega (
   c.row-row.ensures.bytes,
 )
 
--- the buffers of video
+-- The buffers of video
 
 pub take_video-requires-clause-soon : goal.take_video-requires-clause-soon
 take_video-requires-clause-soon c =

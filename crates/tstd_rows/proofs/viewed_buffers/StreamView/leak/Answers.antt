@@ -12,7 +12,7 @@ use Rattle.tstd_rows.specs.Viewed.{IsViewOf}
 use Rattle.tstd_rows.proofs.VideoViews.{all_waited, none_waited, joined_view, most_joined, most_found_joined, ended_joined}
 use Rattle.tstd_rows.proofs.viewed_buffers.StreamView.leak.Goals as goal
 
--- all bytes waited
+-- All bytes waited.
 
 pub returns-then-leaving-eq0-clause-view : goal.returns-then-leaving-eq0-clause-view
 returns-then-leaving-eq0-clause-view g c = λ parts v.
@@ -38,7 +38,7 @@ returns-then-leaving-eq0-clause-ended g c =
     ∙ ap (λ (ts : List ℕ). excesses_ended old.transport.step old.watch.size old.transport.last old.watch.under_way ts)
     (all_waited c.args.leaving.now c.if-leaving-eq0.true)
 
--- none did
+-- No byte waited.
 
 pub returns-then-leaving-eq0-2-clause-view : goal.returns-then-leaving-eq0-2-clause-view
 returns-then-leaving-eq0-2-clause-view g c = λ parts v.
@@ -65,7 +65,7 @@ returns-then-leaving-eq0-2-clause-ended g c =
     ∙ ap (λ (ts : List ℕ). excesses_ended old.transport.step old.watch.size old.transport.last old.watch.under_way ts)
     (none_waited c.args.leaving.now c.if-leaving-eq0-2.true)
 
--- some did, and some did not
+-- Some bytes waited, and some did not.
 
 pub returns-clause-view : goal.returns-clause-view
 returns-clause-view g c = λ parts v.

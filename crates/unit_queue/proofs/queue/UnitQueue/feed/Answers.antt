@@ -17,7 +17,7 @@ returns-in-Err-clause-cause g c =
     (room_cause (nat_le q.capacity (length q.units)) (packets_cause q.parameters.allowance (is_over_for q (timed_by q.parameters u)))) c.in-Err.cause
     c.in-Err.ensures.cause
 
--- the unit is one that its stream accepts
+-- The stream accepts the unit.
 pub header-header-requires-clause-fits : goal.header-header-requires-clause-fits
 header-header-requires-clause-fits g c =
     let q = c.args.self.now in
@@ -64,7 +64,7 @@ returns-in-Some-clause-cause g c =
     room_is q c.args.slots u (record { dts = c.unit.inside.dts; size = size; front = c.field_size-front.result }) (Some c.in-Some.cause) timed
     c.in-Ok.ensures.cause c.in-Some.ensures
 
--- there is room for it, and it is within what is allowed
+-- The queue has room for the unit, and the unit is within the allowance.
 pub push-requires-clause-dts : goal.push-requires-clause-dts
 push-requires-clause-dts g c =
     let q = c.args.self.now in
@@ -121,7 +121,7 @@ returns-in-None-clause-state g c =
     c.push.ensures ∙ accepted_is q u (record { dts = c.unit.inside.dts; size = size; front = c.field_size-front.result }) c.new.result timed
     (c.new.ensures ∙ taken)
 
--- a queue refuses a unit for the cause that its history has, and with an accepted unit stands for one unit more
+-- A queue refuses a unit for the cause that its history gives, and represents one more unit if it accepts the unit.
 pub returns-in-Err-clause-refused : goal.returns-in-Err-clause-refused
 returns-in-Err-clause-refused g c = λ l capacity us holds.
     returns-in-Err-clause-cause g c ∙ cause_law l c.args.slots capacity us c.args.self.now c.args.unit holds
@@ -134,8 +134,8 @@ pub returns-in-None-clause-refused : goal.returns-in-None-clause-refused
 returns-in-None-clause-refused g c = λ l capacity us holds.
     returns-in-None-clause-cause g c ∙ cause_law l c.args.slots capacity us c.args.self.now c.args.unit holds
 
-pub returns-in-None-clause-stands : goal.returns-in-None-clause-stands
-returns-in-None-clause-stands g c = λ l capacity us holds.
+pub returns-in-None-clause-represents : goal.returns-in-None-clause-represents
+returns-in-None-clause-represents g c = λ l capacity us holds.
     let in_range : ParametersInRange l.parameters =
     subst (λ (q : Queue). ParametersInRange q.parameters) (c.self.view_is ∙ holds.state) c.self.invariant in
     subst (λ (q : Queue). QueueHolds l c.args.slots capacity (us ++ c.args.unit ∷ []) q) (sym (returns-in-None-clause-state g c))

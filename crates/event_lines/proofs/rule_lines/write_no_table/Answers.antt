@@ -1,0 +1,16 @@
+use Rattle.std.proofs.Common.{rules, ◌≡◌, ◌++◌, List, subst, string_bytes}
+use Rattle.std.specs.Prelude.{OnOk, codes}
+use Rattle.event_lines.specs.FieldViews.{FieldView}
+use Rattle.event_lines.specs.ReportLines.{line_of, number_field}
+use Rattle.event_lines.proofs.Fields.{two}
+use Rattle.event_lines.proofs.rule_lines.write_no_table.Goals as goal
+
+pub returns : goal.returns
+returns c =
+    let e = c.args.e.now in
+    let f_0 : c.number.result ≡ number_field (codes "pid") e.pid = search rules in
+    let f_1 : c.number-2.result ≡ number_field (codes "table") e.table = search rules in
+    subst (λ (fields : List FieldView). OnOk c.write_line.result (string_bytes c.write_line.new.text
+    ≡ string_bytes c.args.text.now ++ line_of c.args.json (codes "no_table") fields))
+    (two c.number.result c.number-2.result _ _ f_0 f_1)
+    c.write_line.ensures

@@ -1,0 +1,2 @@
+pub mod LeastNumbers
+pub mod ReasonNumbers
