@@ -1,5 +1,0 @@
-pub mod Carrying
-pub mod JobOutcomes
-pub mod Fronts
-mod StreamFiles
-mod Reported
