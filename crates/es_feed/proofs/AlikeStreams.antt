@@ -6,12 +6,11 @@ use Rattle.demux.specs.Stream.{StreamState, finished, found_in, pushed, taken}
 use Rattle.pid_findings.specs.Views.{FindingView}
 use Rattle.demux.proofs.KeptBodies.{ends_same, found_in_same, left_again, taken_same}
 use Rattle.packet_pcr.specs.PacketPcr.{pcr_at}
-use Rattle.fed_streams.specs.Feeding.{Fed, FeedView, after_all, fed_all, fed_ends}
+use Rattle.fed_streams.specs.Feeding.{Fed, FeedView, fed_ends}
 use Rattle.es_feed.specs.StreamFeeding.{AreAlike, fed_rest, stream_pids}
 use Rattle.packet_pcr.specs.declared.pcr_reading.FoundPcr.{FoundPcr}
 use Rattle.fed_streams.specs.Ticks.{after_packet, after_packets, fed_packet, fed_packets}
 use Rattle.es_feed.proofs.OtherPids.{found_after, found_fed, packet_after, packet_feeds, packet_pids}
-use Rattle.given_marks.specs.Marking.{all_marked}
 
 -- Whether states are alike for a feed depends on the PIDs of its streams alone.
 pub alike_as : (first feed : FeedView) (s t : StreamState) → stream_pids feed ≡ stream_pids first → AreAlike first s t → AreAlike feed s t

@@ -183,10 +183,12 @@ clock_step feed pcr (inr ends) = inr (record {
   skips = λ k r apart there. clock_skips pcr r;
 })
 
-pub step : (ks : List Key) (feed : FeedView) (e : Event) → AreKeys ks → keys feed.streams ≡ ks → have_fault (fed_event feed e) ≡ false → Step feed e
+-- If no reference is doubtful
+pub step : (ks : List Key) (feed : FeedView) (e : Event) → AreKeys ks → keys feed.streams ≡ ks → feed.origin.doubtful ≡ None →
+    have_fault (fed_event feed e) ≡ false → Step feed e
 unfolding fed_event
-step ks feed (Finds f) are is none = finding_step ks feed f (place_from f.pid 0 feed.streams) are is refl none
-step ks feed (Shows pcr) are is none = clock_step feed pcr (clock_out feed pcr none)
+step ks feed (Finds f) are is sure none = finding_step ks feed f (place_from f.pid 0 feed.streams) are is refl none
+step ks feed (Shows pcr) are is sure none = clock_step feed pcr (clock_out feed pcr sure none)
 
 -- 3. A stream after a step, if the constant is fixed before it
 

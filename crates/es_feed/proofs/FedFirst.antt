@@ -56,7 +56,7 @@ fixed_moved base k ks feed [] s are is few known at alone none = ends_moved base
 fixed_moved base k ks feed (e ∷ es) s are is few known at alone none =
     let next = after_event feed e in
     let two = fault_split (fed_event feed e) (fed_events next es) none in
-    let st = step ks feed e are is two.0 in
+    let st = step ks feed e are is (ap (λ (o : Origin). o.doubtful) known) two.0 in
     let a = step_advances base k ks feed e es s st are is few known two.0 at alone in
     advance_moved base k feed e es s a
     (fixed_moved base k ks next es a.after are (step_keys ks feed e st is) few (step_fixed base feed e st known) a.at a.alone two.1)
@@ -356,5 +356,5 @@ pub first_moved : (earliest : ℕ) (ks : List Key) (feed : FeedView) (es : List 
     MovedByFirst earliest (length ks) feed es
 first_moved earliest ks feed [] w none = ends_first earliest ks feed w (ends_clear feed none)
 first_moved earliest ks feed (e ∷ es) w none =
-    step_first earliest ks feed e es (step ks feed e w.are w.is (event_clear feed e es none)) w none
+    step_first earliest ks feed e es (step ks feed e w.are w.is (ap (λ (o : Origin). o.doubtful) w.unknown) (event_clear feed e es none)) w none
     (λ waits clear. first_moved earliest ks (after_event feed e) es waits clear)

@@ -24,7 +24,7 @@ use Rattle.es_feed.specs.StreamFeeding.{AreAlike, PacketFeedView, TakesPackets, 
 use Rattle.es_feed.proofs.AlikeStreams.{after_alike, alike_as, fed_alike, packets_pids, taken_alike}
 use Rattle.fed_streams.specs.Ticks.{after_end_at, after_late, after_own, after_packet, after_packets, after_passed, after_pcr, after_shown, after_tick}
 use Rattle.fed_streams.specs.Ticks.{fed_packet}
-use Rattle.fed_streams.specs.Ticks.{fed_packets, fed_pcr, is_tick, late_in, passed_from, with_shown, with_tick}
+use Rattle.fed_streams.specs.Ticks.{fed_packets, fed_pcr, is_tick, late_after, passed_from, with_shown, with_tick}
 use Rattle.fed_streams.proofs.FedUnits.{in_turn}
 use Rattle.given_marks.specs.Marking.{MarkingView, all_marked, marked}
 
@@ -250,7 +250,7 @@ late_marking feed None = refl
 late_marking feed (Some late) = passed_marking feed late (passed_from feed.origin late 0 feed.streams)
 
 shown_marking : (feed : FeedView) (pcr : FoundPcr) → (after_shown feed pcr).marking ≡ feed.marking
-shown_marking feed pcr = late_marking (with_shown feed pcr) (late_in (with_shown feed pcr) pcr.base)
+shown_marking feed pcr = late_marking (with_shown feed pcr) (late_after feed pcr)
 
 own_marking : (feed : FeedView) (pcr : FoundPcr) → (after_own feed pcr).marking ≡ feed.marking
 own_marking feed pcr = if_marking (is_on pcr.pid (clock_pid feed.maps)) (after_shown feed pcr) feed (shown_marking feed pcr)

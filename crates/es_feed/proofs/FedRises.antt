@@ -14,7 +14,7 @@ use Rattle.es_moments.specs.declared.stamps.StampFault.{StampFault}
 use Rattle.es_moments.specs.declared.stamps.StampFault.TheVariants.{DtsNotIncreasing}
 use Rattle.es_moments.proofs.StampFaults.{or_none}
 use Rattle.packet_pcr.specs.PacketPcr.{is_on}
-use Rattle.fed_streams.specs.Clocks.{jump_of}
+use Rattle.fed_streams.specs.Clocks.{report_of}
 use Rattle.es_feed.specs.EachStream.{RiseFrom, fed_if, units_fed}
 use Rattle.fed_streams.specs.Feeding.{Fed, FedStreamView, FeedView, after_at, after_found, after_one, after_place, ahead_of, at_moment, base_of, before_with}
 use Rattle.fed_streams.specs.Feeding.{due_of, fed_at, fed_by, fed_ends, fed_last, fed_one, fed_place, fed_with, greatest_of, last_dts, after_unit, fed_unit}
@@ -23,7 +23,7 @@ use Rattle.fed_streams.specs.Feeding.{stream_with, reported_by, reported_fed, re
 use Rattle.fed_streams.specs.Feeding.{greatest_pts_limit}
 use Rattle.fed_streams.specs.Maps.{clock_pid, new_map, other_stream}
 use Rattle.fed_streams.specs.Ticks.{after_end, after_end_at, after_late, after_passed, after_shown, after_tick, fed_end, fed_end_at, fed_late, fed_passed}
-use Rattle.fed_streams.specs.Ticks.{fed_shown, fed_tick, is_silence, is_tick, jump_fed, last_unit, late_in, passed_from, silence, tick, with_shown}
+use Rattle.fed_streams.specs.Ticks.{fed_shown, fed_tick, is_silence, is_tick, jump_fed, last_unit, late_after, passed_from, silence, step_in, tick, with_shown}
 use Rattle.fed_streams.specs.Ticks.{without_unit}
 use Rattle.fed_streams.specs.declared.due.Due.{Due}
 use Rattle.fed_streams.specs.declared.feed_fault.ClockJump.{ClockJump}
@@ -318,9 +318,9 @@ after_reported feed g next reported fed streams none steps = record {
 shown_steps : (feed : FeedView) (pcr : FoundPcr) → AreKeys (keys feed.streams) → Steps feed (after_shown feed pcr) (fed_shown feed pcr)
 shown_steps feed pcr are =
     let g = with_shown feed pcr in
-    let late = late_in g pcr.base in
-    after_reported feed g (after_late g late) (option_to_list (jump_fed (jump_of feed.shown pcr))) (fed_late g late) refl
-    (reported_jump (jump_of feed.shown pcr))
+    let late = late_after feed pcr in
+    after_reported feed g (after_late g late) (option_to_list (jump_fed (report_of (step_in feed pcr) feed.shown pcr))) (fed_late g late) refl
+    (reported_jump (report_of (step_in feed pcr) feed.shown pcr))
     (late_steps g late are)
 
 own_steps : (feed : FeedView) (pcr : FoundPcr) (on : Bool) → AreKeys (keys feed.streams) →

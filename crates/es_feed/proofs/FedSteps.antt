@@ -2,7 +2,7 @@
 use Rattle.std.proofs.Common.{◌≡◌, ◌≢◌, ◌∙◌, ◌⊎◌, ◌<◌, ℕ, ◌++◌, ◌==◌, eqb, ◌||◌, Bool, true, false, if◌then◌else◌, Option, Some, None, Result, Ok, Err, List}
 use Rattle.std.proofs.Common.{[], ◌∷◌, map, slice_get, slice_set, refl, sym, ap, inl, inr, arith}
 use Rattle.std.specs.Option.{option_to_list}
-use Rattle.std.specs.Prelude.{nat_lt}
+use Rattle.std.specs.Prelude.{◌+◌}
 use Rattle.std.proofs.lemmas.Bool.Decides.{eqb_tells, nat_tests}
 use Rattle.std.proofs.lemmas.Grind.{flat_map-append}
 use Rattle.std.proofs.lemmas.List.{append-nil}
@@ -12,7 +12,7 @@ use Rattle.es_moments.specs.Stamps.{distance, dts_after, moved, unit_at, unit_fa
 use Rattle.es_units.specs.UnitSteps.{ended_unit}
 use Rattle.es_moments.specs.declared.stamps.StampFault.{StampFault}
 use Rattle.packet_pcr.specs.PacketPcr.{is_on}
-use Rattle.fed_streams.specs.Clocks.{jump_of, jumps}
+use Rattle.fed_streams.specs.Clocks.{report_of}
 use Rattle.es_feed.specs.EachStream.{fed_if, has_fault, have_fault, units_fed}
 use Rattle.fed_streams.specs.Feeding.{Fed, FedStreamView, FeedView, after_at, after_found, after_one, after_place, ahead_of, at_moment, base_by, after_unit}
 use Rattle.fed_streams.specs.Feeding.{base_of, before_with, due_of, fed_at, fed_by, fed_one, fed_place, fed_unit, fed_with, feed_with, greatest_of, last_dts}
@@ -27,10 +27,9 @@ use Rattle.fed_streams.specs.declared.feed_fault.PacketFault.{PacketFault}
 use Rattle.fed_streams.specs.declared.feed_fault.Restart.{Restart}
 use Rattle.fed_streams.specs.Ticks.{after_end, after_end_at, after_late, after_own, after_passed, after_shown, after_tick, fed_end, fed_end_at, fed_late}
 use Rattle.fed_streams.specs.Ticks.{fed_own}
-use Rattle.fed_streams.specs.Ticks.{fed_passed, fed_shown, fed_tick, is_silence, is_tick, jump_fed, last_unit, late_in, late_of, passed_from, silence, tick}
-use Rattle.fed_streams.specs.Ticks.{with_shown, without_unit}
+use Rattle.fed_streams.specs.Ticks.{fed_passed, fed_shown, fed_tick, is_silence, is_tick, jump_fed, jump_pause, last_unit, late_after, late_in, late_of, passed_from}
+use Rattle.fed_streams.specs.Ticks.{silence, step_in, tick, with_shown, without_unit}
 use Rattle.fed_streams.specs.declared.due.Due.{Due}
-use Rattle.fed_streams.specs.declared.feed_fault.ClockJump.{ClockJump}
 use Rattle.fed_streams.specs.declared.feed_fault.FeedFault.{FeedFault}
 use Rattle.fed_streams.specs.declared.feed_fault.FeedFault.TheVariants.{Silent}
 use Rattle.fed_streams.specs.declared.feed_fault.NewMap.{NewMap}
@@ -40,6 +39,7 @@ use Rattle.es_feed.proofs.OneStream.{base_first, base_fixed, fixed, origin_fixed
 use Rattle.fed_streams.proofs.ListedStreams.{passed}
 pub use Rattle.es_feed.proofs.Restarts.{fault_split}
 use Rattle.es_feed.proofs.Restarts.{not_restarted}
+use Rattle.es_feed.proofs.ClockSteps.{goes_on, no_time, stepped_is}
 use Rattle.es_moments.specs.WireUnits.{CarriedUnit}
 
 -- 1. A step gives no unit, or one unit of one stream
@@ -267,41 +267,28 @@ same_out feed g next fed reported streams origin earliest is (inl r) = inl (same
 same_out feed g next fed reported streams origin earliest is (inr r) =
     inr (r.0, r.1, same_gives feed g next fed reported r.0 r.1 (without_unit r.1) (ended_unit false r.1.units.unit) streams origin earliest is r.2)
 
--- A jump of the clock is reported.
-jump_if : (pcr : FoundPcr) (before : ℕ) (a b : Bool) (jump : ClockJump) → have_fault (option_to_list (jump_fed (if a || b then Some jump else None))) ≡ false →
-    (b ≡ false) × ((a || b) ≡ false)
-unfolding jump_fed has_fault
-jump_if pcr before true b jump none = absurd cc
-jump_if pcr before false true jump none = absurd cc
-jump_if pcr before false false jump none = (refl, refl)
-
-no_jump : (shown : Option ℕ) (pcr : FoundPcr) → have_fault (option_to_list (jump_fed (jump_of shown pcr))) ≡ false →
-    (jumps shown pcr.base ≡ false) × (option_to_list (jump_fed (jump_of shown pcr)) ≡ [])
-unfolding jump_of jumps jump_fed
-no_jump None pcr none = (refl, refl)
-no_jump (Some before) pcr none =
-    let far = nat_lt 900_000 (distance before pcr.base) in
-    let two = jump_if pcr before pcr.discontinuity far (record { pid = pcr.pid; packet = pcr.packet; before = before; after = pcr.base }) none in
-    (two.0, rw two.1 refl)
-
-shown_out : (feed : FeedView) (pcr : FoundPcr) → have_fault (fed_shown feed pcr) ≡ false → Out feed (after_shown feed pcr) (fed_shown feed pcr)
-shown_out feed pcr none =
+-- A reference of the clock
+shown_out : (feed : FeedView) (pcr : FoundPcr) → feed.origin.doubtful ≡ None → have_fault (fed_shown feed pcr) ≡ false →
+    Out feed (after_shown feed pcr) (fed_shown feed pcr)
+shown_out feed pcr sure none =
     let g = with_shown feed pcr in
-    let late = late_in g pcr.base in
-    let jump = option_to_list (jump_fed (jump_of feed.shown pcr)) in
-    let stays = no_jump feed.shown pcr (fault_split jump (fed_late g late) none).0 in
-    same_out feed g (after_late g late) (fed_late g late) (fed_shown feed pcr) refl (rw stays.0 refl) refl
+    let late = late_after feed pcr in
+    let jump = option_to_list (jump_fed (report_of (step_in feed pcr) feed.shown pcr)) in
+    let stays = goes_on feed.shown feed.origin.doubtful pcr sure (fault_split jump (fed_late g late) none).0 in
+    same_out feed g (after_late g late) (fed_late g late) (fed_shown feed pcr) refl
+    (stepped_is (step_in feed pcr) feed.origin feed.shown (greatest_of feed + jump_pause) pcr stays.0 sure) refl
     (ap (λ (xs : List Fed). xs ++ fed_late g late) stays.1)
-    (late_out g late (late_unknown g pcr.base))
+    (late_out g late (λ e. no_time (step_in feed pcr) (late_in g pcr.base) (late_unknown g pcr.base e)))
 
-own_out : (feed : FeedView) (pcr : FoundPcr) (on : Bool) → have_fault (if on then fed_shown feed pcr else []) ≡ false →
+own_out : (feed : FeedView) (pcr : FoundPcr) (on : Bool) → feed.origin.doubtful ≡ None → have_fault (if on then fed_shown feed pcr else []) ≡ false →
     Out feed (if on then after_shown feed pcr else feed) (if on then fed_shown feed pcr else [])
 unfolding Out
-own_out feed pcr true none = shown_out feed pcr none
-own_out feed pcr false none = inl (record { streams = refl; origin = refl; earliest = refl; none = λ n below. refl; silent = λ e. refl })
+own_out feed pcr true sure none = shown_out feed pcr sure none
+own_out feed pcr false sure none = inl (record { streams = refl; origin = refl; earliest = refl; none = λ n below. refl; silent = λ e. refl })
 
-pub clock_out : (feed : FeedView) (pcr : FoundPcr) → have_fault (fed_own feed pcr) ≡ false → Out feed (after_own feed pcr) (fed_own feed pcr)
-clock_out feed pcr none = own_out feed pcr (is_on pcr.pid (clock_pid feed.maps)) none
+pub clock_out : (feed : FeedView) (pcr : FoundPcr) → feed.origin.doubtful ≡ None → have_fault (fed_own feed pcr) ≡ false →
+    Out feed (after_own feed pcr) (fed_own feed pcr)
+clock_out feed pcr sure none = own_out feed pcr (is_on pcr.pid (clock_pid feed.maps)) sure none
 
 -- 4. The unit that is given, at its moment
 
@@ -386,12 +373,12 @@ given_others d o n m before (Some u) other = append-nil (fed_if m (n, at_moment 
 
 base_then : (d : Due) (base : ℕ) (u : CarriedUnit) → base_of d (fixed base) u ≡ base
 unfolding base_by
-base_then d base u = rw (base_fixed base u.packet) refl
+base_then d base u = rw (base_fixed base u.packet u.unit.dts) refl
 
 fixed_after : (d : Due) (base : ℕ) (w : Option CarriedUnit) → origin_after d (fixed base) w ≡ fixed base
 unfolding origin_after
 fixed_after d base None = refl
-fixed_after d base (Some u) = ap (λ (b : ℕ). origin_with (fixed base) u.packet b) (base_then d base u) ∙ origin_fixed base u.packet
+fixed_after d base (Some u) = ap (λ (b : ℕ). origin_with (fixed base) u.packet u.unit.dts b) (base_then d base u) ∙ origin_fixed base u.packet u.unit.dts
 
 pub fixes_fixed : (d : Due) (o : Origin) (w : Option CarriedUnit) (base : ℕ) → o ≡ fixed base → Fixes d o w base
 fixes_fixed d o w base is = record {
@@ -401,11 +388,11 @@ fixes_fixed d o w base is = record {
 
 base_at_no : (d : Due) (u : CarriedUnit) → base_of d no_origin u ≡ distance d.earliest u.unit.dts
 unfolding base_by
-base_at_no d u = rw (base_first u.packet) refl
+base_at_no d u = rw (base_first u.packet u.unit.dts) refl
 
 origin_then : (d : Due) (u : CarriedUnit) → origin_after d no_origin (Some u) ≡ fixed (distance d.earliest u.unit.dts)
 unfolding origin_after
-origin_then d u = ap (λ (b : ℕ). origin_with no_origin u.packet b) (base_at_no d u) ∙ origin_first (distance d.earliest u.unit.dts) u.packet
+origin_then d u = ap (λ (b : ℕ). origin_with no_origin u.packet u.unit.dts b) (base_at_no d u) ∙ origin_first (distance d.earliest u.unit.dts) u.packet u.unit.dts
 
 pub fixes_first : (d : Due) (o : Origin) (u : CarriedUnit) → o ≡ no_origin → Fixes d o (Some u) (distance d.earliest u.unit.dts)
 fixes_first d o u is = record {

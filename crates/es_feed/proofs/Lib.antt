@@ -18,3 +18,5 @@ pub mod PidEnds
 pub mod PlainPackets
 pub mod FedStreams
 pub mod WatchedStreams
+pub mod DamagedReferences
+pub mod ClockSteps

@@ -19,7 +19,7 @@ use Rattle.es_moments.specs.declared.stamps.StampFault.{StampFault}
 use Rattle.fed_streams.specs.declared.feed_fault.FeedFault.{FeedFault}
 use Rattle.fed_streams.specs.declared.feed_fault.Loss.{Loss}
 use Rattle.fed_streams.specs.Maps.{change_place, map_from, other_place, set_place}
-use Rattle.fed_streams.specs.Origins.{base_for, no_origin, origin_with}
+use Rattle.fed_streams.specs.Origins.{base_for, is_doubtful, no_origin, origin_with}
 use Rattle.fed_streams.specs.declared.due.Due.{Due}
 use Rattle.fed_streams.specs.declared.origin.Origin.{Origin}
 use Rattle.fed_streams.specs.Feeding.{FedStreamView, Fed, FeedView, ahead_of, unless_ahead, unless_fault, at_moment, last_dts, base_by, base_of, origin_after}
@@ -49,7 +49,7 @@ use Rattle.es_moments.specs.WireUnits.{CarriedUnit}
 timed : Due → Origin → ℕ → Option ℕ → List CarriedUnit → List Fed
 timed d o n before [] = []
 timed d o n before (w ∷ ws) =
-    (n, at_moment d.greatest (base_of d o w) before w.unit) ∷ timed d (origin_with o w.packet (base_of d o w)) n
+    (n, at_moment d.greatest (base_of d o w) before w.unit) ∷ timed d (origin_with o w.packet w.unit.dts (base_of d o w)) n
     (last_dts before (at_moment d.greatest (base_of d o w) before w.unit)) ws
 
 timed_one : (d : Due) (o : Origin) (n : ℕ) (before : Option ℕ) (w : Option CarriedUnit) (ws : List CarriedUnit) →
@@ -312,30 +312,30 @@ unit_dts base before u = refl
 
 -- A constant that is fixed, if no clock has jumped
 abbrev pub fixed : ℕ → Origin
-fixed base = record { now = Some base; since = 0; before = None }
+fixed base = record { now = Some base; since = 0; before = None; doubtful = None }
 
 not_before : (n : ℕ) → nat_lt n 0 ≡ false
 not_before n = grind (arith, nat_tests)
 
-pub base_first : (packet : ℕ) → base_for no_origin packet ≡ None
-unfolding base_for
-base_first packet = rw (not_before packet) refl
+pub base_first : (packet dts : ℕ) → base_for no_origin packet dts ≡ None
+unfolding base_for is_doubtful
+base_first packet dts = rw (not_before packet) refl
 
-pub base_fixed : (base packet : ℕ) → base_for (fixed base) packet ≡ Some base
-unfolding base_for
-base_fixed base packet = rw (not_before packet) refl
+pub base_fixed : (base packet dts : ℕ) → base_for (fixed base) packet dts ≡ Some base
+unfolding base_for is_doubtful
+base_fixed base packet dts = rw (not_before packet) refl
 
-pub origin_first : (base packet : ℕ) → origin_with no_origin packet base ≡ fixed base
-unfolding origin_with
-origin_first base packet = rw (not_before packet) refl
+pub origin_first : (base packet dts : ℕ) → origin_with no_origin packet dts base ≡ fixed base
+unfolding origin_with is_doubtful
+origin_first base packet dts = rw (not_before packet) refl
 
-pub origin_fixed : (base packet : ℕ) → origin_with (fixed base) packet base ≡ fixed base
-unfolding origin_with
-origin_fixed base packet = rw (not_before packet) refl
+pub origin_fixed : (base packet dts : ℕ) → origin_with (fixed base) packet dts base ≡ fixed base
+unfolding origin_with is_doubtful
+origin_fixed base packet dts = rw (not_before packet) refl
 
 base_is : (e base : ℕ) (w : CarriedUnit) → base_of (due_from e) (fixed base) w ≡ base
 unfolding base_by
-base_is e base w = rw (base_fixed base w.packet) refl
+base_is e base w = rw (base_fixed base w.packet w.unit.dts) refl
 
 timed_moved : (e base n place : ℕ) (before : Option ℕ) (ws : List CarriedUnit) →
     first_fault greatest_pts_limit base before place (map (λ w. w.unit) ws) ≡ None →
@@ -348,16 +348,16 @@ timed_moved e base n place before (w ∷ ws) sound =
     let two = no_fault place (unit_fault greatest_pts_limit base before u)
     (first_fault greatest_pts_limit base (Some (dts_at base before u.dts)) (place + 1) (map (λ w. w.unit) ws)) sound in
     let here : at_moment None base before u ≡ Ok (unit_at base before u) = ap (λ (o : Option StampFault). unless_fault None o (unit_at base before u)) two.0 in
-    ap (λ (b : ℕ). (n, at_moment None b before u) ∷ timed d (origin_with (fixed base) w.packet b) n (last_dts before (at_moment None b before u)) ws)
+    ap (λ (b : ℕ). (n, at_moment None b before u) ∷ timed d (origin_with (fixed base) w.packet w.unit.dts b) n (last_dts before (at_moment None b before u)) ws)
     (base_is e base w)
-    ∙ ap (λ (o : Origin). (n, at_moment None base before u) ∷ timed d o n (last_dts before (at_moment None base before u)) ws) (origin_fixed base w.packet)
+    ∙ ap (λ (o : Origin). (n, at_moment None base before u) ∷ timed d o n (last_dts before (at_moment None base before u)) ws) (origin_fixed base w.packet w.unit.dts)
     ∙ ap (λ (r : Result AccessUnit FeedFault). (n, r) ∷ timed d (fixed base) n (last_dts before r) ws) here
     ∙ ap (λ (x : ℕ). (n, Ok (unit_at base before u)) ∷ timed d (fixed base) n (Some x) ws) (unit_dts base before u)
     ∙ ap (λ (xs : List Fed). (n, Ok (unit_at base before u)) ∷ xs) (timed_moved e base n (place + 1) (Some (dts_at base before u.dts)) ws two.1)
 
 base_at_first : (e : ℕ) (w : CarriedUnit) → base_of (due_from e) no_origin w ≡ distance e w.unit.dts
 unfolding base_by
-base_at_first e w = rw (base_first w.packet) refl
+base_at_first e w = rw (base_first w.packet w.unit.dts) refl
 
 first_fixes : (e n : ℕ) (w : CarriedUnit) (ws : List CarriedUnit) →
     timed (due_from e) no_origin n None (w ∷ ws) ≡ timed (due_from e) (fixed (distance e w.unit.dts)) n None (w ∷ ws)
@@ -366,9 +366,9 @@ first_fixes e n w ws =
     let d = due_from e in
     let base = distance e w.unit.dts in
     let one = λ (o : Origin) (b : ℕ). (n, at_moment None b None w.unit) ∷ timed d o n (last_dts None (at_moment None b None w.unit)) ws in
-    ap (λ (b : ℕ). one (origin_with no_origin w.packet b) b) (base_at_first e w)
-    ∙ ap (λ (o : Origin). one o base) (origin_first base w.packet ∙ sym (origin_fixed base w.packet))
-    ∙ ap (λ (b : ℕ). one (origin_with (fixed base) w.packet b) b) (sym (base_is e base w))
+    ap (λ (b : ℕ). one (origin_with no_origin w.packet w.unit.dts b) b) (base_at_first e w)
+    ∙ ap (λ (o : Origin). one o base) (origin_first base w.packet w.unit.dts ∙ sym (origin_fixed base w.packet w.unit.dts))
+    ∙ ap (λ (b : ℕ). one (origin_with (fixed base) w.packet w.unit.dts b) b) (sym (base_is e base w))
 
 moved_by_first : (e n : ℕ) (ws : List CarriedUnit) (u : AccessUnit) (us : List AccessUnit) → map (λ w. w.unit) ws ≡ u ∷ us →
     first_fault greatest_pts_limit (distance e u.dts) None 0 (u ∷ us) ≡ None →

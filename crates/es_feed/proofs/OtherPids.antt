@@ -1,5 +1,5 @@
 -- The feed ignores the body of a finding whose PID no stream of the feed has.
-use Rattle.std.proofs.Common.{◌≡◌, ◌∙◌, ℕ, zero, suc, ◌+◌, ◌++◌, ◌==◌, ◌||◌, Bool, true, false, cond, if◌then◌else◌, is_some, Option, Some, None, List, []}
+use Rattle.std.proofs.Common.{◌≡◌, ◌∙◌, ℕ, zero, suc, ◌+◌, ◌++◌, ◌==◌, ◌||◌, Bool, true, false, if◌then◌else◌, is_some, Option, Some, None, List, []}
 use Rattle.std.proofs.Common.{◌∷◌, map, slice_get, slice_set, refl, sym, ap, ap₂, subst}
 use Rattle.std.specs.Prelude.{option_and_then, option_map}
 use Rattle.std.specs.Option.{option_or, option_to_list}
@@ -32,7 +32,7 @@ use Rattle.fed_streams.specs.Maps.{MapView, change_of, change_place, clock_pid, 
 use Rattle.fed_streams.specs.Maps.{map_with, maps_after, new_map, other_at, other_by, other_place, other_stream, set_at, set_place}
 use Rattle.es_feed.specs.StreamFeeding.{stream_pids}
 use Rattle.fed_streams.specs.Ticks.{after_end_at, after_late, after_packet, after_passed, after_pcr, after_shown, fed_packet, fed_pcr, is_tick}
-use Rattle.fed_streams.specs.Ticks.{late_in, passed_from, with_shown, with_tick}
+use Rattle.fed_streams.specs.Ticks.{late_after, passed_from, with_shown, with_tick}
 
 -- 1. The PIDs of the streams stay the same
 
@@ -83,7 +83,7 @@ late_pids feed None = refl
 late_pids feed (Some late) = passed_pids feed late (passed_from feed.origin late 0 feed.streams)
 
 shown_pids : (feed : FeedView) (pcr : FoundPcr) → stream_pids (after_shown feed pcr) ≡ stream_pids feed
-shown_pids feed pcr = late_pids (with_shown feed pcr) (late_in (with_shown feed pcr) pcr.base)
+shown_pids feed pcr = late_pids (with_shown feed pcr) (late_after feed pcr)
 
 pcr_pids : (feed : FeedView) (pcr : Option FoundPcr) → stream_pids (after_pcr feed pcr) ≡ stream_pids feed
 unfolding after_pcr

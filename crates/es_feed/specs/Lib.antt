@@ -4,3 +4,4 @@ pub mod MovedApart
 pub mod StreamFeeding
 pub mod Watching
 pub mod FedLines
+pub mod DamagedReferences

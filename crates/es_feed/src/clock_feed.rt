@@ -5,7 +5,9 @@ ghost use Rattle.std.specs.Option.{option_to_list};
 ghost use Rattle.fed_streams.specs.Ticks as spec;
 
 use crate::unit_feed::{NO_STREAM, UnitFeed, push_fed};
-use fed_streams::clock_jump::{is_jump, jump};
+use fed_streams::clock_jump::{
+    ClockStep, origin_stepped, report_of, shown_after, step_of, unless_doubtful,
+};
 use fed_streams::fed_map::clock_pid;
 use fed_streams::fed_streams::{end_at, greatest_of, passed_place};
 use fed_streams::late::late_of;
@@ -112,15 +114,21 @@ impl UnitFeed {
         }
     }
 
-    // The clock shows this.
-    fn show(&mut self, pcr: FoundPcr)
+    // Returns how a reference fits the clock.
+    fn step(&self, pcr: FoundPcr) -> ClockStep
+        ensures { result ≡ spec.step_in self.now pcr }
+    {
+        step_of(self.shown, self.origin.doubtful, pcr)
+    }
+
+    // The clock shows a reference that fits it so, unless it is doubtful.
+    fn show(&mut self, step: ClockStep, pcr: FoundPcr)
+        requires { step ≡ spec.step_in self.old pcr }
         ensures { self.new ≡ spec.with_shown self.old pcr }
     {
-        if is_jump(pcr, self.shown) {
-            let moment = self.greatest() + JUMP_PAUSE;
-            self.origin = self.origin.jumped(pcr.packet, moment, pcr.base);
-        }
-        self.shown = Some(pcr.base);
+        let moment = self.greatest() + JUMP_PAUSE;
+        self.origin = origin_stepped(step, self.origin, self.shown, moment, pcr);
+        self.shown = shown_after(step, self.shown, pcr);
     }
 
     // Takes a reference of the clock.
@@ -134,9 +142,11 @@ impl UnitFeed {
         ensures feed { OnOk result (self.new ≡ spec.after_shown self.old pcr) }
         ensures fed { OnOk result (fed.new.items ≡ fed.old.items ++ spec.fed_shown self.old pcr) }
     {
-        push_fed(fed, reported_jump(jump(pcr, self.shown)))?;
-        self.show(pcr);
-        match late_of(self.origin.now, self.greatest(), pcr.base) {
+        let step = self.step(pcr);
+        push_fed(fed, reported_jump(report_of(step, self.shown, pcr)))?;
+        self.show(step, pcr);
+        let late = late_of(self.origin.now, self.greatest(), pcr.base);
+        match unless_doubtful(step, late) {
             None => Ok(()),
             Some(late) => self.go_on(alloc, late, fed),
         }

@@ -1,5 +1,6 @@
 //! Laws of the definitions. Each function does nothing: its contract is the law.
 
+ghost use Rattle.es_feed.specs.DamagedReferences.{DamageMovesNothing};
 ghost use Rattle.es_feed.specs.EachStream.{EachRises, FedByOneConstant, ReleasesRise};
 ghost use Rattle.es_feed.specs.Laws.{FedAsCarried, FedWithoutClock};
 ghost use Rattle.es_feed.specs.MovedApart.{FedApart};
@@ -54,4 +55,11 @@ pub fn fed_so_far()
 /// States that each fed unit is due before a fed tick, and each current unit after it, even if the unit is set apart.
 pub fn ticks_are_past()
     ensures { TicksArePast }
+{}
+
+/// States that a clock reference that leaves the clock without a discontinuity_indicator gives one report, and that all
+/// is as without it after the next reference, if that one continues the clock; units between them that are near the
+/// clock have the constant that they have without it.
+pub fn damage_moves_nothing()
+    ensures { DamageMovesNothing }
 {}

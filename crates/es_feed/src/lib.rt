@@ -19,8 +19,8 @@ mod unit_feed;
 pub mod watched_feed;
 
 pub use laws::{
-    fed_apart, fed_as_carried, fed_by_one_constant, fed_in_order, fed_in_turn, fed_so_far,
-    fed_without_clock, ticks_are_past,
+    damage_moves_nothing, fed_apart, fed_as_carried, fed_by_one_constant, fed_in_order,
+    fed_in_turn, fed_so_far, fed_without_clock, ticks_are_past,
 };
 pub use stream_feed::StreamFeed;
 pub use unit_feed::UnitFeed;

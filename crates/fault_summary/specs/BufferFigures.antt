@@ -39,14 +39,18 @@ abbrev pub more : ℕ → ℕ → ℕ
 more a b = min (a + b) (2 ^ 64 - 1)
 
 -- a buffer more, which was over its size if it has an excess
-abbrev pub with_buffer : BufferFigures → BufferMost → ℕ → BufferFigures
-with_buffer s next excesses = record {
+abbrev pub with_viewed : BufferFigures → BufferMost → ℕ → BufferFigures
+with_viewed s next excesses = record {
   buffers = more s.buffers 1;
   over = more s.over (if not (excesses == 0) then 1 else 0);
   worst = if not (excesses == 0) then worst_of s.worst next else s.worst;
   units = s.units;
   late = s.late;
 }
+
+-- a buffer that never held a byte was not viewed, and does not count
+abbrev pub with_buffer : BufferFigures → BufferMost → ℕ → BufferFigures
+with_buffer s next excesses = if next.most == 0 then s else with_viewed s next excesses
 
 abbrev pub with_units : BufferFigures → ℕ → ℕ → BufferFigures
 with_units s units late = record { buffers = s.buffers; over = s.over; worst = s.worst; units = more s.units units; late = more s.late late }

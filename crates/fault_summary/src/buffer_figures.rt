@@ -17,7 +17,7 @@ pub struct BufferMost {
     pub size: u64,
 }
 
-/// How many buffers there are, how many of them were over their size, and the buffer with the greatest excess; the
+/// How many buffers held bytes, how many of them were over their size, and the buffer with the greatest excess; the
 /// units of all streams.
 #[derive(Clone, Copy)]
 pub struct BufferFigures {
@@ -75,9 +75,9 @@ impl BufferFigures {
         }
     }
 
-    // Counts a buffer, which is over its size if it has an excess.
-    fn with(self, next: BufferMost, excesses: u128) -> BufferFigures
-        ensures { result ≡ spec.with_buffer self next excesses }
+    // Counts a buffer that held bytes, which is over its size if it has an excess.
+    fn with_viewed(self, next: BufferMost, excesses: u128) -> BufferFigures
+        ensures { result ≡ spec.with_viewed self next excesses }
     {
         let over = excesses != 0;
         BufferFigures {
@@ -91,6 +91,16 @@ impl BufferFigures {
             units: self.units,
             late: self.late,
         }
+    }
+
+    // Counts a buffer, unless it never held a byte.
+    fn with(self, next: BufferMost, excesses: u128) -> BufferFigures
+        ensures { result ≡ spec.with_buffer self next excesses }
+    {
+        if next.most == 0 {
+            return self;
+        }
+        self.with_viewed(next, excesses)
     }
 
     fn with_main(self, e: &MainTotals) -> BufferFigures

@@ -110,7 +110,7 @@ fn push_faults(
     push_sentence(events, Verdict::Faults(FaultVerdict { faults, rows }))
 }
 
-// Appends the verdict on the buffers and on the units, if there are any.
+// Appends the verdict on the buffers and on the units, if a buffer held bytes.
 fn push_buffers(
     events: &mut Vec<Event>,
     figures: &BufferFigures,

@@ -85,13 +85,13 @@ base_by earliest None u = distance earliest u.dts
 base_by earliest (Some base) u = base
 
 abbrev pub base_of : Due → Origin → CarriedUnit → ℕ
-base_of due o w = base_by due.earliest (base_for o w.packet) w.unit
+base_of due o w = base_by due.earliest (base_for o w.packet w.unit.dts) w.unit
 
 -- 2. A unit that is whole, if one is
 
 unfoldable pub origin_after : Due → Origin → Option CarriedUnit → Origin
 origin_after due o None = o
-origin_after due o (Some w) = origin_with o w.packet (base_of due o w)
+origin_after due o (Some w) = origin_with o w.packet w.unit.dts (base_of due o w)
 
 unfoldable pub before_with : Due → Origin → Option ℕ → Option CarriedUnit → Option ℕ
 before_with due o before None = before

@@ -2,7 +2,8 @@
 -- record of stream 255 without bytes, after which no unit comes that is due before it. An open unit whose DTS the clock has passed by a second (less 63
 -- units of 90 kHz: the next unit may set it apart by so much) is whole, since at its DTS all its bytes are in the decoder's buffer (ISO/IEC 13818-1,
 -- 2.4.2.6). A clock that jumps is taken to come 0.3 s after the greatest DTS so far: units which begin after the jump, and are due after it, continue
--- from there, and no stream's first unit comes sooner after its last unit than usual.
+-- from there, and no stream's first unit comes sooner after its last unit than usual. A doubtful reference moves no time, and no unit that is near the
+-- clock before it.
 use Rattle.std.specs.Prelude.{◌≡◌, ◌<◌, ℕ, ◌+◌, ◌-◌, ◌++◌, ◌^◌, ◌&&◌, nat_le, nat_lt, Bool, true, false, if◌then◌else◌, Option, Some, None, IfSome, Ok, Err}
 use Rattle.std.specs.Prelude.{List, [], ◌∷◌, All, slice_get}
 use Rattle.std.specs.Option.{option_to_list}
@@ -17,11 +18,12 @@ use Rattle.fed_streams.specs.declared.feed_fault.FeedFault.TheVariants.{Clock, S
 use Rattle.packet_pcr.specs.declared.pcr_reading.FoundPcr.{FoundPcr}
 use Rattle.fed_streams.specs.declared.origin.Origin.{Origin}
 use Rattle.packet_pcr.specs.PacketPcr.{is_on, pcr_at}
-use Rattle.fed_streams.specs.Clocks.{jump_of, jumps}
+use Rattle.fed_streams.specs.Clocks.{origin_stepped, report_of, shown_after, step_of, unless_doubtful}
+use Rattle.fed_streams.specs.declared.clock_jump.ClockStep.{ClockStep}
 use Rattle.fed_streams.specs.Feeding.{Fed, FedStreamView, FeedView, after_all, due_of, fed_all, fed_by, feed_with, greatest_from, greatest_of}
 use Rattle.fed_streams.specs.Maps.{clock_pid}
 use Rattle.given_marks.specs.Marking.{all_marked}
-use Rattle.fed_streams.specs.Origins.{base_for, origin_jumped}
+use Rattle.fed_streams.specs.Origins.{base_for}
 use Rattle.es_moments.specs.WireUnits.{CarriedUnit}
 
 -- 1. A second behind the clock
@@ -46,7 +48,7 @@ due_at (Some base) before dts = Some (dts_at base before dts)
 
 unfoldable pub under_way_at : Origin → Option ℕ → Option CarriedUnit → Option ℕ
 under_way_at o before None = None
-under_way_at o before (Some u) = due_at (base_for o u.packet) before u.unit.dts
+under_way_at o before (Some u) = due_at (base_for o u.packet u.unit.dts) before u.unit.dts
 
 abbrev pub under_way : Origin → FedStreamView → Option ℕ
 under_way o s = under_way_at o s.before s.units.unit
@@ -157,15 +159,18 @@ late_in feed shown = late_of feed.origin.now (greatest_of feed) shown
 abbrev pub jump_pause : ℕ
 jump_pause = 27_000
 
+abbrev pub step_in : FeedView → FoundPcr → ClockStep
+step_in feed pcr = step_of feed.shown feed.origin.doubtful pcr
+
 abbrev pub origin_by : FeedView → FoundPcr → Origin
-origin_by feed pcr = if jumps feed.shown pcr.base then origin_jumped feed.origin pcr.packet (greatest_of feed + jump_pause) pcr.base else feed.origin
+origin_by feed pcr = origin_stepped (step_in feed pcr) feed.origin feed.shown (greatest_of feed + jump_pause) pcr
 
 abbrev pub with_shown : FeedView → FoundPcr → FeedView
 with_shown feed pcr =
     record {
       earliest = feed.earliest;
       origin = origin_by feed pcr;
-      shown = Some pcr.base;
+      shown = shown_after (step_in feed pcr) feed.shown pcr;
       ticked = feed.ticked;
       marking = feed.marking;
       maps =
@@ -179,11 +184,15 @@ unfoldable pub jump_fed : Option ClockJump → Option Fed
 jump_fed None = None
 jump_fed (Some jump) = Some (255, Err (Clock jump))
 
+-- the moment to which it moves time
+abbrev pub late_after : FeedView → FoundPcr → Option ℕ
+late_after feed pcr = unless_doubtful (step_in feed pcr) (late_in (with_shown feed pcr) pcr.base)
+
 abbrev pub after_shown : FeedView → FoundPcr → FeedView
-after_shown feed pcr = after_late (with_shown feed pcr) (late_in (with_shown feed pcr) pcr.base)
+after_shown feed pcr = after_late (with_shown feed pcr) (late_after feed pcr)
 
 abbrev pub fed_shown : FeedView → FoundPcr → List Fed
-fed_shown feed pcr = option_to_list (jump_fed (jump_of feed.shown pcr)) ++ fed_late (with_shown feed pcr) (late_in (with_shown feed pcr) pcr.base)
+fed_shown feed pcr = option_to_list (jump_fed (report_of (step_in feed pcr) feed.shown pcr)) ++ fed_late (with_shown feed pcr) (late_after feed pcr)
 
 -- a reference on another PID has no effect
 abbrev pub after_own : FeedView → FoundPcr → FeedView

@@ -326,7 +326,7 @@ impl FedStream {
         let Some((packet, dts)) = self.taker.under_way() else {
             return None;
         };
-        match origin.base_for(packet) {
+        match origin.base_for(packet, dts) {
             None => None,
             Some(base) => Some(dts_at(base, self.before, dts)),
         }

@@ -33,13 +33,14 @@ fn base_by(earliest: u64, base: Option<u64>, wire: &WireUnit) -> u64
 fn fix(due: Due, origin: &mut Origin, wire: &WireUnit) -> u64
     requires { IsOrigin origin.old }
     ensures value { result ≡ spec.base_of due origin.old wire.now }
-    ensures origin { origin.new ≡ origin_with origin.old wire.now.packet (spec.base_of due origin.old wire.now) }
+    ensures origin { origin.new
+        ≡ origin_with origin.old wire.now.packet wire.now.unit.dts (spec.base_of due origin.old wire.now) }
     ensures clock { IsOrigin origin.new }
     ensures bound { result < 2 ^ 33 }
 {
     let packet = wire.packet;
-    let base = base_by(due.earliest, origin.base_for(packet), wire);
-    *origin = origin.fixed(packet, base);
+    let base = base_by(due.earliest, origin.base_for(packet, wire.dts), wire);
+    *origin = origin.fixed(packet, wire.dts, base);
     base
 }
 

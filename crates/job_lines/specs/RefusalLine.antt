@@ -1,10 +1,11 @@
 -- The line for the refusal of a stream.
-use Rattle.std.specs.Prelude.{ℕ, ◌-◌, nat_lt, Bool, false, if◌then◌else◌, List, [], ◌++◌, Option, Some, None, codes, decimal}
+use Rattle.std.specs.Prelude.{ℕ, ◌-◌, ◌&&◌, nat_lt, Bool, false, if◌then◌else◌, List, [], ◌++◌, Option, Some, None, codes, decimal}
 use Rattle.diagnosis.specs.FaultLines.{fault_line}
 use Rattle.es_moments.specs.declared.stamps.StampFault.{StampFault}
 use Rattle.es_moments.specs.declared.stamps.StampFault.TheVariants.{DtsNotIncreasing, PtsOutOfRange, DtsTooFar}
 use Rattle.es_moments.specs.declared.dts_from_pts.DtsFault.{DtsFault}
 use Rattle.es_moments.specs.declared.dts_from_pts.DtsFault.TheVariants.{SamePts, PtsTooLate}
+use Rattle.job_programs.specs.JobOptions.{is_among}
 use Rattle.job_programs.specs.declared.refusal.GreaterBuffers.{GreaterBuffers}
 use Rattle.job_programs.specs.declared.refusal.JobRefusal.{JobRefusal}
 use Rattle.job_programs.specs.declared.refusal.NamedNumbers.{NamedNumbers}
@@ -27,9 +28,17 @@ has_fallen DtsTooFar = false
 unfoldable pub fallen_text : Bool → List ℕ
 fallen_text fallen = if fallen then codes "; --joined takes recordings that were joined\n" else codes "\n"
 
+-- DTS fall with a clock: the stream is one of these, whose clocks go back
+abbrev pub falls_with : List ℕ → ℕ → StampFault → Bool
+falls_with falling pid fault = has_fallen fault && is_among pid falling
+
 -- what would mend them, if something would
-unfoldable pub remedy_text : Bool → StampFault → List ℕ
-remedy_text mended fault = if mended then codes "; --make-dts makes DTS from the PTS\n" else fallen_text (has_fallen fault)
+unfoldable pub remedy_text : Bool → Bool → List ℕ
+remedy_text mended fallen = if mended then codes "; --make-dts makes DTS from the PTS\n" else fallen_text fallen
+
+unfoldable pub stamps_line : Bool → ℕ → ℕ → StampFault → Bool → List ℕ
+stamps_line fallen packet pid fault mended = codes "packet " ++ decimal packet ++ codes " pid " ++ decimal pid ++ stamps_text fault
+    ++ remedy_text mended fallen
 
 -- a stream for which no DTS can be made, after its PID
 unfoldable pub making_text : DtsFault → List ℕ
@@ -76,8 +85,7 @@ refusal_line (StreamId packet pid id) = codes "packet " ++ decimal packet ++ cod
 refusal_line (NoStamps pid) = codes "pid " ++ decimal pid ++ codes " has no PTS in its PES packets\n"
 refusal_line (OtherStreamId packet pid id first) = codes "packet " ++ decimal packet ++ codes " pid " ++ decimal pid ++ codes " stream_id " ++ decimal id
     ++ codes " after " ++ decimal first ++ codes "\n"
-refusal_line (Stamps packet pid fault mended) = codes "packet " ++ decimal packet ++ codes " pid " ++ decimal pid ++ stamps_text fault
-    ++ remedy_text mended fault
+refusal_line (Stamps packet pid fault mended) = stamps_line false packet pid fault mended
 refusal_line (Dts pid fault) = codes "pid " ++ decimal pid ++ making_text fault
 refusal_line (Units pid count) = codes "pid " ++ decimal pid ++ codes " has " ++ decimal count ++ codes " units: more than 1048576\n"
 refusal_line (Size pid size) = codes "pid " ++ decimal pid ++ codes " unit of " ++ decimal size ++ codes " bytes is too large\n"
@@ -86,3 +94,8 @@ refusal_line Pids = codes "no PID is left for a PMT or a PCR\n"
 refusal_line (Description fault) = codes "the description is refused: " ++ fault_line [] fault
 refusal_line (Plan rate) = codes "no plan at rate " ++ decimal rate ++ codes ": tsjob why names what prevents one\n"
 refusal_line (Declaration pid) = codes "pid " ++ decimal pid ++ codes " breaks its own declaration\n"
+
+-- the same in a recording that has streams whose clocks go back, and is not taken as joined: then `--joined` takes DTS that fall with the clock
+unfoldable pub refusal_in : List ℕ → JobRefusal → List ℕ
+refusal_in falling (Stamps packet pid fault mended) = stamps_line (falls_with falling pid fault) packet pid fault mended
+refusal_in falling refusal = refusal_line refusal

@@ -19,7 +19,7 @@ use Rattle.job_programs.specs.declared.refusal.JobRefusal.{JobRefusal}
 use Rattle.job_programs.specs.declared.refusal.NamedNumbers.{NamedNumbers}
 use Rattle.job_lines.specs.declared.reporting.Reporting.{Reporting}
 use Rattle.job_lines.specs.InformationLines.{information_line}
-use Rattle.job_lines.specs.RefusalLine.{named_text, refusal_line}
+use Rattle.job_lines.specs.RefusalLine.{named_text, refusal_in}
 
 -- 1. A line each
 
@@ -108,29 +108,30 @@ leak_line pid rate leak = codes "pid " ++ decimal pid ++ codes " asks for " ++ d
 unfoldable pub frames_line : ℕ → ℕ → List ℕ
 frames_line pid frames = codes "pid " ++ decimal pid ++ codes " has units of up to " ++ decimal frames ++ codes " frames: declared without frames\n"
 
--- the lines for a stream that is left out: the line of the refusal that it would be, and a line that says so
-unfoldable pub left_out_line : ℕ → JobRefusal → List ℕ
-left_out_line pid why = refusal_line why ++ codes "pid " ++ decimal pid ++ codes " left out\n"
+-- the lines for a stream that is left out: the line of the refusal that it would be, in a recording with streams whose clocks go back, and a line that says
+-- so
+unfoldable pub left_out_line : List ℕ → ℕ → JobRefusal → List ℕ
+left_out_line falling pid why = refusal_in falling why ++ codes "pid " ++ decimal pid ++ codes " left out\n"
 
-unfoldable pub warning_line : Warning → List ℕ
-warning_line (warning.Packet packet what) = packet_line packet what
-warning_line (warning.TrailingBytes size) = codes "rest of " ++ decimal size ++ codes " bytes\n"
-warning_line (warning.Map program packet part) = map_line program packet part
-warning_line (warning.Table left_out) = table_line left_out
-warning_line (warning.StrayPes pid count) = codes "pid " ++ decimal pid ++ codes " has " ++ decimal count ++ codes " PES packets of no program: left out\n"
-warning_line (warning.Program program what) = program_line program what
-warning_line (warning.NoSuchStream pid) = codes "pid " ++ decimal pid ++ codes " is no stream\n"
-warning_line (warning.Units pid left_out) = unit_line pid left_out
-warning_line (warning.NoUnit program pid) = codes "pid " ++ decimal pid ++ codes " of program " ++ decimal program ++ codes " has no unit: left out\n"
-warning_line (warning.StreamId program pid packet id) = id_line program pid packet id
-warning_line warning.UnreadNetwork = codes "name of the network has characters that cannot be read\n"
-warning_line (warning.Information about) = information_line about
-warning_line (warning.MapMoved program from to) = codes "PMT of program " ++ decimal program ++ codes " moved from pid " ++ decimal from ++ codes " to "
+unfoldable pub warning_line : List ℕ → Warning → List ℕ
+warning_line falling (warning.Packet packet what) = packet_line packet what
+warning_line falling (warning.TrailingBytes size) = codes "rest of " ++ decimal size ++ codes " bytes\n"
+warning_line falling (warning.Map program packet part) = map_line program packet part
+warning_line falling (warning.Table left_out) = table_line left_out
+warning_line falling (warning.StrayPes pid count) = codes "pid " ++ decimal pid ++ codes " has " ++ decimal count ++ codes " PES packets of no program: left out\n"
+warning_line falling (warning.Program program what) = program_line program what
+warning_line falling (warning.NoSuchStream pid) = codes "pid " ++ decimal pid ++ codes " is no stream\n"
+warning_line falling (warning.Units pid left_out) = unit_line pid left_out
+warning_line falling (warning.NoUnit program pid) = codes "pid " ++ decimal pid ++ codes " of program " ++ decimal program ++ codes " has no unit: left out\n"
+warning_line falling (warning.StreamId program pid packet id) = id_line program pid packet id
+warning_line falling warning.UnreadNetwork = codes "name of the network has characters that cannot be read\n"
+warning_line falling (warning.Information about) = information_line about
+warning_line falling (warning.MapMoved program from to) = codes "PMT of program " ++ decimal program ++ codes " moved from pid " ++ decimal from ++ codes " to "
     ++ decimal to ++ codes "\n"
-warning_line (warning.HeaderBuffer pid said unit counted) = header_line pid said unit counted
-warning_line (warning.Leak pid rate leak) = leak_line pid rate leak
-warning_line (warning.LeftOut pid why) = left_out_line pid why
-warning_line (warning.Frames pid frames) = frames_line pid frames
+warning_line falling (warning.HeaderBuffer pid said unit counted) = header_line pid said unit counted
+warning_line falling (warning.Leak pid rate leak) = leak_line pid rate leak
+warning_line falling (warning.LeftOut pid why) = left_out_line falling pid why
+warning_line falling (warning.Frames pid frames) = frames_line pid frames
 
 -- 2. All of them
 
@@ -176,13 +177,13 @@ goes_on None now = false
 goes_on (Some run) None = false
 goes_on (Some run) (Some now) = run.0 == now.0 && (if run.1 then now.1 else not now.1)
 
-abbrev pub line_after : Option (ℕ × Bool) → Warning → List ℕ
-line_after before w = if goes_on before (run_of w) then [] else warning_line w
+abbrev pub line_after : List ℕ → Option (ℕ × Bool) → Warning → List ℕ
+line_after falling before w = if goes_on before (run_of w) then [] else warning_line falling w
 
 -- a line each, and one for each run of scrambled or of stray packets of a PID
-unfoldable pub lines_after : Option (ℕ × Bool) → List Warning → List ℕ
-lines_after before [] = []
-lines_after before (w ∷ warnings) = line_after before w ++ lines_after (run_of w) warnings
+unfoldable pub lines_after : List ℕ → Option (ℕ × Bool) → List Warning → List ℕ
+lines_after falling before [] = []
+lines_after falling before (w ∷ warnings) = line_after falling before w ++ lines_after falling (run_of w) warnings
 
-abbrev pub warning_lines : List Warning → List ℕ
-warning_lines warnings = lines_after None warnings
+abbrev pub warning_lines : List ℕ → List Warning → List ℕ
+warning_lines falling warnings = lines_after falling None warnings

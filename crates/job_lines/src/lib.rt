@@ -22,7 +22,7 @@ mod warning_lines;
 
 pub use field_lines::{are_needed, reported_fields, write_fields};
 pub use input_lines::{are_lost, write_input, write_notes};
-pub use refusal_line::write_refusal;
+pub use refusal_line::{write_refusal, write_refusal_in};
 pub use reporting::Reporting;
 pub use slip_lines::{write_packets, write_slips};
 pub use table_lines::{are_missed, reported_tables, write_other_tables};

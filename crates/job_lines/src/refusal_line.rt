@@ -7,6 +7,7 @@ ghost use Rattle.job_programs.specs.declared.refusal.JobRefusal.TheVariants as r
 use description_keys::DescFault;
 use diagnosis::write_fault;
 use es_moments::{DtsFault, StampFault};
+use job_programs::job_options::is_among;
 use job_programs::{GreaterBuffers, JobRefusal, NamedNumbers};
 use std::alloc::AllocError;
 use std::fmt::Write;
@@ -76,21 +77,29 @@ fn write_fallen(fallen: bool, text: &mut String) -> Result<(), AllocError>
     }
 }
 
+// Returns whether DTS fall with the clock of their stream, one of the streams whose clocks go back.
+fn falls_with(falling: &[u16], pid: u16, fault: StampFault) -> bool
+    ensures { result ≡ spec.falls_with falling.now pid fault }
+{
+    has_fallen(fault) && is_among(pid, falling)
+}
+
 // Appends how to mend time stamps, if there is a way.
 #[tactic(auto, unfolding(crate::specs::RefusalLine::remedy_text))]
-fn write_remedy(mended: bool, fault: StampFault, text: &mut String) -> Result<(), AllocError>
-    ensures { OnOk result (string_bytes text.new ≡ string_bytes text.old ++ spec.remedy_text mended fault) }
+fn write_remedy(mended: bool, fallen: bool, text: &mut String) -> Result<(), AllocError>
+    ensures { OnOk result (string_bytes text.new ≡ string_bytes text.old ++ spec.remedy_text mended fallen) }
 {
     if mended {
         text.push_str("; --make-dts makes DTS from the PTS\n")
     } else {
-        write_fallen(has_fallen(fault), text)
+        write_fallen(fallen, text)
     }
 }
 
 // Appends a unit whose time stamps can't be moments of a run.
-#[tactic(auto, unfolding(crate::specs::RefusalLine::refusal_line))]
+#[tactic(auto, unfolding(crate::specs::RefusalLine::stamps_line))]
 fn write_stamps_of(
+    fallen: bool,
     packet: u64,
     pid: u16,
     fault: StampFault,
@@ -98,11 +107,11 @@ fn write_stamps_of(
     text: &mut String,
 ) -> Result<(), AllocError>
     ensures { OnOk result (string_bytes text.new
-        ≡ string_bytes text.old ++ spec.refusal_line (refusals.Stamps packet pid fault mended)) }
+        ≡ string_bytes text.old ++ spec.stamps_line fallen packet pid fault mended) }
 {
     write!(text, "packet {packet} pid {pid}")?;
     write_stamps(fault, text)?;
-    write_remedy(mended, fault, text)
+    write_remedy(mended, fallen, text)
 }
 
 // Appends why no DTS can be made from the PTS.
@@ -288,7 +297,7 @@ pub fn write_refusal(refusal: JobRefusal, text: &mut String) -> Result<(), Alloc
             pid,
             fault,
             mended,
-        } => write_stamps_of(packet, pid, fault, mended, text),
+        } => write_stamps_of(false, packet, pid, fault, mended, text),
         JobRefusal::Dts { pid, fault } => write_making_of(pid, fault, text),
         JobRefusal::Units { pid, count } => write_count(pid, count, text),
         JobRefusal::Size { pid, size } => write_size(pid, size, text),
@@ -306,5 +315,33 @@ pub fn write_refusal(refusal: JobRefusal, text: &mut String) -> Result<(), Alloc
             "no plan at rate {rate}: tsjob why names what prevents one\n"
         ),
         JobRefusal::Declaration(pid) => { write!(text, "pid {pid} breaks its own declaration\n") }
+    }
+}
+
+/// Appends the line of a refusal in a recording with streams of these PIDs whose clocks go back.
+#[tactic(auto, unfolding(crate::specs::RefusalLine::refusal_in))]
+pub fn write_refusal_in(
+    falling: &[u16],
+    refusal: JobRefusal,
+    text: &mut String,
+) -> Result<(), AllocError>
+    ensures { OnOk result
+        (string_bytes text.new ≡ string_bytes text.old ++ spec.refusal_in falling.now refusal) }
+{
+    match refusal {
+        JobRefusal::Stamps {
+            packet,
+            pid,
+            fault,
+            mended,
+        } => write_stamps_of(
+            falls_with(falling, pid, fault),
+            packet,
+            pid,
+            fault,
+            mended,
+            text,
+        ),
+        other => write_refusal(other, text),
     }
 }

@@ -5,7 +5,7 @@ ghost use Rattle.job_programs.specs.Warnings.{are_damaged};
 ghost use Rattle.job_lines.specs.WarningLines as spec;
 
 use crate::information_lines::write_information;
-use crate::refusal_line::{write_named, write_refusal};
+use crate::refusal_line::{write_named, write_refusal_in};
 use crate::reporting::Reporting;
 use es_units::{UnitWarning, UnitWarningCause};
 use job_programs::{JobRefusal, NamedNumbers, PacketWarning, ProgramWarning, Warning};
@@ -247,17 +247,23 @@ fn write_frames(pid: u16, frames: u8, text: &mut String) -> Result<(), AllocErro
 
 // Appends the lines for a stream that is left out.
 #[tactic(auto, unfolding(crate::specs::WarningLines::left_out_line))]
-fn write_left_out(pid: u16, why: JobRefusal, text: &mut String) -> Result<(), AllocError>
-    ensures { OnOk result (string_bytes text.new ≡ string_bytes text.old ++ spec.left_out_line pid why) }
+fn write_left_out(
+    falling: &[u16],
+    pid: u16,
+    why: JobRefusal,
+    text: &mut String,
+) -> Result<(), AllocError>
+    ensures { OnOk result
+        (string_bytes text.new ≡ string_bytes text.old ++ spec.left_out_line falling.now pid why) }
 {
-    write_refusal(why, text)?;
+    write_refusal_in(falling, why, text)?;
     write!(text, "pid {pid} left out\n")
 }
 
 // Appends the line of a warning.
 #[tactic(auto, unfolding(crate::specs::WarningLines::warning_line))]
-fn write_warning(warning: Warning, text: &mut String) -> Result<(), AllocError>
-    ensures { OnOk result (string_bytes text.new ≡ string_bytes text.old ++ spec.warning_line warning) }
+fn write_warning(falling: &[u16], warning: Warning, text: &mut String) -> Result<(), AllocError>
+    ensures { OnOk result (string_bytes text.new ≡ string_bytes text.old ++ spec.warning_line falling.now warning) }
 {
     match warning {
         Warning::Packet { packet, what } => write_packet(packet, what, text),
@@ -300,7 +306,7 @@ fn write_warning(warning: Warning, text: &mut String) -> Result<(), AllocError>
             counted,
         } => write_header_buffer(pid, said, unit, counted, text),
         Warning::Leak { pid, rate, leak } => write_leak(pid, rate, leak, text),
-        Warning::LeftOut { pid, why } => write_left_out(pid, why, text),
+        Warning::LeftOut { pid, why } => write_left_out(falling, pid, why, text),
         Warning::Frames { pid, frames } => write_frames(pid, frames, text),
     }
 }
@@ -399,25 +405,28 @@ fn goes_on(before: Option<(u16, bool)>, now: Option<(u16, bool)>) -> bool
 
 // Appends the line of a warning, unless its packet is of the same run as the packet of the warning before.
 fn write_after(
+    falling: &[u16],
     before: Option<(u16, bool)>,
     warning: Warning,
     text: &mut String,
 ) -> Result<(), AllocError>
-    ensures { OnOk result (string_bytes text.new ≡ string_bytes text.old ++ spec.line_after before warning) }
+    ensures { OnOk result
+        (string_bytes text.new ≡ string_bytes text.old ++ spec.line_after falling.now before warning) }
 {
     if goes_on(before, run_of(warning)) {
         return Ok(());
     }
-    write_warning(warning, text)
+    write_warning(falling, warning, text)
 }
 
-/// Appends a line for each warning; one for each run of scrambled or of stray packets of a PID.
-pub fn write_warnings(all: &[Warning], text: &mut String) -> Result<(), AllocError>
-    ensures { OnOk result (string_bytes text.new ≡ string_bytes text.old ++ spec.warning_lines all.now) }
+/// Appends a line for each warning; one for each run of scrambled or of stray packets of a PID. The streams of the PIDs
+/// `falling` have clocks that go back.
+pub fn write_warnings(falling: &[u16], all: &[Warning], text: &mut String) -> Result<(), AllocError>
+    ensures { OnOk result (string_bytes text.new ≡ string_bytes text.old ++ spec.warning_lines falling.now all.now) }
 {
     let mut before = None;
     for warning in all {
-        write_after(before, *warning, text)?;
+        write_after(falling, before, *warning, text)?;
         before = run_of(*warning);
     }
     Ok(())

@@ -122,12 +122,12 @@ rest_is piece held front later joined at n f l j past within =
 
 -- 5. The end
 
-pub stream_ended : (bytes held : List ℕ) (at : ℕ) (p : PacketsView) (recodings : List Recoding) (jumps : List Cut) (references : List FoundPcr)
+pub stream_ended : (bytes held : List ℕ) (at : ℕ) (p : PacketsView) (recodings : List Recoding) (jumps : List Cut) (falling : List ℕ) (references : List FoundPcr)
     (demux : StreamState) →
-    length held ≤ at → IsCarriedTo bytes true (record { held = drop at held; packets = p }) → recodings ≡ [] → jumps ≡ [] → references ≡ p.log.found →
+    length held ≤ at → IsCarriedTo bytes true (record { held = drop at held; packets = p }) → recodings ≡ [] → jumps ≡ [] → falling ≡ [] → references ≡ p.log.found →
     demux ≡ finished p.demux →
-    IsOfStream bytes (record { slips = p.notes.slips; fields = p.notes.fields; recodings = recodings; jumps = jumps }) references demux.found p.size
-stream_ended bytes held at p recodings jumps references demux past so e j r f =
+    IsOfStream bytes (record { slips = p.notes.slips; fields = p.notes.fields; recodings = recodings; jumps = jumps; falling = falling }) references demux.found p.size
+stream_ended bytes held at p recodings jumps falling references demux past so e j g r f =
     let none : drop at held ≡ [] = drop_all at held past in
     let whole : bytes ++ [] ≡ bytes = append-nil bytes in
     let left : drop at held ++ [] ≡ [] = append-nil (drop at held) ∙ none in
@@ -137,8 +137,10 @@ stream_ended bytes held at p recodings jumps references demux past so e j r f =
     let said = all_noted bytes p.notes
     (alike_at no_notes p.notes bytes (bytes ++ []) [] (drop at held ++ []) (sym whole) (sym left) (so.said [] (λ e. refl))) in
     record {
-      notes_are = ap₂ (λ (z : List Recoding) (x : List Cut). record { slips = p.notes.slips; fields = p.notes.fields; recodings = z; jumps = x }) e j
-          ∙ ap₂ (λ x y. record { slips = x; fields = y; recodings = []; jumps = [] }) said.0 said.1;
+      notes_are = ap₂
+          (λ (z : List Recoding) (x : List Cut). record { slips = p.notes.slips; fields = p.notes.fields; recodings = z; jumps = x; falling = falling }) e j
+          ∙ ap (λ (z : List ℕ). record { slips = p.notes.slips; fields = p.notes.fields; recodings = []; jumps = []; falling = z }) g
+          ∙ ap₂ (λ x y. record { slips = x; fields = y; recodings = []; jumps = []; falling = [] }) said.0 said.1;
       references_are = r ∙ ap (λ (l : LogView). l.found) so.log_is ∙ ap references_in (sym all);
       found_is = ap (λ (d : StreamState). d.found) f ∙ ap (λ (d : StreamState). (finished d).found) so.demux_is
           ∙ ap (λ (r : List ℕ). (finished (pushed start r)).found) (sym all);

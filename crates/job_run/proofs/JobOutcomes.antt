@@ -37,7 +37,7 @@ use Rattle.packet_sync.specs.Slips.{carried}
 use Rattle.packet_sync.specs.declared.packet_sizes.OtherPackets.{OtherPackets}
 use Rattle.job_lines.specs.SlipLines.{packets_line}
 use Rattle.job_run.specs.Outcomes.{BytesLead, FindingsLead, Gives, GivesJob, GivesReasons, GivesUnits, IsFound, IsReasonOutput, IsWritten, Leads, InputLeads}
-use Rattle.job_run.specs.Outcomes.{ReportsWhy, Withholds, found_line}
+use Rattle.job_run.specs.Outcomes.{ReportsRefusal, ReportsWhy, Withholds, found_line}
 use Rattle.std.specs.Int.{bytes_high_first}
 use Rattle.unit_records.specs.Records.{private_bytes, private_size, record_head, word_of}
 use Rattle.es_records.specs.Records.{records_of, written}
@@ -195,13 +195,13 @@ with_input arguments notes count findings m o a l =
 -- There is no job input.
 refused : (arguments : JobArgumentsView) (notes : PacketNotesView) (findings : List FindingView) (r : Result JobInputView JobRefusal) (error : JobError)
     (o : Outcome) →
-    Answers r (Err error) → ReportsWhy error o → InputLeads arguments notes findings r o
+    Answers r (Err error) → ReportsRefusal notes.falling error o → InputLeads arguments notes findings r o
 unfolding Answers Refuses
 refused arguments notes findings r Memory o a t = absurd t
 refused arguments notes findings r (Refused refusal) o a t = subst (λ (r : Result JobInputView JobRefusal). InputLeads arguments notes findings r o) (sym a) t
 
 pub without_input : (arguments : JobArgumentsView) (notes : PacketNotesView) (count : ℕ) (findings : List FindingView) (error : JobError) (o : Outcome) →
-    Answers (job_input arguments.options count findings) (Err error) → ReportsWhy error o → FindingsLead arguments notes count findings o
+    Answers (job_input arguments.options count findings) (Err error) → ReportsRefusal notes.falling error o → FindingsLead arguments notes count findings o
 without_input arguments notes count findings error o a t = refused arguments notes findings (job_input arguments.options count findings) error o a t
 
 -- 3. The outcome of the bytes that were read

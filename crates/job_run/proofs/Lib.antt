@@ -1,4 +1,5 @@
 pub mod Carrying
+pub mod JobFindings
 pub mod JobOutcomes
 pub mod Fronts
 mod StreamFiles

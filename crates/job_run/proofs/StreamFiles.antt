@@ -24,7 +24,7 @@ use Rattle.packet_sync.specs.OtherPackets.{other_packets}
 use Rattle.packet_sync.specs.Slips.{carried}
 use Rattle.packet_sync.specs.declared.packet_sizes.OtherPackets.{OtherPackets}
 use Rattle.job_lines.specs.InputLines.{are_lost, input_line, name_of, note_lines}
-use Rattle.job_lines.specs.RefusalLine.{refusal_line}
+use Rattle.job_lines.specs.RefusalLine.{refusal_in}
 use Rattle.job_lines.specs.SlipLines.{packets_line}
 use Rattle.job_programs.specs.Answers.{Answers, Refuses}
 use Rattle.data_times.specs.References.{references_in}
@@ -38,7 +38,7 @@ use Rattle.job_programs.specs.declared.refusal.JobError.TheVariants.{Memory, Ref
 use Rattle.job_programs.specs.declared.refusal.JobRefusal.{JobRefusal}
 use Rattle.job_inputs.proofs.JoinedStreams.{joined_found}
 use Rattle.job_run.specs.JobArguments.{JobArgumentsView}
-use Rattle.job_run.specs.Outcomes.{ReportsWhy, Withholds, reports_loss, status_of, reported_lines, unless_quiet}
+use Rattle.job_run.specs.Outcomes.{ReportsRefusal, ReportsWhy, Withholds, reports_loss, status_of, reported_lines, unless_quiet}
 use Rattle.job_run.specs.SeveralInputs.{GivesIn, InputsLead, JoinedLead, NamedStream, all_findings, all_joined, are_streams_less, input_or_line, names_of}
 use Rattle.job_run.specs.SeveralInputs.{packets_input, stream_input, stream_inputs, streams_lines, under, with_first}
 use Rattle.job_run.specs.StreamFiles.{AreNamedInputs, AreTaken, EndsAt, FilesLead, HasRead, IsInput, IsInputIn, IsInputOf, IsLedTo, IsNamedInput, IsRefusalOf}
@@ -62,38 +62,39 @@ is_taken_of a notes count findings m t is streams same lines less = record {
   less_is = less ∙ ap (λ (x : JobInputView). reports_loss a.reporting notes findings x) (sym same);
 }
 
-pub is_refusal_of : (a : JobArgumentsView) (count : ℕ) (findings : List FindingView) (error : JobError) (o : Outcome) →
-    Answers (job_input a.options count findings) (Err error) → ReportsWhy error o →
-    IsRefusalOf a count findings o
+pub is_refusal_of : (a : JobArgumentsView) (notes : PacketNotesView) (count : ℕ) (findings : List FindingView) (error : JobError) (o : Outcome) →
+    Answers (job_input a.options count findings) (Err error) → ReportsRefusal notes.falling error o →
+    IsRefusalOf a notes count findings o
 unfolding Answers Refuses
-is_refusal_of a count findings Memory o is outcome_is = absurd outcome_is
-is_refusal_of a count findings (Refused refusal) o is outcome_is = record { refusal = refusal; refused = is; is = outcome_is }
+is_refusal_of a notes count findings Memory o is outcome_is = absurd outcome_is
+is_refusal_of a notes count findings (Refused refusal) o is outcome_is = record { refusal = refusal; refused = is; is = outcome_is }
 
 -- A stream of packets of 188 bytes
 plain_input : (a : JobArgumentsView) (bytes : List ℕ) (x : Result JobInputView JobRefusal) → other_packets bytes ≡ None →
-    job_input a.options (length (carried bytes) / 188) (findings_for a.options bytes) ≡ x → stream_input a.options bytes ≡ input_or_line x
+    job_input a.options (length (carried bytes) / 188) (findings_for a.options bytes) ≡ x → stream_input a.options bytes ≡ input_or_line (notes_for a.options bytes).falling x
 unfolding packets_input
-plain_input a bytes x none is = ap (λ (p : Option OtherPackets). packets_input a.options bytes p) none ∙ ap input_or_line is
+plain_input a bytes x none is = ap (λ (p : Option OtherPackets). packets_input a.options bytes p) none
+    ∙ ap (λ (r : Result JobInputView JobRefusal). input_or_line (notes_for a.options bytes).falling r) is
 
-of_value : (m : JobInputView) → input_or_line (Ok m) ≡ Ok m
+of_value : (falling : List ℕ) (m : JobInputView) → input_or_line falling (Ok m) ≡ Ok m
 unfolding input_or_line
-of_value m = refl
+of_value falling m = refl
 
-of_refusal : (refusal : JobRefusal) → input_or_line (Err refusal) ≡ Err (refusal_line refusal)
+of_refusal : (falling : List ℕ) (refusal : JobRefusal) → input_or_line falling (Err refusal) ≡ Err (refusal_in falling refusal)
 unfolding input_or_line
-of_refusal refusal = refl
+of_refusal falling refusal = refl
 
 of_bytes : (a : JobArgumentsView) (bytes : List ℕ) (r : Result TakenView Outcome) → other_packets bytes ≡ None →
     IsInputOf a (notes_for a.options bytes) (length (carried bytes) / 188) (findings_for a.options bytes) r → IsInput a bytes r
 of_bytes a bytes (Ok t) none is = record {
-  input_is = plain_input a bytes (Ok t.input) none is.input_is ∙ of_value t.input;
+  input_is = plain_input a bytes (Ok t.input) none is.input_is ∙ of_value (notes_for a.options bytes).falling t.input;
   streams = is.streams;
   lines_are = is.lines_are;
   less_is = is.less_is;
 }
 of_bytes a bytes (Err o) none is = record {
-  line = refusal_line is.refusal;
-  refused = plain_input a bytes (Err is.refusal) none is.refused ∙ of_refusal is.refusal;
+  line = refusal_in (notes_for a.options bytes).falling is.refusal;
+  refused = plain_input a bytes (Err is.refusal) none is.refused ∙ of_refusal (notes_for a.options bytes).falling is.refusal;
   is = is.is;
 }
 

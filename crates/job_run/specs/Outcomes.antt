@@ -40,7 +40,7 @@ use Rattle.job_run.specs.declared.job_arguments.Subcommand.TheVariants.{Whole, D
 use Rattle.job_run.specs.JobArguments.{JobArgumentsView}
 use Rattle.job_lines.specs.FieldLines.{field_lines, reported_fields}
 use Rattle.es_records.specs.Records.{records_of, written}
-use Rattle.job_lines.specs.RefusalLine.{refusal_line}
+use Rattle.job_lines.specs.RefusalLine.{refusal_in, refusal_line}
 use Rattle.job_lines.specs.SlipLines.{packets_line, slip_lines}
 use Rattle.job_run.specs.JumpLines.{any_jump, jump_lines}
 use Rattle.job_run.specs.RecodingLines.{recodings_text}
@@ -125,9 +125,9 @@ is_lossy slips fields tables warnings =
     not (length slips == 0) || list_any (λ f. is_field_loss f.field) fields || list_any (λ t. is_loss t.kind) tables || are_damaged warnings
 
 -- a line for each slip, for each field of a PID that is not written again, for each PID with tables that are not carried, and
--- for each reported warning
-abbrev pub loss_lines : List Slip → List FieldLeftOut → List OtherTable → List Warning → List ℕ
-loss_lines slips fields tables warnings = slip_lines slips ++ field_lines fields ++ other_table_lines tables ++ warning_lines warnings
+-- for each reported warning, in a stream with streams whose clocks go back
+abbrev pub loss_lines : List ℕ → List Slip → List FieldLeftOut → List OtherTable → List Warning → List ℕ
+loss_lines falling slips fields tables warnings = slip_lines slips ++ field_lines fields ++ other_table_lines tables ++ warning_lines falling warnings
 
 -- no lines where only refusals are reported
 abbrev pub unless_quiet : Bool → List ℕ → List ℕ
@@ -137,7 +137,8 @@ unless_quiet quiet lines = if quiet then [] else lines
 abbrev pub reported_lines : Reporting → PacketNotesView → List FindingView → JobInputView → List ℕ
 reported_lines r notes findings m =
     unless_quiet r.quiet
-    ((loss_lines notes.slips (reported_fields r.all m notes.fields) (reported_tables r.all m (other_tables findings)) (reported_warnings r m.warnings)
+    ((loss_lines notes.falling notes.slips (reported_fields r.all m notes.fields) (reported_tables r.all m (other_tables findings))
+    (reported_warnings r m.warnings)
     ++ recodings_text r.all notes.recodings) ++ jump_lines m notes.jumps)
 
 -- whether something is lost, or a clock of the job's programs jumps ahead
@@ -168,7 +169,7 @@ pub record IsRefused (arguments : JobArgumentsView) (m : JobInputView) (o : Outc
 -- for the job input of a stream, or for a stream that is refused
 abbrev pub InputLeads : JobArgumentsView → PacketNotesView → List FindingView → Result JobInputView JobRefusal → Outcome → Type 0
 InputLeads arguments notes findings (Ok m) o = IsGiven arguments notes findings m o ⊎ IsRefused arguments m o
-InputLeads arguments notes findings (Err refusal) o = o ≡ reported (refusal_line refusal)
+InputLeads arguments notes findings (Err refusal) o = o ≡ reported (refusal_in notes.falling refusal)
 
 -- for the findings in a stream of `count` whole packets
 abbrev pub FindingsLead : JobArgumentsView → PacketNotesView → ℕ → List FindingView → Outcome → Type 0
@@ -187,6 +188,11 @@ Leads arguments bytes o = BytesLead arguments bytes (other_packets bytes) o
 abbrev pub ReportsWhy : JobError → Outcome → Type 0
 ReportsWhy Memory o = ⊥
 ReportsWhy (Refused refusal) o = o ≡ reported (refusal_line refusal)
+
+-- the same for a stream with streams whose clocks go back
+abbrev pub ReportsRefusal : List ℕ → JobError → Outcome → Type 0
+ReportsRefusal falling Memory o = ⊥
+ReportsRefusal falling (Refused refusal) o = o ≡ reported (refusal_in falling refusal)
 
 -- 3. How it is written
 

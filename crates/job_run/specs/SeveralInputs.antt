@@ -20,7 +20,7 @@ use Rattle.job_programs.specs.declared.refusal.JobRefusal.{JobRefusal}
 use Rattle.job_programs.specs.declared.refusal.JobRefusal.TheVariants.{NoStream}
 use Rattle.devices.specs.Outcomes.{Outcome, reported}
 use Rattle.job_lines.specs.InputLines.{are_lost, input_line, note_lines}
-use Rattle.job_lines.specs.RefusalLine.{refusal_line}
+use Rattle.job_lines.specs.RefusalLine.{refusal_in, refusal_line}
 use Rattle.job_lines.specs.SlipLines.{packets_line}
 use Rattle.es_records.specs.Records.{written}
 use Rattle.job_run.specs.declared.job_arguments.Subcommand.{Subcommand}
@@ -43,13 +43,14 @@ all_findings options streams = map (λ s. findings_for options s.bytes) streams
 
 -- 1. What a job takes from each stream, by the same options; or the line that says why it takes nothing
 
-unfoldable pub input_or_line : Result JobInputView JobRefusal → Result JobInputView (List ℕ)
-input_or_line (Ok m) = Ok m
-input_or_line (Err refusal) = Err (refusal_line refusal)
+unfoldable pub input_or_line : List ℕ → Result JobInputView JobRefusal → Result JobInputView (List ℕ)
+input_or_line falling (Ok m) = Ok m
+input_or_line falling (Err refusal) = Err (refusal_in falling refusal)
 
 unfoldable pub packets_input : JobOptionsView → List ℕ → Option OtherPackets → Result JobInputView (List ℕ)
 packets_input options bytes (Some packets) = Err (packets_line packets)
-packets_input options bytes None = input_or_line (job_input options (length (carried bytes) / 188) (findings_for options bytes))
+packets_input options bytes None =
+    input_or_line (notes_for options bytes).falling (job_input options (length (carried bytes) / 188) (findings_for options bytes))
 
 abbrev pub stream_input : JobOptionsView → List ℕ → Result JobInputView (List ℕ)
 stream_input options bytes = packets_input options bytes (other_packets bytes)

@@ -12,7 +12,7 @@ use Rattle.job_inputs.specs.JobInput.{JobInputView, job_input, AreStreams}
 use Rattle.job_inputs.specs.JoinedInputs.{AreStreamsIn, JoinedInputsView}
 use Rattle.job_programs.specs.declared.refusal.JobRefusal.{JobRefusal}
 use Rattle.job_lines.specs.InputLines.{are_lost, input_line, name_of, note_lines}
-use Rattle.job_lines.specs.RefusalLine.{refusal_line}
+use Rattle.job_lines.specs.RefusalLine.{refusal_in, refusal_line}
 use Rattle.job_run.specs.JobArguments.{JobArgumentsView}
 use Rattle.job_run.specs.Outcomes.{IsWritten, reports_loss, status_of, reported_lines, unless_quiet}
 use Rattle.job_run.specs.SeveralInputs.{GivesIn, IsRefusedIn, NamedStream, StreamsLead, all_joined, is_stream_lossy, stream_input, stream_inputs, stream_lines}
@@ -35,14 +35,14 @@ pub record IsTakenOf (a : JobArgumentsView) (notes : PacketNotesView) (count : �
   pub less_is : t.less ≡ reports_loss a.reporting notes findings t.input
 
 -- or they are refused
-pub record IsRefusalOf (a : JobArgumentsView) (count : ℕ) (findings : List FindingView) (o : Outcome) : Type 0 where
+pub record IsRefusalOf (a : JobArgumentsView) (notes : PacketNotesView) (count : ℕ) (findings : List FindingView) (o : Outcome) : Type 0 where
   pub refusal : JobRefusal
   pub refused : job_input a.options count findings ≡ Err refusal
-  pub is : o ≡ reported (refusal_line refusal)
+  pub is : o ≡ reported (refusal_in notes.falling refusal)
 
 abbrev pub IsInputOf : JobArgumentsView → PacketNotesView → ℕ → List FindingView → Result TakenView Outcome → Type 0
 IsInputOf a notes count findings (Ok t) = IsTakenOf a notes count findings t
-IsInputOf a notes count findings (Err o) = IsRefusalOf a count findings o
+IsInputOf a notes count findings (Err o) = IsRefusalOf a notes count findings o
 
 -- the same for the bytes of a stream
 pub record IsTaken (a : JobArgumentsView) (bytes : List ℕ) (t : TakenView) : Type 0 where

@@ -7,7 +7,9 @@ use Rattle.pid_findings.specs.Views.{FindingView}
 use Rattle.data_times.specs.DataTimes.{TimesView, is_timed, timed, times_of}
 use Rattle.data_times.specs.References.{LogView, logged, no_packet, references_in}
 use Rattle.packet_pcr.specs.declared.pcr_reading.FoundPcr.{FoundPcr}
+use Rattle.joined_parts.specs.FallingClocks.{falling_pids}
 use Rattle.joined_parts.specs.JumpsAhead.{jumps_ahead}
+use Rattle.joined_parts.specs.LoneStamps.{lone_damaged}
 use Rattle.joined_parts.specs.Recodings.{recodings_in}
 use Rattle.joined_parts.specs.Recordings.{one_recording, one_references}
 use Rattle.joined_parts.specs.declared.cuts.Cut.{Cut}
@@ -44,23 +46,30 @@ unfoldable pub parts_by : Bool → List FoundPcr → List FindingView → List F
 parts_by false references findings = findings
 parts_by true references findings = one_recording references findings
 
--- the findings from which a job is made: with the moments of teletext that has no stamps
+-- the PIDs of streams whose clocks go back, unless parts are joined
+unfoldable pub falling_by : Bool → List FoundPcr → List FindingView → List ℕ
+falling_by false references findings = falling_pids references findings
+falling_by true references findings = []
+
+-- the findings from which a job is made: with the moments of teletext that has no stamps; a PES packet whose stamps are alone out of order is a damaged one
 abbrev pub findings_by : Bool → List FoundPcr → List FindingView → List FindingView
-findings_by joined references findings = timed (references_by joined references findings) (parts_by joined references findings)
+findings_by joined references findings =
+    lone_damaged (falling_by joined references findings) (timed (references_by joined references findings) (parts_by joined references findings))
 
 abbrev pub findings_for : JobOptionsView → List ℕ → List FindingView
 findings_for options bytes = findings_by options.joined (references_in (carried bytes)) (asked_findings options bytes)
 
--- notes on the packets of a stream: its slips, the fields that are not written again, the changes of codings in a joined recording, and the jumps
--- ahead of its clocks in any other stream
+-- notes on the packets of a stream: its slips, the fields that are not written again, the changes of codings in a joined recording, and in any other
+-- stream the jumps ahead of its clocks, and the PIDs of streams whose clocks go back
 pub record PacketNotesView : Type 0 where
   pub slips : List Slip
   pub fields : List FieldLeftOut
   pub recodings : List Recoding
   pub jumps : List Cut
+  pub falling : List ℕ
 
 abbrev pub notes_of : List ℕ → PacketNotesView
-notes_of bytes = record { slips = slips bytes; fields = fields_left_out bytes; recodings = []; jumps = [] }
+notes_of bytes = record { slips = slips bytes; fields = fields_left_out bytes; recodings = []; jumps = []; falling = [] }
 
 unfoldable pub recodings_by : Bool → List FindingView → List Recoding
 recodings_by false findings = []
@@ -81,14 +90,14 @@ abbrev pub is_unwritten : TimesView → FieldLeftOut → Bool
 is_unwritten t f = not (is_of_unit f.field && is_timed t f.pid)
 
 -- the notes on the packets of a stream from which a job by these options is made
-abbrev pub timed_notes : TimesView → List Recoding → List Cut → PacketNotesView → PacketNotesView
-timed_notes t recodings jumps notes =
-    record { slips = notes.slips; fields = filter (is_unwritten t) notes.fields; recodings = recodings; jumps = jumps }
+abbrev pub timed_notes : TimesView → List Recoding → List Cut → List ℕ → PacketNotesView → PacketNotesView
+timed_notes t recodings jumps falling notes =
+    record { slips = notes.slips; fields = filter (is_unwritten t) notes.fields; recodings = recodings; jumps = jumps; falling = falling }
 
 abbrev pub notes_by : Bool → List FoundPcr → List FindingView → PacketNotesView → PacketNotesView
 notes_by joined references findings notes =
     timed_notes (times_of (references_by joined references findings) (parts_by joined references findings)) (recodings_by joined findings)
-    (jumps_by joined references findings) notes
+    (jumps_by joined references findings) (falling_by joined references findings) notes
 
 abbrev pub notes_for : JobOptionsView → List ℕ → PacketNotesView
 notes_for options bytes = notes_by options.joined (references_in (carried bytes)) (asked_findings options bytes) (notes_of bytes)

@@ -24,6 +24,8 @@ pub(crate) struct PacketNotes {
     pub recodings: Vec<Recoding>,
     /// The jumps ahead of its clocks, if it is no joined recording.
     pub jumps: Vec<Cut>,
+    /// The PIDs of streams whose clocks go back, if it is no joined recording.
+    pub falling: Vec<u16>,
 }
 
 // A contract sees its parts as lists.
@@ -37,6 +39,7 @@ impl Model for PacketNotes {
       fields = n.fields.items;
       recodings = n.recodings.items;
       jumps = n.jumps.items;
+      falling = n.falling.items;
     } };
 }
 
@@ -208,11 +211,13 @@ impl CarriedStream {
         let StreamNotes { slips, fields, .. } = notes;
         let recodings = Vec::new(alloc);
         let jumps = Vec::new(alloc);
+        let falling = Vec::new(alloc);
         let notes = PacketNotes {
             slips,
             fields,
             recodings,
             jumps,
+            falling,
         };
         let references = log.into_references();
         Ok(ReadStream {

@@ -31,8 +31,8 @@ use crate::timed_text::job_findings;
 use job_inputs::{JobInput, job_input, mark_as_asked};
 use job_lines::{
     Reporting, are_missed, are_needed, is_damaged, reported_fields, reported_tables,
-    reported_warnings, write_fields, write_other_tables, write_packets, write_refusal, write_slips,
-    write_warnings,
+    reported_warnings, write_fields, write_other_tables, write_packets, write_refusal,
+    write_refusal_in, write_slips, write_warnings,
 };
 use job_programs::{JobError, JobOptions, Warning};
 use other_tables::{OtherTable, other_tables};
@@ -169,19 +169,20 @@ pub(crate) fn output_for(
 #[tactic(auto, using(crate::proofs::JobOutcomes::four_texts))]
 fn loss_report(
     alloc: Global,
+    falling: &[u16],
     slips: &[Slip],
     fields: &[FieldLeftOut],
     tables: &[OtherTable],
     warnings: &[Warning],
 ) -> Result<String, AllocError>
     ensures { IfOk result (λ lines. string_bytes lines
-        ≡ spec.loss_lines slips.now fields.now tables.now warnings.now) }
+        ≡ spec.loss_lines falling.now slips.now fields.now tables.now warnings.now) }
 {
     let mut lines = String::new(alloc);
     write_slips(slips, &mut lines)?;
     write_fields(fields, &mut lines)?;
     write_other_tables(tables, &mut lines)?;
-    write_warnings(warnings, &mut lines)?;
+    write_warnings(falling, warnings, &mut lines)?;
     Ok(lines)
 }
 
@@ -196,13 +197,20 @@ fn report_as_asked(
     warnings: &[Warning],
 ) -> Result<String, AllocError>
     ensures { IfOk result (λ lines. string_bytes lines
-        ≡ spec.unless_quiet reporting.quiet ((spec.loss_lines notes.now.slips fields.now tables.now warnings.now
-        ++ recodings_text reporting.all notes.now.recodings) ++ jump_lines input.now notes.now.jumps)) }
+        ≡ spec.unless_quiet reporting.quiet ((spec.loss_lines notes.now.falling notes.now.slips fields.now tables.now
+        warnings.now ++ recodings_text reporting.all notes.now.recodings) ++ jump_lines input.now notes.now.jumps)) }
 {
     if reporting.quiet {
         return Ok(String::new(alloc));
     }
-    let mut lines = loss_report(alloc, &notes.slips, fields, tables, warnings)?;
+    let mut lines = loss_report(
+        alloc,
+        &notes.falling,
+        &notes.slips,
+        fields,
+        tables,
+        warnings,
+    )?;
     push_recodings(reporting.all, &notes.recodings, &mut lines)?;
     push_jumps(input, &notes.jumps, &mut lines)?;
     Ok(lines)
@@ -319,6 +327,22 @@ pub(crate) fn refused_outcome(alloc: Global, error: JobError) -> Result<JobOutco
     Ok(without_output(alloc, report))
 }
 
+/// Returns the outcome for a stream that is refused, with streams of these PIDs whose clocks go back.
+pub(crate) fn refused_stream(
+    alloc: Global,
+    falling: &[u16],
+    error: JobError,
+) -> Result<JobOutcome, AllocError>
+    ensures { IfOk result (λ a. spec.ReportsRefusal falling.now error a) }
+{
+    let JobError::Refused(refusal) = error else {
+        return Err(AllocError);
+    };
+    let mut report = String::new(alloc);
+    write_refusal_in(falling, refusal, &mut report)?;
+    Ok(without_output(alloc, report))
+}
+
 // Returns the outcome for a stream of this input.
 #[tactic(auto, using(crate::proofs::JobOutcomes::withheld))]
 fn input_outcome(
@@ -354,7 +378,7 @@ fn findings_outcome(
     let others = other_tables(alloc, &findings)?;
     match job_input(alloc, &arguments.options(), count, findings) {
         Ok(input) => input_outcome(alloc, arguments, notes, &others, input),
-        Err(error) => refused_outcome(alloc, error),
+        Err(error) => refused_stream(alloc, &notes.falling, error),
     }
 }
 

@@ -12,7 +12,7 @@ ghost use Rattle.job_run.specs.Streams.{IsRead};
 
 use crate::carried_stream::{PacketNotes, ReadStream};
 use crate::job_arguments::JobArguments;
-use crate::outcome::{JobOutcome, only_text, packets_outcome, refused_outcome, reported_of};
+use crate::outcome::{JobOutcome, only_text, packets_outcome, refused_stream, reported_of};
 use crate::reading::{StreamReading, read_stream};
 use crate::timed_text::job_findings;
 use devices::{Halt, NamedFiles};
@@ -73,7 +73,7 @@ fn taken_or_refused(
     let others = other_tables(alloc, &findings)?;
     match job_input(alloc, &arguments.options(), count, findings) {
         Ok(input) => Ok(Ok(taken(alloc, arguments, notes, &others, input)?)),
-        Err(error) => Ok(Err(refused_outcome(alloc, error)?)),
+        Err(error) => Ok(Err(refused_stream(alloc, &notes.falling, error)?)),
     }
 }
 

@@ -1,15 +1,18 @@
 //! What a job is made of in a stream that was read. The parts of a joined recording follow one another, and each
-//! teletext PES packet without a PTS has a moment.
+//! teletext PES packet without a PTS has a moment. A PES packet whose stamps are alone out of order is damaged.
 
 ghost use Rattle.std.specs.Prelude.{◌≡◌, IfOk, filter, map};
 ghost use Rattle.data_times.specs.DataTimes as text;
+ghost use Rattle.joined_parts.specs.LoneStamps.{lone_damaged};
 ghost use Rattle.pid_findings.specs.Shown.{finding_view};
 ghost use Rattle.job_run.specs.Streams as spec;
 
 use crate::carried_stream::PacketNotes;
 use data_times::{TextTimes, text_times};
 use job_programs::JobOptions;
-use joined_parts::{Cut, Recoding, jumps_ahead, one_recording, recodings_in};
+use joined_parts::{
+    Cut, Recoding, damage_lone_stamps, falling_pids, jumps_ahead, one_recording, recodings_in,
+};
 use packet_pcr::FoundPcr;
 use packet_sync::{Field, FieldLeftOut};
 use pid_findings::Finding;
@@ -44,14 +47,16 @@ fn unwritten(times: &TextTimes, fields: Vec<FieldLeftOut>) -> Vec<FieldLeftOut>
     unwritten
 }
 
-// Drops the notes about fields that the job writes, and adds the changes of codings and the jumps ahead.
+// Drops the notes about fields that the job writes, and adds the changes of codings, the jumps ahead and the streams
+// whose clocks go back.
 fn timed_notes(
     times: &TextTimes,
     recodings: Vec<Recoding>,
     jumps: Vec<Cut>,
+    falling: Vec<u16>,
     notes: PacketNotes,
 ) -> PacketNotes
-    ensures { result ≡ spec.timed_notes times.now recodings.items jumps.items notes }
+    ensures { result ≡ spec.timed_notes times.now recodings.items jumps.items falling.items notes }
 {
     let PacketNotes { slips, fields, .. } = notes;
     let fields = unwritten(times, fields);
@@ -60,6 +65,7 @@ fn timed_notes(
         fields,
         recodings,
         jumps,
+        falling,
     }
 }
 
@@ -96,6 +102,23 @@ fn stream_jumps(
     jumps_ahead(alloc, references, findings)
 }
 
+// Returns the PIDs of streams whose clocks go back, unless the stream is taken as a joined recording.
+#[tactic(auto, unfolding(crate::specs::Streams::falling_by))]
+fn stream_falling(
+    alloc: Global,
+    options: &JobOptions<'_>,
+    references: &[FoundPcr],
+    findings: &[Finding<'static>],
+) -> Result<Vec<u16>, AllocError>
+    ensures { IfOk result (λ pids. pids.items
+        ≡ spec.falling_by options.now.joined references.now (map finding_view findings.now)) }
+{
+    if options.joined {
+        return Ok(Vec::new(alloc));
+    }
+    falling_pids(alloc, references, findings)
+}
+
 // Returns the clock references and the findings of a stream. With `joined`, the parts of the recording follow one
 // another, with the tables and the clock of one part.
 #[tactic(auto, unfolding(crate::specs::Streams::references_by, crate::specs::Streams::parts_by))]
@@ -116,29 +139,51 @@ fn joined_stream(
     one_recording(alloc, references, findings)
 }
 
+// Returns the jumps ahead of a stream's clocks, and the PIDs of streams whose clocks go back.
+fn clock_notes(
+    alloc: Global,
+    options: &JobOptions<'_>,
+    references: &[FoundPcr],
+    findings: &[Finding<'static>],
+) -> Result<(Vec<Cut>, Vec<u16>), AllocError>
+    ensures jumps { IfOk result (λ notes. notes.0.items
+        ≡ spec.jumps_by options.now.joined references.now (map finding_view findings.now)) }
+    ensures falling { IfOk result (λ notes. notes.1.items
+        ≡ spec.falling_by options.now.joined references.now (map finding_view findings.now)) }
+{
+    let jumps = stream_jumps(alloc, options, references, findings)?;
+    let falling = stream_falling(alloc, options, references, findings)?;
+    Ok((jumps, falling))
+}
+
 // Returns the notes about a stream's packets, and its findings with a moment for each teletext PES packet without a
-// PTS.
+// PTS; PES packets whose stamps are alone out of order are damaged.
 fn timed_stream(
     alloc: Global,
     references: Vec<FoundPcr>,
     recodings: Vec<Recoding>,
     jumps: Vec<Cut>,
+    falling: Vec<u16>,
     notes: PacketNotes,
     findings: Vec<Finding<'static>>,
 ) -> Result<(PacketNotes, Vec<Finding<'static>>), AllocError>
     ensures notes { IfOk result (λ timed. timed.0 ≡ spec.timed_notes
-        (text.times_of references.items (map finding_view findings.entry.items)) recodings.items jumps.items notes) }
+        (text.times_of references.items (map finding_view findings.entry.items)) recodings.items jumps.items
+        falling.items notes) }
     ensures findings { IfOk result (λ timed. map finding_view timed.1.items
-        ≡ text.timed references.items (map finding_view findings.entry.items)) }
+        ≡ lone_damaged falling.items (text.timed references.items (map finding_view findings.entry.items))) }
 {
     let times = text_times(alloc, &references, &findings)?;
-    let notes = timed_notes(&times, recodings, jumps, notes);
     let timed = times.time_all(alloc, &references, findings)?;
-    Ok((notes, timed))
+    let damaged = damage_lone_stamps(alloc, &falling, timed)?;
+    let notes = timed_notes(&times, recodings, jumps, falling, notes);
+    Ok((notes, damaged))
 }
 
 /// Returns the notes about a stream's packets, and the findings for its job: with `joined`, the parts of the recording
-/// follow one another; each teletext PES packet without a PTS has a moment.
+/// follow one another; each teletext PES packet without a PTS has a moment; a PES packet whose stamps are alone out of
+/// order is damaged.
+#[tactic(auto, using(crate::proofs::JobFindings::made_findings))]
 pub(crate) fn job_findings(
     alloc: Global,
     options: &JobOptions<'_>,
@@ -152,7 +197,10 @@ pub(crate) fn job_findings(
         ≡ spec.findings_by options.now.joined references.items (map finding_view findings.entry.items)) }
 {
     let recodings = stream_recodings(alloc, options, &findings)?;
-    let jumps = stream_jumps(alloc, options, &references, &findings)?;
+    let (jumps, falling) = clock_notes(alloc, options, &references, &findings)?;
     let (references, parts) = joined_stream(alloc, options, references, findings)?;
-    timed_stream(alloc, references, recodings, jumps, notes, parts)
+    let (notes, damaged) = timed_stream(
+        alloc, references, recodings, jumps, falling, notes, parts,
+    )?;
+    Ok((notes, damaged))
 }

@@ -7,5 +7,7 @@ pub mod UnitStamps
 pub mod Joins
 pub mod Joined
 pub mod JumpsAhead
+pub mod FallingClocks
+pub mod LoneStamps
 pub mod Recordings
 pub mod Laws

@@ -16,8 +16,8 @@ use std::alloc::{AllocError, Global};
 // Half the number of stamps: a clock that jumps by less jumps ahead.
 const HALF: u64 = 1 << 32;
 
-// Returns whether the clock jumps ahead at a cut.
-fn is_forward(cut: Cut) -> bool
+/// Returns whether the clock jumps ahead at a cut.
+pub(crate) fn is_forward(cut: Cut) -> bool
     ensures { result ≡ spec.is_forward cut }
 {
     distance(cut.before, cut.base) < HALF

@@ -9,6 +9,8 @@
 //! - `joins`: the part of each unit, and the constant of each part (`specs/Joins`).
 //! - [`part_joins`], [`PartJoins`]: the findings and references of a recording, moved (`specs/Joined`).
 //! - [`jumps_ahead`]: where the stamps of units jump ahead with their clock (`specs/JumpsAhead`).
+//! - [`falling_pids`]: the streams whose clock goes back (`specs/FallingClocks`).
+//! - [`damage_lone_stamps`]: PES packets whose stamps are alone out of order, as damaged ones (`specs/LoneStamps`).
 //! - `map_streams`, `known_maps`, `whole_maps`: each map with the streams of all maps of its program, one PID for its
 //!   clock references (`specs/MapStreams`, `specs/WholeMaps`).
 //! - `map_pids`: one PID for the maps of each program (`specs/MapPids`).
@@ -21,11 +23,13 @@
 
 mod carried_pids;
 mod cuts;
+mod falling_clocks;
 mod joined;
 mod joins;
 mod jumps;
 mod known_maps;
 mod laws;
+mod lone_stamps;
 mod map_pids;
 mod map_streams;
 mod recodings;
@@ -34,10 +38,12 @@ mod stamps;
 mod whole_maps;
 
 pub use cuts::Cut;
+pub use falling_clocks::falling_pids;
 pub use joined::{PartJoins, part_joins};
 pub use joins::Join;
 pub use jumps::jumps_ahead;
 pub use laws::{nothing_else_moves, parts_come_in_order, whole_recording_stays};
+pub use lone_stamps::damage_lone_stamps;
 pub use recodings::{Recoding, recodings_in};
 pub use recording::one_recording;
 pub use stamps::UnitStamp;

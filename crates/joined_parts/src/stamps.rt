@@ -55,8 +55,8 @@ pub(crate) fn begin_of(begun: Option<(u64, Kind)>, packet: u64) -> u64
     }
 }
 
-// The PID of the references of the clock of a stream's program.
-fn clock_of(found: &FoundPrograms, stream: &FoundStream) -> Option<u16>
+/// Returns the PID of the references of the clock of a stream's program.
+pub(crate) fn clock_of(found: &FoundPrograms, stream: &FoundStream) -> Option<u16>
     ensures { result ≡ spec.clock_of found.now stream.now }
 {
     pcr_of(&found.programs, stream.program)

@@ -1,12 +1,11 @@
--- Events of the end of a stream: the monitor has no rule for them, except for tables that have stopped.
-use Rattle.std.proofs.Common.{◌≡◌, ◌∙◌, ℕ, Bool, true, false, List, [], ◌∷◌, ◌++◌, filter, Option, Some, None, refl, ap}
+-- Events of the end of a stream: the monitor has no rule for them, except for tables and clock references that have stopped.
+use Rattle.std.proofs.Common.{◌≡◌, ◌∙◌, ℕ, Bool, true, false, cond, List, [], ◌∷◌, ◌++◌, filter, Option, Some, None, refl, ap}
 use Rattle.std.specs.List.{filter_map}
 use Rattle.std.specs.Option.{option_to_list}
-use Rattle.std.specs.Prelude.{◌||◌, flat_map, is_some}
+use Rattle.std.specs.Prelude.{flat_map, is_some, nat_lt}
 use Rattle.pid_findings.specs.Views.{FindingView}
 use Rattle.pid_windows.specs.declared.pid_windows.PidCounts.{PidCounts}
 use Rattle.program_tables.specs.KnownTables.{known_in}
-use Rattle.program_tables.specs.ProgramMaps.{program_map}
 use Rattle.psi_tables.specs.declared.pat.programs.Program.{Program}
 use Rattle.arrival.specs.declared.arrival.Arrival.{Arrival}
 use Rattle.system_tables.specs.Programs.{ProgramState, known}
@@ -15,6 +14,7 @@ use Rattle.tstd_rows.specs.Limits.{tb_size}
 use Rattle.tstd_rows.specs.declared.busy_watch.Stay.{Stay}
 use Rattle.tr101290.specs.RateJudges.{last_errors}
 use Rattle.tr101290.specs.declared.intervals.TableError.{TableError}
+use Rattle.tr101290.specs.declared.intervals.TableTiming.{TableTiming}
 use Rattle.events.specs.declared.event.Event.TheVariants as found
 use Rattle.events.specs.declared.rule_event.BufferKind.{BufferKind}
 use Rattle.events.specs.declared.rule_event.BufferKind.TheVariants as buffers
@@ -25,6 +25,7 @@ use Rattle.es_events.specs.declared.tally.Tally.{Tally}
 use Rattle.es_events.specs.declared.video_figures.VideoFigures.{VideoFigures}
 use Rattle.es_events.specs.declared.video_tally.VideoTally.{VideoTally}
 use Rattle.es_events.specs.declared.view_options.ViewOptions.{ViewOptions}
+use Rattle.es_events.specs.Clocks.{ClockEntries, clock_of}
 use Rattle.es_events.specs.EntryEvents.{closing_events, excess_event, excess_events, late_events, main_event, main_excess_event, main_excess_events}
 use Rattle.es_events.specs.EntryEvents.{main_figures}
 use Rattle.es_events.specs.EntryEvents.{transport_total, under_way_events, with_size}
@@ -38,10 +39,12 @@ use Rattle.es_view.specs.Entries.{EntryState, closed_seen, place_at, seen_held, 
 use Rattle.es_view.specs.Entries as entry_views
 use Rattle.ts_watch.specs.Choices.{ChoiceView, takes}
 use Rattle.ts_watch.specs.ClockEvents.{clock_event, clock_events, inaccuracy_events, variable_events}
-use Rattle.ts_watch.specs.AbsentTables.{absent_events, absent_tables, absent_unless, association_events, map_events, maps_events}
+use Rattle.ts_watch.specs.AbsentTables.{absent_events, absent_tables, absent_unless, association_events, has_own_map, map_events, maps_events}
 use Rattle.ts_watch.specs.ReferenceEvents.{events_by, missing_events, reference_events, unreferenced_event, unreferenced_events}
 use Rattle.ts_watch.specs.RuleEvents.{RuleState, cat_events, ends_varying}
 use Rattle.ts_watch.specs.RuleEvents as rule_views
+use Rattle.ts_watch.specs.StoppedClocks.{beyond_events, clock_event as stopped_clock, clocks_by, clocks_events, clocks_in, longest_without, stopped_clocks, stops}
+use Rattle.ts_watch.specs.StoppedClocks.{clock_events as stopped_clock_events, time_without}
 use Rattle.ts_watch.specs.StoppedEvents.{errors_events, stopped_by, stopped_errors, stopped_events}
 use Rattle.ts_watch.specs.SystemEvents.{event_if, system_event, system_events, under_way}
 use Rattle.ts_watch.specs.SystemEvents as systems
@@ -156,29 +159,29 @@ unfolding fault_in
 absent has pid table = one_unless has (found.Rule (rule_events.NoTable (record { pid = pid; table = table }))) refl
 
 absent_map : (findings : List FindingView) (tables : TablesState) (program : Program) → Quiet (map_events findings tables program)
-absent_map findings tables program = absent (is_some (program_map program findings) || has_table tables program.pid 2) program.pid 2
+absent_map findings tables program = absent (has_own_map findings tables program) program.pid 2
 
 absent_maps : (findings : List FindingView) (tables : TablesState) (programs : List Program) → Quiet (maps_events findings tables programs)
 absent_maps findings tables programs = all_of (map_events findings tables) programs (absent_map findings tables)
 
 tables_absent : (findings : List FindingView) (tables : TablesState) → Quiet (absent_tables findings tables)
 tables_absent findings tables =
-    join (association_events (known_in findings) tables) (maps_events findings tables (known_in findings).programs)
-    (absent (is_some (known_in findings).version || has_table tables 0 0) 0 0) (absent_maps findings tables (known_in findings).programs)
+    join (association_events (known_in findings)) (maps_events findings tables (known_in findings).programs)
+    (absent (is_some (known_in findings).version) 0 0) (absent_maps findings tables (known_in findings).programs)
 
 absent_end : (stream : Bool) (named : NamedView) (tables : TablesState) → Quiet (absent_events stream named tables)
 absent_end true named tables = tables_absent named.demux.found tables
 absent_end false named tables = refl
 
--- The faults of tables that have stopped.
+-- The faults of tables and clock references that have stopped.
 abbrev pub stopped_of : SeenState → List StreamFault
-stopped_of s = filter_map fault_in (stopped_events s.options s.tables s.packets)
+stopped_of s = filter_map fault_in (stops s.options s.named s.tables s.clocks s.packets)
 
 rules_of : (s : SeenState) → filter_map fault_in (rule_ends s) ≡ stopped_of s
 unfolding rule_ends
 rules_of s =
     quiet_before (absent_events (is_stream s) s.named s.tables) _ (absent_end (is_stream s) s.named s.tables)
-    ∙ quiet_after (stopped_events s.options s.tables s.packets) (rule_views.end_events s.rules s.packets (has_table s.tables 0x01 0x01))
+    ∙ quiet_after (stops s.options s.named s.tables s.clocks s.packets) (rule_views.end_events s.rules s.packets (has_table s.tables 0x01 0x01))
     (rules_end s.rules s.packets (has_table s.tables 0x01 0x01))
 
 tables_quiet : (t : TablesState) → Quiet (table_events t)
@@ -207,7 +210,7 @@ end_quiet : (s : SeenState) (left : ℕ) → Quiet (end_event s left ∷ [])
 unfolding fault_in
 end_quiet s left = refl
 
--- 4. All events of the end: only tables that have stopped have a rule
+-- 4. All events of the end: only tables and clock references that have stopped have a rule
 
 pub ends : EndFaultLaw
 ends s left =
@@ -219,28 +222,58 @@ ends s left =
     ∙ quiet_after (pid_ends s.seen) (end_event s.seen left ∷ []) (end_quiet s.seen left)
     ∙ pids_end s.seen
 
--- A test that selects none of the rules of tables that both programs judge.
-pub record OfNoTable (p : StreamFault → Bool) : Type 0 where
+-- A test that selects none of the rules of tables and clock references that both programs judge.
+pub record OfNoStop (p : StreamFault → Bool) : Type 0 where
   pub nit : Without p rules.Nit
   pub sdt : Without p rules.Sdt
   pub tdt : Without p rules.Tdt
+  pub pcr : Without p rules.Pcr
 
-errors_none : (p : StreamFault → Bool) (errors : List TableError) → OfNoTable p → part p (errors_events errors) ≡ []
+errors_none : (p : StreamFault → Bool) (errors : List TableError) → OfNoStop p → part p (errors_events errors) ≡ []
 unfolding error_events
 errors_none p [] h = refl
 errors_none p (e ∷ errors) h =
     both_none p (error_event e ∷ []) (errors_events errors) (table_none p e h.nit h.sdt h.tdt) (errors_none p errors h)
 
-stopped_none : (p : StreamFault → Bool) (options : ViewOptions) (t : TablesState) (packets : ℕ) (place : Option ℕ) → OfNoTable p →
+stopped_none : (p : StreamFault → Bool) (options : ViewOptions) (t : TablesState) (packets : ℕ) (place : Option ℕ) → OfNoStop p →
     part p (stopped_by options t packets place) ≡ []
 unfolding stopped_by
 stopped_none p options t packets None h = refl
 stopped_none p options t packets (Some place) h = errors_none p (stopped_errors options t packets place) h
 
+beyond_none : (p : StreamFault → Bool) (longest pid packets value : ℕ) → OfNoStop p → part p (beyond_events longest pid packets value) ≡ []
+unfolding fault_in
+beyond_none p longest pid packets value h = by (nat_lt longest value)
+  where
+    by : (t : Bool) → part p (cond t (stopped_clock pid packets value ∷ []) []) ≡ []
+    by true = rw (h.pcr (Some pid) packets) refl
+    by false = refl
+
+clocks_none : (p : StreamFault → Bool) (options : ViewOptions) (timing : TableTiming) (clocks : ClockEntries) (packets place : ℕ) (pids : List ℕ) →
+    OfNoStop p → part p (clocks_events options timing clocks packets place pids) ≡ []
+clocks_none p options timing clocks packets place [] h = refl
+clocks_none p options timing clocks packets place (pid ∷ pids) h =
+    both_none p (stopped_clock_events options timing clocks packets place pid) (clocks_events options timing clocks packets place pids)
+    (beyond_none p (longest_without options.arrival) pid packets (time_without options timing place (clock_of clocks pid)) h)
+    (clocks_none p options timing clocks packets place pids h)
+
+placed_none : (p : StreamFault → Bool) (options : ViewOptions) (timing : TableTiming) (clocks : ClockEntries) (packets : ℕ) (pids : List ℕ)
+    (place : Option ℕ) → OfNoStop p → part p (clocks_by options timing clocks packets pids place) ≡ []
+unfolding clocks_by
+placed_none p options timing clocks packets pids None h = refl
+placed_none p options timing clocks packets pids (Some place) h = clocks_none p options timing clocks packets place pids h
+
+stops_none : (p : StreamFault → Bool) (s : SeenState) → OfNoStop p → part p (stops s.options s.named s.tables s.clocks s.packets) ≡ []
+stops_none p s h =
+    both_none p (stopped_events s.options s.tables s.packets)
+    (stopped_clocks s.options s.named s.tables.times.intervals.timing s.clocks s.packets)
+    (stopped_none p s.options s.tables s.packets (rule_views.place_at s.options.arrival s.packets) h)
+    (placed_none p s.options s.tables.times.intervals.timing s.clocks s.packets (clocks_in s.named.streams)
+    (rule_views.place_at s.options.arrival s.packets) h)
+
 -- It selects no fault at the end.
 abbrev pub Ends : (StreamFault → Bool) → Type 0
 Ends p = (s : ViewState) (left : ℕ) → part p (end_events s left) ≡ []
 
-pub of_no_table : (p : StreamFault → Bool) → OfNoTable p → Ends p
-of_no_table p h = λ s left. ap (filter p) (ends s left)
-    ∙ stopped_none p s.seen.options s.seen.tables s.seen.packets (rule_views.place_at s.seen.options.arrival s.seen.packets) h
+pub of_no_stop : (p : StreamFault → Bool) → OfNoStop p → Ends p
+of_no_stop p h = λ s left. ap (filter p) (ends s left) ∙ stops_none p s.seen h

@@ -16,7 +16,7 @@ use Rattle.monitor.proofs.PacketSteps.{pcr_pairs}
 use Rattle.monitor.proofs.SameOrder.{has}
 use Rattle.laws_monitor.specs.FaultsByRule.{is_by}
 use Rattle.laws_monitor.specs.SharedRules.{IsShared, PcrLaw}
-use Rattle.laws_monitor.specs.ViewedFaults.{viewed_faults}
+use Rattle.laws_monitor.specs.ViewedFaults.{faults_before_end, viewed_faults}
 use Rattle.laws_monitor.proofs.Continuity.{counter_law}
 use Rattle.laws_monitor.proofs.FaultGroups.{OfPackets, pcr_group, refusal_group}
 use Rattle.laws_monitor.proofs.FaultLists.{alike_filter, part_in_order}
@@ -136,7 +136,7 @@ pcr_packets = record {
 pub pcr_law : PcrLaw
 unfolding stream_report rule_number
 pcr_law rate request bytes at some short =
-    part_in_order (is_by 13) (faults_of rate 100 bytes) (filter (is_by 13) (viewed_faults request bytes))
+    part_in_order (is_by 13) (faults_of rate 100 bytes) (filter (is_by 13) (faults_before_end request bytes))
     (λ z. ap (has z) (pcr_group (is_by 13) rate 100 bytes pcr_packets (λ o k. refl) (λ o k. refl) (λ o k. refl))
     ∙ alike_filter (is_by 13) (on_each rules.Pcr (pcr_late rate 100 bytes) (packet_pids bytes)) (map (late_fault rules.Pcr) lates)
     (λ y. sym (pcr_alike rate 100 bytes y)) z

@@ -35,16 +35,14 @@ use Rattle.ts_report.specs.Views.{ViewState, after_packet, after_read, events_al
 use Rattle.monitor.specs.declared.fault.StreamFault.{StreamFault}
 use Rattle.monitor.specs.declared.fault.Rule.TheVariants as rules
 use Rattle.monitor.specs.Gaps.{is_long}
-use Rattle.monitor.specs.InOrder.{rule_number}
 use Rattle.monitor.specs.Recurrences.{RecurrenceState, late_at, marked_all, no_marks}
 use Rattle.monitor.specs.Reports.{late_fault}
 use Rattle.monitor.specs.Rules.{fault}
 use Rattle.monitor.proofs.PacketSteps.{marked_append, pcr_pair, pcr_pairs}
 use Rattle.monitor.proofs.FoundWhole.{packet_count}
 use Rattle.laws_monitor.specs.FaultsByRule.{is_by}
-use Rattle.laws_monitor.specs.ViewedFaults.{viewed_faults}
+use Rattle.laws_monitor.specs.ViewedFaults.{faults_before_end}
 use Rattle.laws_monitor.proofs.PidEntries.{kept}
-use Rattle.laws_monitor.proofs.QuietEnds.{Ends, of_no_table}
 use Rattle.laws_monitor.proofs.ViewedPackets.{late_if, late_reference, part, part_append, repetition_of}
 use Rattle.laws_monitor.proofs.WaitingPackets.{at_one_rate}
 use Rattle.laws_monitor.proofs.ViewedRules.{clock_at_packet, next_count, seen_after, seen_by}
@@ -241,12 +239,8 @@ clocks_of_packets rate request bytes at some short =
     clocks_along rate (no_marks (100 * rate)) (start request) (cut_packets bytes) some refl
     (same_first rate (timing_for request.stamps request.options.arrival) (timing_at rate request.stamps request.options.arrival at)) (omega arith)
 
-ends_clocked : Ends (is_by 13)
-unfolding rule_number
-ends_clocked = of_no_table (is_by 13) (record { nit = λ o k. refl; sdt = λ o k. refl; tdt = λ o k. refl })
-
 pub viewed_clocks : (rate : ℕ) (request : RequestView) (bytes : List ℕ) → request.options.arrival ≡ AtRate rate → 0 < rate → length bytes ≤ 2 ^ 40 →
-    filter (is_by 13) (viewed_faults request bytes) ≡ map (late_fault rules.Pcr)
+    filter (is_by 13) (faults_before_end request bytes) ≡ map (late_fault rules.Pcr)
     (marked_all (no_marks (100 * rate)) (pcr_pairs (enumerate_from 0 (cut_packets bytes)))).late
 viewed_clocks rate request bytes at some short =
-    at_one_rate (is_by 13) rate request bytes ends_clocked at ∙ clocks_of_packets rate request bytes at some short
+    at_one_rate (is_by 13) rate request bytes at ∙ clocks_of_packets rate request bytes at some short

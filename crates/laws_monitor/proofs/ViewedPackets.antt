@@ -42,7 +42,7 @@ use Rattle.ts_watch.specs.RuleEvents.{RuleState, accuracy_events, is_map, is_scr
 use Rattle.ts_watch.specs.RuleEvents.{pts_events, scrambled_events, stamp_events, varies_now}
 use Rattle.ts_watch.specs.PidLabels.{label_of}
 use Rattle.ts_watch.specs.TableEvents.{TimesState, begin_events, check_word_event, check_word_events, distance_events, error_events as table_error_events}
-use Rattle.ts_watch.specs.TableEvents.{finding_events, findings_events, is_wrong, other_events, section_in, soon_events, whole_in, with_finding}
+use Rattle.ts_watch.specs.TableEvents.{finding_events, findings_events, is_bad, other_events, section_in, soon_events, whole_in, with_finding}
 use Rattle.ts_report.specs.Seen.{SeenState, cause_of, clock_errors, counter_events, counter_events_by, next_window, refused_events, report_on, timing_of}
 use Rattle.ts_report.specs.Seen.{window_ends}
 use Rattle.ts_watch.specs.ClockWindows as clock_windows
@@ -122,7 +122,7 @@ distance_quiet d (Some w) = soon_quiet (distances.error_at d w)
 
 check_none : (p : StreamFault → Bool) (f : FindingView) → Without p rules.Crc → part p (check_word_events f) ≡ []
 unfolding fault_in
-check_none p f c = by (is_wrong f.what)
+check_none p f c = by (is_bad f)
   where
     by : (t : Bool) → part p (cond t (check_word_event f ∷ []) []) ≡ []
     by true = rw (c (Some (unwrap_or f.pid 0)) f.packet) refl

@@ -20,8 +20,8 @@ use Rattle.monitor.specs.InOrder.{rule_number}
 use Rattle.monitor.proofs.FoundWhole.{packet_count}
 use Rattle.laws_monitor.specs.Continuity.{counter_fault, sound_packets}
 use Rattle.laws_monitor.specs.FaultsByRule.{is_by}
-use Rattle.laws_monitor.specs.ViewedFaults.{events_to_end, viewed_faults}
-use Rattle.laws_monitor.proofs.QuietEnds.{Ends, arrivals, of_no_table}
+use Rattle.laws_monitor.specs.ViewedFaults.{events_to_end, faults_before_end, viewed_faults}
+use Rattle.laws_monitor.proofs.QuietEnds.{Ends, arrivals, of_no_stop}
 use Rattle.laws_monitor.proofs.ViewedPackets.{of_quiet, part, part_append}
 use Rattle.laws_monitor.proofs.ViewedRules.{Refuses, counters_along, next_count, refused_along}
 
@@ -122,13 +122,18 @@ from_start p v Unknown programs packets left still ends n = waiting p v _ packet
 from_start p v (AtRate rate) programs packets left still ends n = at_once p v packets left ends
 from_start p v (OnLines lines) programs packets left still ends n = at_once p v packets left ends
 
-pub at_one_rate : (p : StreamFault → Bool) (rate : ℕ) (request : RequestView) (bytes : List ℕ) → Ends p → request.options.arrival ≡ AtRate rate →
-    filter p (viewed_faults request bytes) ≡ part p (events_all (start request) (cut_packets bytes))
+none_wait : (v : ViewState) (packets : List (List ℕ)) → clocked_events (with_queue v None) packets ≡ events_all v packets
+unfolding clocked_events after_in events_in events_all
+none_wait v [] = refl
+none_wait v (bytes ∷ packets) = ap (λ (l : List Event). events_at v bytes ++ l) (none_wait (after_packet v bytes) packets)
+
+pub at_one_rate : (p : StreamFault → Bool) (rate : ℕ) (request : RequestView) (bytes : List ℕ) → request.options.arrival ≡ AtRate rate →
+    filter p (faults_before_end request bytes) ≡ part p (events_all (start request) (cut_packets bytes))
 unfolding queue_of
-at_one_rate p rate request bytes ends at =
-    ap (λ (o : Option QueueState). part p (events_to_end (with_queue (start request) o) (cut_packets bytes) (length bytes % 188)))
+at_one_rate p rate request bytes at =
+    ap (λ (o : Option QueueState). part p (clocked_events (with_queue (start request) o) (cut_packets bytes)))
     (ap (λ (a : Arrival). queue_of a request.choice.programs) at)
-    ∙ at_once p (start request) (cut_packets bytes) (length bytes % 188) ends
+    ∙ ap (part p) (none_wait (start request) (cut_packets bytes))
 
 -- 4. A whole report
 
@@ -136,11 +141,11 @@ still_refused : (p : StreamFault → Bool) → Refuses p → Still p
 still_refused p h v arrival count packets n = refused_along p (arriving v arrival count) packets h n ∙ sym (refused_along p v packets h n)
 
 ends_refused : (p : StreamFault → Bool) → Refuses p → Ends p
-ends_refused p h = of_no_table p (record { nit = h.nit; sdt = h.sdt; tdt = h.tdt })
+ends_refused p h = of_no_stop p (record { nit = h.nit; sdt = h.sdt; tdt = h.tdt; pcr = h.pcr })
 
 ends_counted : Ends (is_by 4)
 unfolding rule_number
-ends_counted = of_no_table (is_by 4) (record { nit = λ o k. refl; sdt = λ o k. refl; tdt = λ o k. refl })
+ends_counted = of_no_stop (is_by 4) (record { nit = λ o k. refl; sdt = λ o k. refl; tdt = λ o k. refl; pcr = λ o k. refl })
 
 still_counted : Still (is_by 4)
 still_counted v arrival count packets n = counters_along (arriving v arrival count) packets n ∙ sym (counters_along v packets n)

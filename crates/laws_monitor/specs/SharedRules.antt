@@ -6,7 +6,7 @@ use Rattle.monitor.specs.declared.fault.Rule.{Rule}
 use Rattle.monitor.specs.declared.fault.Rule.TheVariants as rules
 use Rattle.monitor.specs.InOrder.{in_order}
 use Rattle.laws_monitor.specs.FaultsByRule.{monitored}
-use Rattle.laws_monitor.specs.ViewedFaults.{viewed}
+use Rattle.laws_monitor.specs.ViewedFaults.{viewed, viewed_before_end}
 
 -- by a rule the monitor names just what `tsview` finds, in its own order and each once, whatever rates and limits either is given
 abbrev pub IsShared : Rule → Type 0
@@ -14,7 +14,7 @@ IsShared rule = (rate limit : ℕ) (request : RequestView) (bytes : List ℕ) �
     monitored rule rate limit bytes ≡ in_order (viewed rule request bytes)
 
 -- clock references are judged alike at one rate, in the first 2^40 bytes, where the monitor is given the limit of `tsview`: 100 ms (ISO/IEC
--- 13818-1, 2.7.2)
+-- 13818-1, 2.7.2); at the end `tsview` finds those that have stopped too
 abbrev pub PcrLaw : Type 0
 PcrLaw = (rate : ℕ) (request : RequestView) (bytes : List ℕ) → request.options.arrival ≡ AtRate rate → 0 < rate → length bytes ≤ 2 ^ 40 →
-    monitored rules.Pcr rate 100 bytes ≡ in_order (viewed rules.Pcr request bytes)
+    monitored rules.Pcr rate 100 bytes ≡ in_order (viewed_before_end rules.Pcr request bytes)

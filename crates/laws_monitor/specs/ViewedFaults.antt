@@ -7,7 +7,7 @@ use Rattle.events.specs.declared.event.Event.TheVariants as found
 use Rattle.events.specs.declared.packet_fault.RefusalCause.{RefusalCause}
 use Rattle.events.specs.declared.packet_fault.RefusalCause.TheVariants as causes
 use Rattle.ts_watch.specs.Choices.{RequestView}
-use Rattle.ts_watch.specs.StoppedEvents.{stopped_events}
+use Rattle.ts_watch.specs.StoppedClocks.{stops}
 use Rattle.ts_report.specs.Views.{ViewState}
 use Rattle.ts_report.specs.Views as views
 use Rattle.ts_report.specs.ClockedViews.{ClockedState, after_all, end_events, events_all, start}
@@ -51,7 +51,14 @@ viewed_faults request bytes = filter_map fault_in (events_to_end (start request)
 abbrev pub viewed : Rule → RequestView → List ℕ → List StreamFault
 viewed rule request bytes = faults_by rule (viewed_faults request bytes)
 
--- the faults of the end are those of tables that have stopped
+-- the faults for the events of packets, without the end
+abbrev pub faults_before_end : RequestView → List ℕ → List StreamFault
+faults_before_end request bytes = filter_map fault_in (events_all (start request) (cut_packets bytes))
+
+abbrev pub viewed_before_end : Rule → RequestView → List ℕ → List StreamFault
+viewed_before_end rule request bytes = faults_by rule (faults_before_end request bytes)
+
+-- the faults of the end are those of tables and clock references that have stopped
 abbrev pub EndFaultLaw : Type 0
-EndFaultLaw = (s : ViewState) (left : ℕ) →
-    filter_map fault_in (views.end_events s left) ≡ filter_map fault_in (stopped_events s.seen.options s.seen.tables s.seen.packets)
+EndFaultLaw = (s : ViewState) (left : ℕ) → filter_map fault_in (views.end_events s left)
+    ≡ filter_map fault_in (stops s.seen.options s.seen.named s.seen.tables s.seen.clocks s.seen.packets)

@@ -47,7 +47,8 @@ pub fn continuity()
 {}
 
 /// States that the monitor reports a clock reference of a PID if and only if it is not the PID's first and the PID had
-/// none within the limit before it (5.2.2, 2.3), each once and in order.
+/// none within the limit before it (5.2.2, 2.3), each once and in order; and that before the end of the stream `tsview`
+/// finds the same.
 pub fn clock_references()
     ensures late { ReferenceLaw }
     ensures order { ReferencesInOrder }
@@ -83,7 +84,8 @@ pub fn late_stamps()
 /// States that a gap of packets is too long for both programs or for neither, whatever the limit, and that among the
 /// findings on a PID the same sections of a table begin late for both, if the table has no parts that have to recur by
 /// themselves (5.2.1, 1.3; 5.2.3, 3.1, 3.5 and 3.8). The monitor reports these errors of NIT, SDT and TDT. At the end
-/// `tsview` has only faults of tables that have stopped, among the faults for which the monitor has a rule.
+/// `tsview` has only faults of tables and clock references that have stopped, among the faults for which the monitor
+/// has a rule.
 pub fn tables()
     ensures gaps { GapLaw }
     ensures tables { TableLaw }

@@ -28,7 +28,7 @@ use Rattle.job_run.specs.Outcomes.{IsWritten}
 use Rattle.job_run.specs.SeveralInputs.{GivesIn, GivesJobIn, InputsLead, JoinedLead, NamedStream, all_findings, all_joined, input_or_line, packets_input}
 use Rattle.job_run.specs.SeveralInputs.{stream_input, stream_inputs, with_first}
 use Rattle.job_run.specs.StreamFiles.{FilesLead, HasRead, IsStop, PerformsFiles, headed_outcome}
-use Rattle.job_run.specs.Streams.{findings_for}
+use Rattle.job_run.specs.Streams.{findings_for, notes_for}
 use Rattle.tsjob_cli.specs.Arguments.{arguments_in}
 use Rattle.tsjob_cli.specs.FileWords.{file_arguments, file_words, option_words, unless_streamed}
 use Rattle.tsmux_cli.specs.declared.request.MuxOptions.{MuxOptions}
@@ -84,16 +84,16 @@ joined_is_read words a inputs ms j output asked takes is job =
 
 -- 2. The input that a job takes from the streams
 
-its_input : (r : Result JobInputView JobRefusal) (m : JobInputView) → input_or_line r ≡ Ok m → r ≡ Ok m
+its_input : (falling : List ℕ) (r : Result JobInputView JobRefusal) (m : JobInputView) → input_or_line falling r ≡ Ok m → r ≡ Ok m
 unfolding input_or_line
-its_input (Ok x) m e = let same : x ≡ m = cc in ap (λ (y : JobInputView). Ok y) same
-its_input (Err refusal) m e = absurd cc
+its_input falling (Ok x) m e = let same : x ≡ m = cc in ap (λ (y : JobInputView). Ok y) same
+its_input falling (Err refusal) m e = absurd cc
 
 of_packets : (w : JobOptionsView) (bytes : List ℕ) (p : Option OtherPackets) (m : JobInputView) → packets_input w bytes p ≡ Ok m →
     job_input w (length (carried bytes) / 188) (findings_for w bytes) ≡ Ok m
 unfolding packets_input
 of_packets w bytes (Some packets) m e = absurd cc
-of_packets w bytes None m e = its_input (job_input w (length (carried bytes) / 188) (findings_for w bytes)) m e
+of_packets w bytes None m e = its_input (notes_for w bytes).falling (job_input w (length (carried bytes) / 188) (findings_for w bytes)) m e
 
 its_findings : (w : JobOptionsView) (bytes : List ℕ) (m : JobInputView) → stream_input w bytes ≡ Ok m → TakesInput w (findings_for w bytes) m
 its_findings w bytes m e = record { count = length (carried bytes) / 188; is = of_packets w bytes (other_packets bytes) m e }

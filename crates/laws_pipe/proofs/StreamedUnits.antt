@@ -2,6 +2,7 @@
 use Rattle.std.proofs.Common.{◌≡◌, ◌∙◌, ◌<◌, ◌≤◌, ℕ, zero, suc, ◌+◌, ◌/◌, ◌++◌, Bool, true, false, if◌then◌else◌, Option, Some, None, List, [], ◌∷◌, All}
 use Rattle.std.proofs.Common.{length, map, slice_get, get_or, refl, sym, ap, subst, ◌⊎◌, inl, inr, arith}
 use Rattle.std.specs.Io.KnownBytes.{Consumes, IsAtEnd}
+use Rattle.std.specs.List.{list_any}
 use Rattle.std.specs.Prelude.{option_map}
 use Rattle.std.proofs.lemmas.List.{append-nil, length-map}
 use Rattle.std.proofs.lemmas.Option.{get_or_from_slice_get, same_Some, slice_get_within, slice_get-map}
@@ -13,8 +14,9 @@ use Rattle.description.proofs.Pids.{pid_positions, pids_apart}
 use Rattle.description_parts.specs.Tables.{table_count}
 use Rattle.pid_findings.specs.Views.{FindingView}
 use Rattle.packet_sync.specs.Slips.{carried}
-use Rattle.data_times.specs.DataTimes.{is_unstamped, seen_in, timed}
+use Rattle.data_times.specs.DataTimes.{is_unstamped, seen_in}
 use Rattle.data_times.specs.References.{references_in}
+use Rattle.joined_parts.specs.LoneStamps.{damaged, is_on, lone_damaged}
 use Rattle.es_moments.specs.Stamps.{distance, dts_at, moved, unit_at}
 use Rattle.es_feed.specs.EachStream.{AreFirst, fed_stream, have_fault, one_by_one}
 use Rattle.fed_streams.specs.Feeding.{Fed, FedStreamView}
@@ -41,8 +43,8 @@ use Rattle.job_run.specs.JobArguments.{JobArgumentsView}
 use Rattle.job_run.specs.Outcomes.{Gives, GivesUnits}
 use Rattle.job_run.specs.Streams.{asked_findings, findings_for, findings_of, parts_by, references_by}
 use Rattle.tsjob_cli.specs.StreamedUnits.{GoesBy, earliest, feed_of, maps_of, marking_by, pids_of, streams_from}
-use Rattle.laws_pipe.specs.StreamedUnits.{AreAlike, AreLaterByOne, AreMarkedAlike, TheSameUnits}
-use Rattle.laws_pipe.proofs.MarkedUnits.{alone_timed, wire_timed, alone_alike, wire_alike}
+use Rattle.laws_pipe.specs.StreamedUnits.{AreAlike, AreLaterByOne, AreMarkedAlike, TheSameUnits, lone_found, timed_findings}
+use Rattle.laws_pipe.proofs.MarkedUnits.{alone_ordered, alone_timed, wire_ordered, wire_timed, alone_alike, wire_alike}
 use Rattle.laws_pipe.proofs.PipedRuns.{GivenOf, given_by_run, taken}
 use Rattle.es_units.specs.CarriedUnits.{apart_wire_units}
 
@@ -216,10 +218,16 @@ stamps_of : (a : JobArgumentsView) (w : JobOptionsView) (d : Described) (bytes :
 stamps_of a w d bytes input k t alike at =
     at_place (λ t. is_unstamped (seen_in (asked_findings a.options bytes)) t.pid ≡ false) input.streams k t alike.stamped at
 
--- If the parts of a recording are not joined, the job takes the requested findings, timed by the clock references.
+ordered_of : (a : JobArgumentsView) (w : JobOptionsView) (d : Described) (bytes : List ℕ) (input : JobInputView) (k : ℕ) (t : TimedStreamView) →
+    AreAlike a w d bytes input →
+    slice_get input.streams k ≡ Some t → list_any (is_on t.pid) (lone_found a bytes) ≡ false
+ordered_of a w d bytes input k t alike at = at_place (λ t. list_any (is_on t.pid) (lone_found a bytes) ≡ false) input.streams k t alike.ordered at
+
+-- If the parts of a recording are not joined, the job takes the requested findings, timed by the clock references; PES packets with stamps that are alone
+-- out of order are damaged.
 as_found : (a : JobArgumentsView) (bytes : List ℕ) → a.options.joined ≡ false →
-    findings_for a.options bytes ≡ timed (references_in (carried bytes)) (asked_findings a.options bytes)
-unfolding references_by parts_by
+    findings_for a.options bytes ≡ map (damaged (lone_found a bytes)) (timed_findings a bytes)
+unfolding references_by parts_by lone_damaged
 as_found a bytes unjoined = rw unjoined refl
 
 same_wire : (a : JobArgumentsView) (w : JobOptionsView) (d : Described) (bytes : List ℕ) (input : JobInputView) (k : ℕ) (t : TimedStreamView) →
@@ -227,6 +235,7 @@ same_wire : (a : JobArgumentsView) (w : JobOptionsView) (d : Described) (bytes :
     slice_get input.streams k ≡ Some t → apart_wire_units t.pid (findings_for a.options bytes) ≡ apart_wire_units t.pid (streamed_findings w d bytes)
 same_wire a w d bytes input k t alike at =
     ap (λ (fs : List FindingView). apart_wire_units t.pid fs) (as_found a bytes alike.unjoined)
+    ∙ wire_ordered (lone_found a bytes) t.pid (timed_findings a bytes) (ordered_of a w d bytes input k t alike at)
     ∙ wire_timed (references_in (carried bytes)) t.pid (asked_findings a.options bytes) (stamps_of a w d bytes input k t alike at)
     ∙ wire_alike (whole_marking a bytes) (marking_by w d) t.pid (findings_of (carried bytes)) (marks_of a w d bytes input k t alike at)
 
@@ -236,6 +245,7 @@ same_alone : (a : JobArgumentsView) (w : JobOptionsView) (d : Described) (bytes 
 same_alone a w d bytes input k t alike at =
     sym (alone_alike (whole_marking a bytes) (marking_by w d) t.pid (findings_of (carried bytes)) (marks_of a w d bytes input k t alike at))
     ∙ sym (alone_timed (references_in (carried bytes)) t.pid (asked_findings a.options bytes) (stamps_of a w d bytes input k t alike at))
+    ∙ sym (alone_ordered (lone_found a bytes) t.pid (timed_findings a bytes) (ordered_of a w d bytes input k t alike at))
     ∙ sym (ap (λ (fs : List FindingView). one_by_one t.pid fs) (as_found a bytes alike.unjoined))
     ∙ at_place (λ t. one_by_one t.pid (findings_for a.options bytes) ≡ true) input.streams k t alike.alone at
 

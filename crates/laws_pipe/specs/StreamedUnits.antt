@@ -1,12 +1,17 @@
 -- The output of `tsjob units --stream` for a stream while it comes, compared with the output of `tsjob units` for the whole stream.
 use Rattle.std.specs.Prelude.{◌≡◌, ◌≤◌, ◌<◌, ℕ, ◌+◌, ◌/◌, true, false, List, [], length, map, slice_get, Some, Ok, All}
+use Rattle.std.specs.List.{list_any}
 use Rattle.clap.specs.Words.{Text}
 use Rattle.pes_packet.specs.AccessUnits.{AccessUnit}
 use Rattle.pes_packet.specs.Units.{units_of}
 use Rattle.description_parts.specs.Described.{Described}
 use Rattle.description_parts.specs.Ranges.{IsInRange}
+use Rattle.pid_findings.specs.Views.{FindingView}
 use Rattle.packet_sync.specs.Slips.{carried}
-use Rattle.data_times.specs.DataTimes.{is_unstamped, seen_in}
+use Rattle.data_times.specs.DataTimes.{is_unstamped, seen_in, timed}
+use Rattle.data_times.specs.References.{references_in}
+use Rattle.joined_parts.specs.LoneStamps.{is_on, lone_in}
+use Rattle.joined_parts.specs.declared.lone_stamps.LonePes.{LonePes}
 use Rattle.es_moments.specs.Merging.{AreMerged}
 use Rattle.es_feed.specs.EachStream.{one_by_one, units_fed}
 use Rattle.fed_streams.specs.Feeding.{Fed}
@@ -25,7 +30,7 @@ use Rattle.devices.specs.Runs.{Ends}
 use Rattle.job_run.specs.declared.job_arguments.Subcommand.TheVariants.{Units}
 use Rattle.job_run.specs.JobArguments.{JobArgumentsView}
 use Rattle.job_run.specs.Outcomes.{Leads}
-use Rattle.job_run.specs.Streams.{asked_findings, findings_for, findings_of}
+use Rattle.job_run.specs.Streams.{asked_findings, falling_by, findings_for, findings_of}
 use Rattle.tsjob_cli.specs.Arguments.{arguments_in}
 use Rattle.tsjob_cli.specs.StreamedUnits.{GoesBy, earliest, marking_by}
 
@@ -50,6 +55,14 @@ pub record StreamsUnits (w : JobOptionsView) (d : Described) (bytes output : Lis
 
 -- ---- the outputs of both
 
+-- the findings of a job, before PES packets with stamps that are alone out of order are damaged ones, and these PES packets
+abbrev pub timed_findings : JobArgumentsView → List ℕ → List FindingView
+timed_findings a bytes = timed (references_in (carried bytes)) (asked_findings a.options bytes)
+
+abbrev pub lone_found : JobArgumentsView → List ℕ → List LonePes
+lone_found a bytes =
+    lone_in (falling_by a.options.joined (references_in (carried bytes)) (asked_findings a.options bytes)) (timed_findings a bytes)
+
 -- for a PID both ask for the same marks: with the same stream_type, if access points are marked at all, and aligned or not
 pub record AreMarkedAlike (whole streamed : MarkingView) (pid : ℕ) : Type 0 where
   pub typed : type_of pid whole.access ≡ type_of pid streamed.access
@@ -68,6 +81,8 @@ pub record AreAlike (a : JobArgumentsView) (w : JobOptionsView) (d : Described) 
   pub alone : All (λ t. one_by_one t.pid (findings_for a.options bytes) ≡ true) input.streams
   -- no stream is teletext without stamps
   pub stamped : All (λ t. is_unstamped (seen_in (asked_findings a.options bytes)) t.pid ≡ false) input.streams
+  -- no stamps of a stream are alone out of order
+  pub ordered : All (λ t. list_any (is_on t.pid) (lone_found a bytes) ≡ false) input.streams
   -- the same marks are asked for
   pub marks : All (λ t. AreMarkedAlike (marking_of a.options (findings_of (carried bytes))) (marking_by w d) t.pid) input.streams
   -- the first unit of a stream is due no later than three seconds after the first unit of another stream

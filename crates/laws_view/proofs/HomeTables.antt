@@ -1,6 +1,7 @@
--- In a multiplexer's output each section is on a PID where its table belongs.
+-- In a multiplexer's output each section is on a PID where its table belongs, and none has a wrong check word.
 use Rattle.std.proofs.Common.{◌≡◌, ◌∙◌, ℕ, ◌+◌, ◌-◌, ◌*◌, ◌/◌, ◌^◌, ◌≤◌, ◌<◌, ◌==◌, Bool, true, false, cond, List, [], ◌∷◌, ◌++◌, length, take, drop, map}
 use Rattle.std.proofs.Common.{filter, nat_le}
+use Rattle.std.specs.Prelude.{◌&&◌, not}
 use Rattle.std.proofs.Common.{slice_get, inl, inr, Option, Some, None, refl, sym, ap, ap₂, subst, arith, All, ne_eqb}
 use Rattle.std.specs.Prelude.{slice_index}
 use Rattle.std.proofs.lemmas.Bool.{cases_Bool, cases_lt}
@@ -44,7 +45,7 @@ use Rattle.laws_run.proofs.MonitoredJobs.{job_kept}
 use Rattle.laws_run.proofs.NothingElse.{sent_or_silent}
 use Rattle.laws_run.proofs.RunFindings.{given_back, is_run, silent_back}
 use Rattle.laws_run.proofs.ServicesRecur.{kind_on, stream_higher}
-use Rattle.laws_run.proofs.Soundness.{as_reported}
+use Rattle.laws_run.proofs.Soundness.{as_reported, sound}
 use Rattle.laws_run.proofs.TableBegins.{made_distinguishable}
 use Rattle.laws_run.proofs.TableIds.{HasId, table_id_of, text_id}
 use Rattle.laws_run.proofs.TablesWritten.{IsMade}
@@ -63,27 +64,50 @@ use Rattle.es_events.specs.declared.view_options.ViewOptions.{ViewOptions}
 use Rattle.ts_watch.specs.Choices.{RequestView}
 use Rattle.ts_watch.specs.TableEvents.{TimesState, begin_events, check_word_event, check_word_events, distance_events, error_events, finding_events}
 use Rattle.ts_watch.specs.TableEvents.{findings_events}
-use Rattle.ts_watch.specs.TableEvents.{is_wrong, other_events, section_in, soon_events, whole_in, with_finding}
+use Rattle.ts_watch.specs.TableEvents.{has_wrong_word, is_bad, is_wrong_offset, other_events, section_in, soon_events, whole_in, with_finding}
 use Rattle.ts_watch.proofs.HeaderTables.{events_alike}
 use Rattle.ts_report.specs.StreamTables.{TableState}
 use Rattle.ts_report.specs.Views.{ViewState, after_packet, after_read, start, table_events_at}
 use Rattle.laws_view.specs.HomeTables.{JobHomesLaw, RunHomesLaw, is_other_table}
-use Rattle.laws_view.specs.ViewedSections.{sections_in}
+use Rattle.laws_view.specs.ViewedSections.{JobCheckWordsLaw, RunCheckWordsLaw, is_check_word, sections_in}
 use Rattle.laws_view.proofs.LateEvents.{itself}
 use Rattle.laws_view.proofs.MuxedFrames.{packet_sizes_are}
 use Rattle.laws_view.proofs.ViewedFindings.{Alike, FindsAlike, Next, next}
-use Rattle.laws_view.proofs.ViewedSections.{alike_first}
+use Rattle.laws_view.proofs.ViewedSections.{Calm, alike_first, offsets, quiet}
 
 -- 1. Sections where their tables belong have no event of another table
 
--- The table of the section belongs on its PID.
+-- The table of the section belongs on its PID, and is no time offset table.
+abbrev at_home : ℕ → ℕ → Bool
+at_home pid table_id = belongs pid table_id && not ((pid == 0x14) && (table_id == 0x73))
+
 unfoldable IsHome : Option SectionBegin → Type 0
 IsHome None = Unit {0}
-IsHome (Some s) = belongs s.pid s.table_id ≡ true
+IsHome (Some s) = at_home s.pid s.table_id ≡ true
+
+left_true : (a b : Bool) → a && b ≡ true → a ≡ true
+left_true true b e = refl
+left_true false b e = absurd (let no : ⊥ = cc in no)
+
+right_false : (a b : Bool) → a && not b ≡ true → b ≡ false
+right_false true true e = absurd (let no : ⊥ = cc in no)
+right_false true false e = refl
+right_false false b e = absurd (let no : ⊥ = cc in no)
+
+no_offset : (o : Option SectionBegin) (w : WhatView) → IsHome o → is_wrong_offset o w ≡ false
+unfolding IsHome is_wrong_offset
+no_offset None w h = refl
+no_offset (Some s) w h =
+    ap (λ (b : Bool). b && has_wrong_word w) (right_false (belongs s.pid s.table_id) ((s.pid == 0x14) && (s.table_id == 0x73)) h)
 
 unfoldable AllHome : List FindingView → Type 0
 AllHome [] = Unit {0}
 AllHome (f ∷ fs) = IsHome (section_begin f) × AllHome fs
+
+no_offsets : (fs : List FindingView) → AllHome fs → Calm (offsets fs)
+unfolding AllHome
+no_offsets [] h = tt
+no_offsets (f ∷ fs) h = (no_offset (section_begin f) f.what h.0, no_offsets fs h.1)
 
 none_of : (xs ys : List Event) → filter is_other_table xs ≡ [] → filter is_other_table ys ≡ [] → filter is_other_table (xs ++ ys) ≡ []
 none_of xs ys e f = filter-append is_other_table xs ys ∙ ap₂ (λ (a b : List Event). a ++ b) e f
@@ -118,11 +142,12 @@ unfolding IsHome whole_by other_events
 home_whole None extension end h = refl
 home_whole (Some s) None end h = refl
 home_whole (Some s) (Some extension) end h =
-    ap (λ (b : Bool). cond b [] (found.Rule (rules.OtherTable (record { pid = s.pid; table = s.table_id; packet = s.packet })) ∷ [])) h
+    ap (λ (b : Bool). cond b [] (found.Rule (rules.OtherTable (record { pid = s.pid; table = s.table_id; packet = s.packet })) ∷ []))
+    (left_true (belongs s.pid s.table_id) (not ((s.pid == 0x14) && (s.table_id == 0x73))) h)
 
 home_finding : (options : ViewOptions) (x : TimesState) (f : FindingView) → IsHome (section_begin f) → filter is_other_table (finding_events options x f) ≡ []
 home_finding options x f h =
-    none_of (check_word_events f) _ (no_wrong f (is_wrong f.what))
+    none_of (check_word_events f) _ (no_wrong f (is_bad f))
     (none_of (other_events (whole_section f)) _
     (ap (filter is_other_table) (home_whole (section_begin f) (extension_of f.what) f.packet h))
     (none_of (distance_events x.distances (whole_in options f)) _ (no_distance x.distances (whole_in options f)) (no_begin x (section_in options f))))
@@ -194,7 +219,7 @@ of_pids (f ∷ fs) h = (by f.pid refl, of_pids fs (λ pid. own_tail f pid fs (h 
 -- 3. A PID in a run
 
 -- From PID 0x20 on each table belongs.
-high_home : (pid table_id : ℕ) → 0x20 ≤ pid → belongs pid table_id ≡ true
+high_home : (pid table_id : ℕ) → 0x20 ≤ pid → at_home pid table_id ≡ true
 high_home pid table_id high =
     let a : (pid == 0x00) ≡ false = ne_eqb pid 0x00 (λ e. omega (arith, high, e)) in
     let b : (pid == 0x01) ≡ false = ne_eqb pid 0x01 (λ e. omega (arith, high, e)) in
@@ -217,14 +242,14 @@ all_high pid [] high = tt
 all_high pid (x ∷ xs) high = (high_begun pid x.found.begun x.found.what high, all_high pid xs high)
 
 -- A section belongs on a PID if its table_id does.
-section_home : (pid id : ℕ) (e : Ending) (text : List ℕ) (i : ℕ) (is : List ℕ) → slice_index text 0 ≡ id → belongs pid id ≡ true →
+section_home : (pid id : ℕ) (e : Ending) (text : List ℕ) (i : ℕ) (is : List ℕ) → slice_index text 0 ≡ id → at_home pid id ≡ true →
     IsHome (section_begin (with_pid_at pid (section_found e text i is)))
 unfolding section_found section_by begin_of IsHome
 section_home pid id e text i is same h =
-    let own : belongs pid (slice_index text 0) ≡ true = ap (belongs pid) same ∙ h in
+    let own : at_home pid (slice_index text 0) ≡ true = ap (at_home pid) same ∙ h in
     elim (cases_Bool (nat_le (1 + length text) (184 * length (i ∷ is)))) [ inl y ↦ rw y own | inr k ↦ rw k own ]
 
-all_sent : (pid id n : ℕ) (texts : List (List ℕ)) (packets : List ℕ) → All (HasId id) texts → belongs pid id ≡ true →
+all_sent : (pid id n : ℕ) (texts : List (List ℕ)) (packets : List ℕ) → All (HasId id) texts → at_home pid id ≡ true →
     AllHome (map (with_pid_at pid) (each_found section_found n (sendings section_packets texts packets)))
 unfolding each_found if_sent sendings AllHome
 all_sent pid id n [] packets ids h = tt
@@ -249,7 +274,7 @@ module _ (d : Scheduled) (units : ℕ → List AccessUnit) (slots : ℕ) (ranges
 
     -- A table that is not ready-made
     of_table : (t : ℕ) (k : TableKind) → table_kind d.description t ≡ Some k → IsMade k → (table_pid d.description t == 8191) ≡ false →
-        belongs (table_pid d.description t) (table_id_of k) ≡ true →
+        at_home (table_pid d.description t) (table_id_of k) ≡ true →
         AllHome (map (with_pid_at (table_pid d.description t)) (found_on (table_pid d.description t) bytes))
     of_table t k is made no_null h =
         let table : Rounds = table_of d t in
@@ -278,11 +303,11 @@ module _ (d : Scheduled) (units : ℕ → List AccessUnit) (slots : ℕ) (ranges
         no_null : (pid == 8191) ≡ false
         no_null = ne_eqb pid 8191 (λ e. omega (arith, low, e))
 
-        on_kind : (t : ℕ) (k : TableKind) (home : ℕ) → IsMade k → home ≡ pid → belongs home (table_id_of k) ≡ true → table_kind d.description t ≡ Some k →
+        on_kind : (t : ℕ) (k : TableKind) (home : ℕ) → IsMade k → home ≡ pid → at_home home (table_id_of k) ≡ true → table_kind d.description t ≡ Some k →
             table_pid d.description t ≡ pid → AllHome (map (with_pid_at pid) (found_on pid bytes))
         on_kind t k home made e h is on =
             subst (λ (q : ℕ). AllHome (map (with_pid_at q) (found_on q bytes))) on
-            (of_table t k is made (ap (λ (q : ℕ). q == 8191) on ∙ no_null) (ap (λ (q : ℕ). belongs q (table_id_of k)) (on ∙ sym e) ∙ h))
+            (of_table t k is made (ap (λ (q : ℕ). q == 8191) on ∙ no_null) (ap (λ (q : ℕ). at_home q (table_id_of k)) (on ∙ sym e) ∙ h))
 
         by : IsSentOn d.description pid → AllHome (map (with_pid_at pid) (found_on pid bytes))
         by (inl (k, s, is, same)) = absurd (stream_higher d.description pid k s ranges (some, low) is same)
@@ -321,3 +346,21 @@ job_homes_law d units slots request ranges none few =
     ap (λ (bytes : List ℕ). filter is_other_table (sections_in (start request) (cut_packets bytes)))
     (output_bytes (content_at d (λ k. units_of k units)) 0 slots)
     ∙ run_homes_law d (λ k. units_of k units) slots request ranges (job_kept d units ranges none) (omega (arith, few))
+
+-- 4. Check words
+
+pub run_check_words_law : RunCheckWordsLaw
+run_check_words_law d units slots request ranges kept few =
+    let bytes : List ℕ = run_bytes (content_at d units) 0 slots in
+    let size : length bytes ≡ 188 * slots = run_length (content_at d units) 0 slots (contents_fit d units ranges kept) in
+    let count : length bytes / 188 ≡ slots = omega (arith, size) in
+    quiet request bytes (omega (arith, count, few)) (sound d units slots ranges kept few)
+    (no_offsets (found_in_all demux.start (cut_packets bytes))
+    (home_first (found_in_all demux.start (cut_packets bytes)) (finished (taken_all demux.start (cut_packets bytes))).found
+    (all_home d units slots ranges kept few)))
+
+pub job_check_words_law : JobCheckWordsLaw
+job_check_words_law d units slots request ranges none few =
+    ap (λ (bytes : List ℕ). filter is_check_word (sections_in (start request) (cut_packets bytes)))
+    (output_bytes (content_at d (λ k. units_of k units)) 0 slots)
+    ∙ run_check_words_law d (λ k. units_of k units) slots request ranges (job_kept d units ranges none) (omega (arith, few))

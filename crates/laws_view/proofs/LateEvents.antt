@@ -36,7 +36,7 @@ use Rattle.events.specs.declared.rule_event.RuleEvent.TheVariants as rules
 use Rattle.es_events.specs.declared.view_options.ViewOptions.{ViewOptions}
 use Rattle.ts_watch.specs.TableEvents.{TimesState, begin_events, check_word_event, check_word_events, distance_events, error_event, error_events}
 use Rattle.ts_watch.specs.TableEvents.{finding_events}
-use Rattle.ts_watch.specs.TableEvents.{findings_events, is_wrong, other_events, placed, section_in, soon_events, whole_in, with_begin, with_check_word}
+use Rattle.ts_watch.specs.TableEvents.{findings_events, is_bad, other_events, placed, section_in, soon_events, whole_in, with_begin, with_check_word}
 use Rattle.ts_watch.specs.TableEvents.{with_finding}
 use Rattle.ts_watch.specs.TableEvents.{with_findings, with_whole}
 use Rattle.laws_view.specs.ViewedTables.{is_late, late_of}
@@ -268,7 +268,7 @@ module _ (pid table_id : ℕ) where
   begins_alone : (options : ViewOptions) (x : TimesState) (f : FindingView) →
       late (finding_events options x f) ≡ late (begin_events x (section_in options f))
   begins_alone options x f =
-      in_both (check_word_events f) _ (no_wrong f (is_wrong f.what))
+      in_both (check_word_events f) _ (no_wrong f (is_bad f))
       ∙ in_both (other_events (whole_section f)) _ (no_other (whole_section f))
       ∙ in_both (distance_events x.distances (whole_in options f)) (begin_events x (section_in options f)) (no_distance x.distances (whole_in options f))
 

@@ -80,3 +80,6 @@ pub mod ViewedTables
 pub mod MuxedTableEvents
 pub mod ViewedVerdicts
 pub mod HomeTables
+pub mod WorkedView
+pub mod LeftEvents
+pub mod LeftFaults

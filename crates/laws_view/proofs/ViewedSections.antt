@@ -1,15 +1,12 @@
--- A view of a multiplexer's output has no event of a wrong check word.
+-- A view of findings without a fault has no event of a wrong check word.
 use Rattle.std.proofs.Common.{◌≡◌, ◌∙◌, ℕ, ◌*◌, ◌/◌, ◌-◌, ◌^◌, ◌<◌, ◌==◌, Bool, true, false, cond, List, [], ◌∷◌, ◌++◌, length, map, filter}
-use Rattle.std.proofs.Common.{◌⊎◌, inl, inr, Option, Some, None, Result, Ok, Err, refl, sym, ap, ap₂, subst, arith}
+use Rattle.std.proofs.Common.{◌⊎◌, inl, inr, Option, Some, None, Result, Ok, Err, refl, ap, ap₂}
 use Rattle.std.specs.Prelude.{All}
 use Rattle.std.proofs.lemmas.List.Elements.{All-head, All-tail, filter-append}
 use Rattle.ts_packet.specs.declared.packet.PacketError.{PacketError}
 use Rattle.ts_packet.specs.Views.{PacketView}
 use Rattle.ts_packet.specs.Reading.{packet_at}
 use Rattle.ts_packet.specs.PidList.{cut_packets}
-use Rattle.slot_contents.specs.Contents.{run_bytes}
-use Rattle.slot_contents.proofs.Runs.{run_length}
-use Rattle.pes_packet.specs.Units.{units_of}
 use Rattle.pid_findings.specs.Views.{FindingView, WhatView, IsDuplicate, BreaksCounter, IsScrambled, IsTruncated, IsSection, IsBadSection, IsPes, IsBadPes}
 use Rattle.pid_findings.specs.Views.{Found, IsBadPacket, IsErrored, IsStray}
 use Rattle.psi_tables.specs.declared.error.SectionError.{SectionError}
@@ -26,16 +23,11 @@ use Rattle.tr101290.specs.Distances as distances
 use Rattle.tr101290.specs.Distances.{DistanceState}
 use Rattle.tr101290.specs.Homes.{belongs}
 use Rattle.tr101290.specs.Intervals.{error_at}
-use Rattle.tr101290.specs.Sections.{whole_section}
+use Rattle.tr101290.specs.Sections.{section_begin, whole_section}
 use Rattle.tr101290.specs.declared.distances.WholeSection.{WholeSection}
 use Rattle.tr101290.specs.declared.intervals.SectionBegin.{SectionBegin}
 use Rattle.tr101290.specs.declared.intervals.TableError.{TableError}
 use Rattle.laws_run.specs.Monitored.{IsSound}
-use Rattle.laws_run.proofs.Soundness.{sound}
-use Rattle.laws_run.proofs.MonitoredJobs.{job_kept}
-use Rattle.mux_core.specs.Histories.{content_at}
-use Rattle.mux_core.proofs.JobWriting.{output_bytes}
-use Rattle.mux_core.proofs.Whole.{contents_fit}
 use Rattle.events.specs.declared.event.Event.{Event}
 use Rattle.events.specs.declared.event.Event.TheVariants as found
 use Rattle.events.specs.declared.rule_event.RuleEvent.TheVariants as rules
@@ -43,22 +35,27 @@ use Rattle.es_events.specs.declared.view_options.ViewOptions.{ViewOptions}
 use Rattle.ts_watch.specs.Choices.{RequestView}
 use Rattle.ts_watch.specs.TableEvents.{TimesState, begin_events, check_word_event, check_word_events, distance_events, error_events, finding_events}
 use Rattle.ts_watch.specs.TableEvents.{findings_events}
-use Rattle.ts_watch.specs.TableEvents.{is_wrong, other_events, section_in, soon_events, whole_in, with_finding}
+use Rattle.ts_watch.specs.TableEvents.{is_bad, is_wrong, is_wrong_offset, other_events, section_in, soon_events, whole_in, with_finding}
 use Rattle.ts_watch.proofs.HeaderTables.{events_alike}
 use Rattle.ts_report.specs.StreamTables.{TableState}
 use Rattle.ts_report.specs.Views.{ViewState, after_packet, after_read, start, table_events_at}
-use Rattle.laws_view.specs.ViewedSections.{JobCheckWordsLaw, RunCheckWordsLaw, is_check_word, sections_in}
+use Rattle.laws_view.specs.ViewedSections.{is_check_word, sections_in}
 use Rattle.laws_view.proofs.MuxedFrames.{packet_sizes_are}
 use Rattle.laws_view.proofs.ViewedCounters.{sound_findings}
 use Rattle.laws_view.proofs.ViewedFindings.{Alike, FindsAlike, Next, next}
 
 -- 1. Findings without a wrong check word have no such event
 
+-- sections that the demultiplexer refuses, and time offset tables
 abbrev wrongs : List FindingView → List Bool
 wrongs [] = []
 wrongs (f ∷ found) = is_wrong f.what ∷ wrongs found
 
-abbrev Calm : List Bool → Type 0
+abbrev pub offsets : List FindingView → List Bool
+offsets [] = []
+offsets (f ∷ found) = is_wrong_offset (section_begin f) f.what ∷ offsets found
+
+abbrev pub Calm : List Bool → Type 0
 Calm [] = Unit {0}
 Calm (b ∷ bs) = (b ≡ false) × Calm bs
 
@@ -101,19 +98,20 @@ no_wrong : (f : FindingView) (b : Bool) → b ≡ false → filter is_check_word
 no_wrong f true e = absurd (let no : ⊥ = cc in no)
 no_wrong f false e = refl
 
-calm_finding : (options : ViewOptions) (s : TimesState) (f : FindingView) → is_wrong f.what ≡ false →
+calm_finding : (options : ViewOptions) (s : TimesState) (f : FindingView) → is_wrong f.what ≡ false → is_wrong_offset (section_begin f) f.what ≡ false →
     filter is_check_word (finding_events options s f) ≡ []
-calm_finding options s f e =
-    none_of (check_word_events f) _ (no_wrong f (is_wrong f.what) e)
+calm_finding options s f e o =
+    none_of (check_word_events f) _ (no_wrong f (is_bad f) (rw (e, o) refl))
     (none_of (other_events (whole_section f)) _ (no_other (whole_section f))
     (none_of (distance_events s.distances (whole_in options f)) _ (no_distance s.distances (whole_in options f)) (no_begin s (section_in options f))))
 
-calm_findings : (options : ViewOptions) (s : TimesState) (fs : List FindingView) → Calm (wrongs fs) → filter is_check_word (findings_events options s fs) ≡ []
+calm_findings : (options : ViewOptions) (s : TimesState) (fs : List FindingView) → Calm (wrongs fs) → Calm (offsets fs) →
+    filter is_check_word (findings_events options s fs) ≡ []
 unfolding findings_events
-calm_findings options s [] h = refl
-calm_findings options s (f ∷ fs) h =
-    none_of (finding_events options s f) (findings_events options (with_finding options s f) fs) (calm_finding options s f h.0)
-    (calm_findings options (with_finding options s f) fs h.1)
+calm_findings options s [] h o = refl
+calm_findings options s (f ∷ fs) h o =
+    none_of (finding_events options s f) (findings_events options (with_finding options s f) fs) (calm_finding options s f h.0 o.0)
+    (calm_findings options (with_finding options s f) fs h.1 o.1)
 
 -- 2. Findings that are no faults
 
@@ -178,23 +176,32 @@ calm_packet o bytes (Ok packet) rest e = by packet.header.transport_error_indica
 -- 3. All packets of a view
 
 calm_if : (options : ViewOptions) (x : TimesState) (t : TableState) (fs : List FindingView) (o : StreamState) (bytes : List ℕ) → FindsAlike t fs o bytes →
-    Calm (wrongs (found_in o bytes)) → filter is_check_word (findings_events options x fs) ≡ []
+    Calm (wrongs (found_in o bytes)) → Calm (offsets (found_in o bytes)) → filter is_check_word (findings_events options x fs) ≡ []
 unfolding findings_events
-calm_if options x t fs o bytes (inl e) h = ap (λ (found : List FindingView). filter is_check_word (findings_events options x found)) e.0
-calm_if options x t fs o bytes (inr e) h =
-    ap (filter is_check_word) (events_alike options x fs (found_in o bytes) e.0) ∙ calm_findings options x (found_in o bytes) h
+calm_if options x t fs o bytes (inl e) h c = ap (λ (found : List FindingView). filter is_check_word (findings_events options x found)) e.0
+calm_if options x t fs o bytes (inr e) h c =
+    ap (filter is_check_word) (events_alike options x fs (found_in o bytes) e.0) ∙ calm_findings options x (found_in o bytes) h c
+
+calm_first : (xs ys : List FindingView) → Calm (offsets (xs ++ ys)) → Calm (offsets xs)
+calm_first [] ys h = tt
+calm_first (x ∷ xs) ys h = (h.0, calm_first xs ys h.1)
+
+calm_last : (xs ys : List FindingView) → Calm (offsets (xs ++ ys)) → Calm (offsets ys)
+calm_last [] ys h = h
+calm_last (x ∷ xs) ys h = calm_last xs ys h.1
 
 along : (s : ViewState) (o : StreamState) (packets : List (List ℕ)) → Alike s o → All (λ bytes. length bytes ≡ 188) packets →
-    faults_of_all (found_in_all o packets) ≡ [] → filter is_check_word (sections_in s packets) ≡ []
+    faults_of_all (found_in_all o packets) ≡ [] → Calm (offsets (found_in_all o packets)) → filter is_check_word (sections_in s packets) ≡ []
 unfolding sections_in found_in_all found_in
-along s o [] h sizes none = refl
-along s o (bytes ∷ packets) h sizes none =
+along s o [] h sizes none calm = refl
+along s o (bytes ∷ packets) h sizes none calm =
     let v : ViewState = after_read s (packet_at bytes) in
     let n : Next s o bytes = next s o bytes (All-head (λ b. length b ≡ 188) bytes packets sizes) h in
     let c = calm_packet o bytes (packet_at bytes) (found_in_all (taken o bytes) packets) none in
     none_of (table_events_at v bytes) (sections_in (after_packet s bytes) packets)
-    (calm_if v.seen.options v.seen.tables.times v.table _ o bytes n.found c.0)
-    (along (after_packet s bytes) (taken o bytes) packets n.alike (All-tail (λ b. length b ≡ 188) bytes packets sizes) c.1)
+    (calm_if v.seen.options v.seen.tables.times v.table _ o bytes n.found c.0 (calm_first (found_in o bytes) (found_in_all (taken o bytes) packets) calm))
+    (along (after_packet s bytes) (taken o bytes) packets n.alike (All-tail (λ b. length b ≡ 188) bytes packets sizes) c.1
+    (calm_last (found_in o bytes) (found_in_all (taken o bytes) packets) calm))
 
 faults_first : (xs ys : List FindingView) → faults_of_all (xs ++ ys) ≡ [] → faults_of_all xs ≡ []
 unfolding faults_of_all
@@ -207,21 +214,9 @@ faults_first (x ∷ xs) ys e =
 pub alike_first : (request : RequestView) → Alike (start request) demux.start
 alike_first request = record { takes = record { held = refl; found = refl }; packets = refl; states = λ pid free. refl }
 
-quiet : (request : RequestView) (bytes : List ℕ) → length bytes / 188 < 2 ^ 64 - 1 → IsSound bytes →
-    filter is_check_word (sections_in (start request) (cut_packets bytes)) ≡ []
-quiet request bytes few h =
+pub quiet : (request : RequestView) (bytes : List ℕ) → length bytes / 188 < 2 ^ 64 - 1 → IsSound bytes →
+    Calm (offsets (found_in_all demux.start (cut_packets bytes))) → filter is_check_word (sections_in (start request) (cut_packets bytes)) ≡ []
+quiet request bytes few h calm =
     along (start request) demux.start (cut_packets bytes) (alike_first request) (packet_sizes_are bytes)
     (faults_first (found_in_all demux.start (cut_packets bytes)) (finished (taken_all demux.start (cut_packets bytes))).found (sound_findings bytes few h))
-
-pub run_check_words_law : RunCheckWordsLaw
-run_check_words_law d units slots request ranges kept few =
-    let bytes : List ℕ = run_bytes (content_at d units) 0 slots in
-    let size : length bytes ≡ 188 * slots = run_length (content_at d units) 0 slots (contents_fit d units ranges kept) in
-    let count : length bytes / 188 ≡ slots = omega (arith, size) in
-    quiet request bytes (omega (arith, count, few)) (sound d units slots ranges kept few)
-
-pub job_check_words_law : JobCheckWordsLaw
-job_check_words_law d units slots request ranges none few =
-    ap (λ (bytes : List ℕ). filter is_check_word (sections_in (start request) (cut_packets bytes)))
-    (output_bytes (content_at d (λ k. units_of k units)) 0 slots)
-    ∙ run_check_words_law d (λ k. units_of k units) slots request ranges (job_kept d units ranges none) (omega (arith, few))
+    calm

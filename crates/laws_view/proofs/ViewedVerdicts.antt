@@ -54,7 +54,7 @@ use Rattle.ts_watch.specs.SystemEvents.{all_fit}
 use Rattle.ts_watch.specs.TableEvents as section_events
 use Rattle.ts_watch.specs.TableEvents.{TablesState, TimesState, begin_events, check_word_event, check_word_events, distance_events, finding_events}
 use Rattle.ts_watch.specs.TableEvents.{findings_events}
-use Rattle.ts_watch.specs.TableEvents.{is_wrong, more_errors, other_events, section_in, whole_in, with_begin, with_check_word, with_finding, with_findings}
+use Rattle.ts_watch.specs.TableEvents.{is_bad, more_errors, other_events, section_in, whole_in, with_begin, with_check_word, with_finding, with_findings}
 use Rattle.ts_watch.specs.TableEvents.{with_whole}
 use Rattle.ts_report.specs.Seen.{SeenState, counted_entry, counter_events, counter_events_by, inaccurate_on, report_on, timing_of, with_counter}
 use Rattle.ts_report.specs.Seen.{with_counter_read}
@@ -73,16 +73,16 @@ use Rattle.laws_view.proofs.MuxedTableEvents.{none_later, run_table_events_law}
 use Rattle.laws_view.proofs.Steps.{packet_is}
 use Rattle.laws_view.proofs.ViewedCounters.{run_counters_law}
 use Rattle.laws_view.proofs.ViewedReferences.{Watches, all_watches, fine_at, next_watches, run_begins, run_packets, run_rated}
-use Rattle.laws_view.proofs.ViewedSections.{run_check_words_law}
+use Rattle.laws_view.proofs.HomeTables.{run_check_words_law}
 use Rattle.laws_view.proofs.ViewedFindings.{counter_keeps}
 use Rattle.laws_view.proofs.ViewedTables.{read_tables}
 use Rattle.laws_view.proofs.WatchedReferences.{Rated}
 
-none_first : {X : Type 0} (xs ys : List X) → xs ++ ys ≡ [] → xs ≡ []
+pub none_first : {X : Type 0} (xs ys : List X) → xs ++ ys ≡ [] → xs ≡ []
 none_first [] ys e = refl
 none_first (x ∷ xs) ys e = absurd (let no : ⊥ = cc in no)
 
-none_last : {X : Type 0} (xs ys : List X) → xs ++ ys ≡ [] → ys ≡ []
+pub none_last : {X : Type 0} (xs ys : List X) → xs ++ ys ≡ [] → ys ≡ []
 none_last [] ys e = e
 none_last (x ∷ xs) ys e = absurd (let no : ⊥ = cc in no)
 
@@ -172,10 +172,10 @@ counter_counts s bytes (Ok packet) none h = by packet.header.transport_error_ind
 
 -- 3. The sections of a packet
 
-abbrev is_fault : Event → Bool
+abbrev pub is_fault : Event → Bool
 is_fault e = is_check_word e || is_some (late_of e)
 
-abbrev faults : List Event → List Event
+abbrev pub faults : List Event → List Event
 faults events = filter is_fault events
 
 no_more : (errors : ℕ) (o : Option TableError) → faults (section_events.error_events o) ≡ [] → more_errors errors o ≡ errors
@@ -200,7 +200,7 @@ finding_counts : (options : ViewOptions) (x : TimesState) (f : FindingView) → 
 finding_counts options x f e h =
     let parts = sym (filter-append is_fault (check_word_events f) (other_events (whole_section f)
     ++ (distance_events x.distances (whole_in options f) ++ begin_events x (section_in options f)))) ∙ e in
-    let right = not_wrong f (is_wrong f.what) (none_first (faults (check_word_events f)) _ parts) in
+    let right = not_wrong f (is_bad f) (none_first (faults (check_word_events f)) _ parts) in
     let second = none_last (faults (check_word_events f)) _ parts in
     let third = none_last (faults (other_events (whole_section f))) _ (sym (filter-append is_fault (other_events (whole_section f))
     (distance_events x.distances (whole_in options f) ++ begin_events x (section_in options f))) ∙ second) in
@@ -221,12 +221,12 @@ findings_counts options x (f ∷ fs) e h =
 
 -- 4. All packets
 
-unfoldable AreFine : ViewState → List (List ℕ) → Type 0
+unfoldable pub AreFine : ViewState → List (List ℕ) → Type 0
 AreFine s [] = Unit {0}
 AreFine s (bytes ∷ packets) = ((packet : PacketView) → sound_packet (packet_at bytes) ≡ Some packet → IsFine s.seen packet) × AreFine (after_packet s bytes)
     packets
 
-unfoldable AreSound : List (List ℕ) → Type 0
+unfoldable pub AreSound : List (List ℕ) → Type 0
 AreSound [] = Unit {0}
 AreSound (bytes ∷ packets) = (is_some (sound_packet (packet_at bytes)) ≡ true) × AreSound packets
 
@@ -280,7 +280,7 @@ no_rule (Ok packet) i e = by packet.header.transport_error_indicator e
     by true k = absurd (let no : ⊥ = cc in no)
     by false k = refl
 
-sound_from : (i : ℕ) (packets : List (List ℕ)) → packet_faults (enumerate_from i packets) ≡ [] → AreSound packets
+pub sound_from : (i : ℕ) (packets : List (List ℕ)) → packet_faults (enumerate_from i packets) ≡ [] → AreSound packets
 unfolding AreSound
 sound_from i [] e = tt
 sound_from i (bytes ∷ packets) e =
@@ -290,7 +290,7 @@ sound_from i (bytes ∷ packets) e =
       sound_from (i + 1) packets (none_last (f (i, bytes)) (packet_faults (enumerate_from (i + 1) packets)) parts),
     )
 
-fine_from : (r : Rated) (s : ViewState) (index : ℕ) (packets : List (List ℕ)) → index + length packets ≤ r.slots → Watches r s index packets → AreFine s packets
+pub fine_from : (r : Rated) (s : ViewState) (index : ℕ) (packets : List (List ℕ)) → index + length packets ≤ r.slots → Watches r s index packets → AreFine s packets
 unfolding AreFine
 fine_from r s index [] few h = tt
 fine_from r s index (bytes ∷ packets) few h = (
@@ -300,7 +300,7 @@ fine_from r s index (bytes ∷ packets) few h = (
 )
 
 -- None of these events is a fault.
-none_of_all : (events : List Event) → ((pid : ℕ) → filter (is_late_on pid) events ≡ []) → filter is_check_word events ≡ [] → faults events ≡ []
+pub none_of_all : (events : List Event) → ((pid : ℕ) → filter (is_late_on pid) events ≡ []) → filter is_check_word events ≡ [] → faults events ≡ []
 none_of_all [] late words = refl
 none_of_all (e ∷ events) late words =
     by (late_of e) (is_check_word e) (λ pid. late pid) words

@@ -23,3 +23,5 @@ pub mod ViewedSections
 pub mod ViewedTables
 pub mod ViewedVerdicts
 pub mod HomeTables
+pub mod WorkedView
+pub mod LeftFaults

@@ -1,5 +1,5 @@
 -- The counts of a view on what a multiplexer wrote go by buffers and units alone: its packets, counters, clock references and tables are good. The
--- verdict also needs that no event is a fault.
+-- verdict also needs that no event is a fault: `LeftFaults` says which faults are left.
 use Rattle.std.specs.Prelude.{◌≡◌, ℕ, ◌%◌, ◌≤◌, ◌&&◌, false, List, [], length, Some, None}
 use Rattle.ts_packet.specs.PidList.{cut_packets}
 use Rattle.slot_contents.specs.Contents.{run_bytes}

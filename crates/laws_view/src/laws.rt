@@ -6,6 +6,7 @@ ghost use Rattle.laws_view.specs.FirstHighs.{ClockedFirstLaw, FirstHighLaw};
 ghost use Rattle.laws_view.specs.FrameExcesses.{JobFramesLaw, RunFramesLaw};
 ghost use Rattle.laws_view.specs.HeldWindows.{FirstWindowLaw, HeldWindowLaw, RateWithoutLaw, TimedWindowLaw, TimedWithoutLaw};
 ghost use Rattle.laws_view.specs.HomeTables.{JobHomesLaw, RunHomesLaw};
+ghost use Rattle.laws_view.specs.LeftFaults.{JobFaultsLaw, RunFaultsLaw};
 ghost use Rattle.laws_view.specs.MainExcesses.{NoMainExcessLaw, TimedNoExcessLaw};
 ghost use Rattle.laws_view.specs.MeasuredStreams.{MeasuredStreamLaw};
 ghost use Rattle.laws_view.specs.MuxedStreams.{JobNoExcessLaw, MuxedStreamLaw};
@@ -22,6 +23,7 @@ ghost use Rattle.laws_view.specs.ViewedVerdicts.{JobVerdictLaw, RunVerdictLaw};
 ghost use Rattle.laws_view.specs.WholeStreams.{LastEventsLaw, WholeStreamLaw};
 ghost use Rattle.laws_view.specs.WindowHighs.{ClockedHighLaw, HighWithoutLaw, RateHighLaw, TimedHighLaw, WholeHighLaw, WindowHighLaw, WindowMostLaw};
 ghost use Rattle.laws_view.specs.WindowLows.{WholeWindowLaw, WindowLeastLaw, WindowLowLaw, WindowWithoutLaw};
+ghost use Rattle.laws_view.specs.WorkedView.{WorkedView};
 
 /// States for a constant rate that the last lines of a stream are about all packets of its PID, from the packet that
 /// begins its buffers: the line `transport` has the greatest number of bytes in the transport buffer over all moments
@@ -214,10 +216,20 @@ pub fn muxed_table_events()
     ensures jobs { JobTableEventsLaw }
 {}
 
-/// States that without ready-made tables the counts of a view on this output (`is_good` of `ts_report`) depend on
-/// buffers and units alone: no packet is refused, no error of a counter, a clock reference or a table is counted, and no
-/// byte is left. The verdict of `tsview` also needs that no event is a fault.
+/// States what is left to decide the verdict of a view on this output without ready-made tables, which is good exactly
+/// if the view's counts are good (`is_good` of `ts_report`) and no event is a fault. The counts are good exactly if
+/// buffers and units are: no packet is refused, no error of a counter, a clock reference or a table is counted, and no
+/// byte is left (`run`, `jobs`). No packet gives a fault except of buffers and units, of a PTS that comes too late, of a
+/// section that comes too soon, and of a scrambled table (`faults`, `jobs_faults`).
 pub fn muxed_verdicts()
     ensures run { RunVerdictLaw }
     ensures jobs { JobVerdictLaw }
+    ensures faults { RunFaultsLaw }
+    ensures jobs_faults { JobFaultsLaw }
+{}
+
+/// States that a view of the packets of the worked run finds no fault, and that a view of the same packets with another
+/// continuity_counter finds this fault and no other. So the laws above are about something.
+pub fn worked_view()
+    ensures { WorkedView }
 {}

@@ -17,10 +17,11 @@
 //! - `VideoExcesses`: a multiplexer's output, with neither buffer of video too full.
 //! - `FrameExcesses`: a multiplexer's output, with no main buffer of sound too full that is viewed by access units.
 //! - `ViewedCounters`, `ViewedSections`, `ViewedTables`: a view's events of counters, check words and late tables;
-//!   `ViewedVerdicts`: its verdict.
+//!   `ViewedVerdicts`, `LeftFaults`: what decides its verdict.
 //! - `MuxedTables`, `HomeTables`: a multiplexer's tables, never late, and on their PIDs.
 //! - `CarriedStreams`: which packets carry units, and their clock references; `AsMeasured`: when the figures equal the
 //!   measured numbers.
+//! - `WorkedView`: two small streams, viewed.
 //!
 //! - [`laws`]: the last lines of a stream are about all packets of its PID and say no more than the measured numbers,
 //!   and the same numbers if units are carried so; a multiplexer's output has no excess of a transport buffer, no late

@@ -1,5 +1,5 @@
 -- Where sections begin, by PID and table_id, and where a table has parts by part.
-use Rattle.std.specs.Prelude.{ℕ, ◌+◌, ◌-◌, ◌*◌, ◌/◌, ◌%◌, ◌^◌, min, nat_eq, nat_lt, if◌then◌else◌, List, [], Option, Some, None}
+use Rattle.std.specs.Prelude.{ℕ, ◌+◌, ◌-◌, ◌*◌, ◌/◌, ◌%◌, ◌^◌, min, nat_eq, nat_lt, is_some, Bool, if◌then◌else◌, List, [], Option, Some, None}
 use Rattle.std.specs.Map.{lookup}
 use Rattle.indexmap.specs.IndexMap.{insert_entry}
 use Rattle.tr101290.specs.Limits.{limit_of}
@@ -79,6 +79,10 @@ part_places_at s key = lookup (nat_eq key) s.parts
 
 abbrev pub part_key : SectionBegin → ℕ → ℕ
 part_key section part = key_with (section_key section) part
+
+-- a section of a part came
+abbrev pub has_part : IntervalState → ℕ → ℕ → ℕ → Bool
+has_part s pid table_id part = is_some (part_places_at s (key_with (key_of pid table_id) part))
 
 -- after a section, of a part or of none
 unfoldable pub parts_after : IntervalState → SectionBegin → Option ℕ → List (ℕ × SectionPlaces)

@@ -233,6 +233,14 @@ impl<A: Allocator + Copy> TableIntervals<A> {
         &self.parts
     }
 
+    /// Returns whether a section of a part of a table came.
+    pub fn has_part(&self, pid: u16, table_id: u8, part: u16) -> bool
+        ensures { result ≡ spec.has_part self.now pid table_id part }
+    {
+        let key = u64::from(key_of(pid, table_id)) * 65_536 + u64::from(part);
+        part_places_at(&self.parts, key).is_some()
+    }
+
     // Returns the sections of a part before this one.
     #[tactic(auto, unfolding(crate::specs::Intervals::part_before))]
     fn part_before(&self, section: SectionBegin) -> Option<SectionPlaces>

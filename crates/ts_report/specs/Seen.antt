@@ -40,7 +40,7 @@ use Rattle.ts_watch.specs.AbsentTables.{absent_events}
 use Rattle.ts_watch.specs.ReferenceEvents.{reference_events}
 use Rattle.ts_watch.specs.RuleEvents.{RuleState, accuracy_count, accuracy_events, judge_after, no_rule, packet_events, with_judge}
 use Rattle.ts_watch.specs.RuleEvents as rules
-use Rattle.ts_watch.specs.StoppedEvents.{stopped_events}
+use Rattle.ts_watch.specs.StoppedClocks.{stops}
 use Rattle.ts_watch.specs.SystemEvents.{excess_events}
 use Rattle.ts_watch.specs.TableEvents.{TablesState, has_table, no_tables, table_events}
 use Rattle.ts_watch.specs.TableEvents as tables
@@ -256,11 +256,11 @@ window_ends s = window_events s.options s.named s.services.names s.window ++ clo
 abbrev pub is_stream : SeenState → Bool
 is_stream s = not (s.packets == 0) && nat_le s.refused (s.packets / 2)
 
--- at the end, by the rules of TR 101 290: tables without a section, tables that have stopped, the held errors of accuracy, and scrambled packets without
--- a CAT
+-- at the end, by the rules of TR 101 290: tables that were never whole, tables and clock references that have stopped, the held errors of accuracy, and
+-- scrambled packets without a CAT
 unfoldable pub rule_ends : SeenState → List Event
 rule_ends s = absent_events (is_stream s) s.named s.tables
-    ++ (stopped_events s.options s.tables s.packets ++ rules.end_events s.rules s.packets (has_table s.tables 0x01 0x01))
+    ++ (stops s.options s.named s.tables s.clocks s.packets ++ rules.end_events s.rules s.packets (has_table s.tables 0x01 0x01))
 
 -- at the end: clock references by PID, tables, all packets by PID, PIDs that are not named or have no packet, and what rules find
 unfoldable pub pid_ends : SeenState → List Event

@@ -31,7 +31,7 @@ use ts_watch::clock_events::{errors_in, push_clocks, push_report};
 use ts_watch::clock_windows::ClockWindows;
 use ts_watch::reference_events::push_references;
 use ts_watch::rule_watch::RuleWatch;
-use ts_watch::stopped_tables::push_stopped_tables;
+use ts_watch::stopped_clocks::push_stops;
 use ts_watch::system_events::push_excesses;
 use ts_watch::table_watch::TableWatch;
 use ts_watch::view_choice::ViewChoice;
@@ -379,15 +379,22 @@ impl Seen {
         self.packets != 0 && self.refused <= self.packets / 2
     }
 
-    // Appends tables without a section, tables that stop, the accuracies that wait, and that packets are scrambled
-    // without a CAT.
+    // Appends tables that were never whole, tables and clock references that stop, the accuracies that wait, and that
+    // packets are scrambled without a CAT.
     #[tactic(auto, unfolding(crate::specs::Seen::rule_ends))]
     fn push_rule_ends(&self, events: &mut Vec<Event>) -> Result<(), AllocError>
         ensures { OnOk result (events.new.items ≡ events.old.items ++ spec.rule_ends self.now) }
     {
         let stream = self.is_stream();
         push_absent(self.alloc, events, stream, &self.named, &self.tables)?;
-        push_stopped_tables(events, &self.options, &self.tables, self.packets)?;
+        push_stops(
+            events,
+            &self.options,
+            &self.named,
+            &self.tables,
+            &self.clocks,
+            self.packets,
+        )?;
         let has_cat = self.tables.has_table(0x01, 0x01);
         self.rules.push_end(self.packets, has_cat, events)
     }

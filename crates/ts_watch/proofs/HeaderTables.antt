@@ -1,6 +1,6 @@
 -- The sections of tables do not depend on the body of a PES packet.
 use Rattle.std.proofs.Common.{◌≡◌, ◌∙◌, ℕ, ◌+◌, ◌^◌, ◌-◌, Bool, List, [], ◌∷◌, ◌++◌, map, Option, Some, None, refl, sym, ap, ap₂}
-use Rattle.std.specs.Prelude.{min, if◌then◌else◌, option_and_then, unwrap_or}
+use Rattle.std.specs.Prelude.{◌==◌, ◌&&◌, ◌||◌, min, if◌then◌else◌, option_and_then, unwrap_or}
 use Rattle.psi_tables.specs.declared.error.SectionError.TheVariants as refusals
 use Rattle.pid_findings.specs.declared.finding.Kind.{Kind}
 use Rattle.pid_findings.specs.declared.finding.Kind.TheVariants.{Table, Pes}
@@ -17,7 +17,8 @@ use Rattle.tr101290.specs.declared.distances.WholeSection.{WholeSection}
 use Rattle.tr101290.specs.declared.intervals.SectionBegin.{SectionBegin}
 use Rattle.es_events.specs.declared.view_options.ViewOptions.{ViewOptions}
 use Rattle.ts_watch.specs.SectionPids.{with_each, with_found}
-use Rattle.ts_watch.specs.TableEvents.{TimesState, begin_events, distance_events, finding_events, findings_events, is_wrong, other_events, placed, placed_if}
+use Rattle.ts_watch.specs.TableEvents.{TimesState, begin_events, distance_events, finding_events, findings_events, has_wrong_word, is_bad, is_wrong}
+use Rattle.ts_watch.specs.TableEvents.{is_wrong_offset, other_events, placed, placed_if}
 use Rattle.ts_watch.specs.TableEvents.{with_begin, with_finding, with_findings, with_whole}
 
 -- 1. A finding
@@ -79,6 +80,30 @@ wrong_besides (IsBadPacket error) = refl
 wrong_besides IsErrored = refl
 wrong_besides (IsStray size) = refl
 
+word_besides : (w : WhatView) → has_wrong_word (without_body w) ≡ has_wrong_word w
+unfolding has_wrong_word
+word_besides (IsPes header unended body) = refl
+word_besides (IsTruncated bytes) = refl
+word_besides IsDuplicate = refl
+word_besides (BreaksCounter expected found) = refl
+word_besides IsScrambled = refl
+word_besides (IsSection bytes) = refl
+word_besides (IsBadSection error) = refl
+word_besides (IsBadPes error) = refl
+word_besides (IsBadPacket error) = refl
+word_besides IsErrored = refl
+word_besides (IsStray size) = refl
+
+offset_besides : (o : Option SectionBegin) (w : WhatView) → is_wrong_offset o (without_body w) ≡ is_wrong_offset o w
+unfolding is_wrong_offset
+offset_besides None w = refl
+offset_besides (Some s) w = ap (λ (b : Bool). ((s.pid == 0x14) && (s.table_id == 0x73)) && b) (word_besides w)
+
+bad_besides : (f : FindingView) → is_bad (finding_without_body f) ≡ is_bad f
+bad_besides f = ap₂ (λ (a b : Bool). a || b) (wrong_besides f.what)
+    (ap (λ (o : Option SectionBegin). is_wrong_offset o (without_body f.what)) (section_besides f.pid f.begun f.what)
+    ∙ offset_besides (section_begin f) f.what)
+
 -- 2. The state after a finding, and its events
 
 abbrev with_by : ViewOptions → TimesState → Bool → Option WholeSection → Option SectionBegin → TimesState
@@ -89,8 +114,8 @@ with_by options s wrong whole section =
 
 finding_besides : (options : ViewOptions) (s : TimesState) (f : FindingView) → with_finding options s (finding_without_body f) ≡ with_finding options s f
 finding_besides options s f =
-    ap (λ (b : Bool). with_by options s b (whole_section (finding_without_body f)) (section_begin (finding_without_body f))) (wrong_besides f.what)
-    ∙ ap₂ (λ (x : Option WholeSection) (y : Option SectionBegin). with_by options s (is_wrong f.what) x y) (whole_besides f)
+    ap (λ (b : Bool). with_by options s b (whole_section (finding_without_body f)) (section_begin (finding_without_body f))) (bad_besides f)
+    ∙ ap₂ (λ (x : Option WholeSection) (y : Option SectionBegin). with_by options s (is_bad f) x y) (whole_besides f)
     (section_besides f.pid f.begun f.what)
 
 abbrev events_by : ViewOptions → TimesState → FindingView → Bool → Option WholeSection → Option SectionBegin → List Event
@@ -101,8 +126,8 @@ events_by options s f wrong whole section =
 
 event_besides : (options : ViewOptions) (s : TimesState) (f : FindingView) → finding_events options s (finding_without_body f) ≡ finding_events options s f
 event_besides options s f =
-    ap (λ (b : Bool). events_by options s f b (whole_section (finding_without_body f)) (section_begin (finding_without_body f))) (wrong_besides f.what)
-    ∙ ap₂ (λ (x : Option WholeSection) (y : Option SectionBegin). events_by options s f (is_wrong f.what) x y) (whole_besides f)
+    ap (λ (b : Bool). events_by options s f b (whole_section (finding_without_body f)) (section_begin (finding_without_body f))) (bad_besides f)
+    ∙ ap₂ (λ (x : Option WholeSection) (y : Option SectionBegin). events_by options s f (is_bad f) x y) (whole_besides f)
     (section_besides f.pid f.begun f.what)
 
 -- 3. Findings

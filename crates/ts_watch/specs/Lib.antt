@@ -10,5 +10,6 @@ pub mod TableEvents
 pub mod AbsentTables
 pub mod RuleEvents
 pub mod StoppedEvents
+pub mod StoppedClocks
 pub mod SystemEvents
 pub mod Laws

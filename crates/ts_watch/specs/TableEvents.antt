@@ -1,12 +1,13 @@
 -- The sections of tables: where they begin, sections that begin too late (ETSI TR 101 290, 5.2.1, 1.3 and 1.5; 5.2.3, 3.1, 3.5, 3.6 and 3.8), and the
 -- totals of each table at the end.
 use Rattle.std.specs.Prelude.{◌≡◌, ℕ, ◌+◌, ◌-◌, ◌^◌, ◌%◌, min, is_some, Bool, true, false, if◌then◌else◌, unwrap_or, List, [], ◌∷◌, ◌++◌, map, option_and_then}
-use Rattle.std.specs.Prelude.{Option, Some, None}
+use Rattle.std.specs.Prelude.{◌==◌, ◌&&◌, ◌||◌, not, Option, Some, None}
 use Rattle.arrival.specs.Arrivals.{moment_on}
 use Rattle.arrival.specs.declared.arrival.Arrival.{Arrival}
 use Rattle.arrival.specs.declared.arrival.Arrival.TheVariants.{Unknown, AtRate, OnLines}
 use Rattle.pid_findings.specs.Views.{FindingView, WhatView, IsDuplicate, BreaksCounter, IsScrambled, IsTruncated, IsSection, IsBadSection, IsPes, IsBadPes}
 use Rattle.pid_findings.specs.Views.{IsBadPacket, IsErrored, IsStray}
+use Rattle.psi_tables.specs.CheckWord.{check_word}
 use Rattle.psi_tables.specs.declared.error.SectionError.TheVariants as refusals
 use Rattle.demux.specs.Stream.{StreamState, start, pushed}
 use Rattle.demux.specs.StreamBodies.{headers_pushed}
@@ -14,7 +15,7 @@ use Rattle.demux.specs.FoundSoFar.{with_found}
 use Rattle.tr101290.specs.Distances.{DistanceState, no_end}
 use Rattle.tr101290.specs.Distances as distances
 use Rattle.tr101290.specs.Homes.{belongs}
-use Rattle.tr101290.specs.Intervals.{IntervalState, error_at, key_of, no_section, pid_of, places_at, table_id_of, time_between}
+use Rattle.tr101290.specs.Intervals.{IntervalState, error_at, has_part, key_of, no_section, pid_of, places_at, table_id_of, time_between}
 use Rattle.tr101290.specs.Intervals as intervals
 use Rattle.tr101290.specs.Limits.{limit_of}
 use Rattle.tr101290.specs.Sections.{section_begin, whole_section}
@@ -135,14 +136,36 @@ is_wrong (IsBadPacket error) = false
 is_wrong IsErrored = false
 is_wrong (IsStray size) = false
 
+-- a whole section that does not end with its check word
+unfoldable pub has_wrong_word : WhatView → Bool
+has_wrong_word IsDuplicate = false
+has_wrong_word (BreaksCounter expected found) = false
+has_wrong_word IsScrambled = false
+has_wrong_word (IsTruncated bytes) = false
+has_wrong_word (IsSection bytes) = not (check_word bytes == 0)
+has_wrong_word (IsBadSection error) = false
+has_wrong_word (IsPes header unended bytes) = false
+has_wrong_word (IsBadPes error) = false
+has_wrong_word (IsBadPacket error) = false
+has_wrong_word IsErrored = false
+has_wrong_word (IsStray size) = false
+
+-- such a time offset table: it has a check word, though its section_syntax_indicator is 0 (ETSI EN 300 468, 5.2.6)
+unfoldable pub is_wrong_offset : Option SectionBegin → WhatView → Bool
+is_wrong_offset None what = false
+is_wrong_offset (Some section) what = ((section.pid == 0x14) && (section.table_id == 0x73)) && has_wrong_word what
+
+abbrev pub is_bad : FindingView → Bool
+is_bad f = is_wrong f.what || is_wrong_offset (section_begin f) f.what
+
 abbrev pub check_word_event : FindingView → Event
 check_word_event f = found.CheckWord (record { pid = unwrap_or f.pid 0; packet = f.packet })
 
 abbrev pub check_word_events : FindingView → List Event
-check_word_events f = if is_wrong f.what then check_word_event f ∷ [] else []
+check_word_events f = if is_bad f then check_word_event f ∷ [] else []
 
 abbrev pub with_check_word : TimesState → FindingView → TimesState
-with_check_word s f = record { intervals = s.intervals; distances = s.distances; errors = min (s.errors + (if is_wrong f.what then 1 else 0)) (2 ^ 64 - 1) }
+with_check_word s f = record { intervals = s.intervals; distances = s.distances; errors = min (s.errors + (if is_bad f then 1 else 0)) (2 ^ 64 - 1) }
 
 abbrev pub with_finding : ViewOptions → TimesState → FindingView → TimesState
 with_finding options s f = with_begin (with_whole (with_check_word s f) (whole_in options f)) (section_in options f)
@@ -192,6 +215,10 @@ packet_events options s bytes = findings_events options s.times (pushed s.demux 
 
 abbrev pub has_table : TablesState → ℕ → ℕ → Bool
 has_table s pid table_id = is_some (places_at s.times.intervals (key_of pid table_id))
+
+-- a whole PMT of a program came on a PID
+abbrev pub has_map : TablesState → ℕ → ℕ → Bool
+has_map s pid number = has_part s.times.intervals pid 0x02 number
 
 -- PIDs have 16 bits
 abbrev pub table_pid : ℕ → ℕ

@@ -1,4 +1,4 @@
-//! Tables without a section in the whole input.
+//! Tables that are never whole.
 ghost use Rattle.std.specs.Prelude.{◌≡◌, ◌++◌, OnOk, map};
 ghost use Rattle.pid_findings.specs.Shown.{finding_view};
 ghost use Rattle.program_tables.specs.KnownTables.{known_in};
@@ -22,7 +22,7 @@ fn push_unless(events: &mut Vec<Event>, has: bool, pid: u16, table: u8) -> Resul
     Ok(())
 }
 
-// Appends the event of each of these programs without a PMT.
+// Appends the event of each of these programs that has no whole PMT.
 fn push_maps(
     events: &mut Vec<Event>,
     known: &KnownTables,
@@ -35,7 +35,8 @@ fn push_maps(
         ≡ events.old.items ++ spec.maps_events (map finding_view findings.now) tables.now programs.now) }
 {
     for program in programs {
-        let has = known.has_map(*program, findings) || tables.has_table(program.pid, 0x02);
+        let has = known.has_map(*program, findings)
+            || tables.has_map(program.pid, program.program_number);
         push_unless(events, has, program.pid, 0x02)?;
     }
     Ok(())
@@ -52,13 +53,12 @@ fn push_tables(
 {
     let mut known = KnownTables::new(alloc);
     known.take(0, findings)?;
-    let has = known.has_association() || tables.has_table(0x00, 0x00);
-    push_unless(events, has, 0x00, 0x00)?;
+    push_unless(events, known.has_association(), 0x00, 0x00)?;
     push_maps(events, &known, known.programs(), findings, tables)
 }
 
-/// Appends an event if a stream has no PAT, and one for each program that its PAT names and that has no PMT; `stream`:
-/// whether the input is a transport stream.
+/// Appends an event if no PAT is whole among the first packets of a stream, and one for each program that its PAT names
+/// and that never has a whole PMT; `stream`: whether the input is a transport stream.
 pub fn push_absent(
     alloc: Global,
     events: &mut Vec<Event>,

@@ -3,6 +3,7 @@
 #![tactic(auto)]
 
 pub mod absent_tables;
+mod check_words;
 mod clock_drift;
 pub mod clock_events;
 pub mod clock_windows;
@@ -11,7 +12,8 @@ mod pid_labels;
 pub mod reference_events;
 pub mod rule_watch;
 mod section_pids;
-pub mod stopped_tables;
+pub mod stopped_clocks;
+mod stopped_tables;
 pub mod system_events;
 pub mod table_watch;
 pub mod view_choice;

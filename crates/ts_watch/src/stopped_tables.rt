@@ -56,7 +56,7 @@ fn push_at(
 /// Appends each table, and each part that has to recur by itself, that has not come for too long at the end of the input,
 /// after a number of packets.
 #[tactic(auto, unfolding(crate::specs::StoppedEvents::stopped_by))]
-pub fn push_stopped_tables(
+pub(crate) fn push_stopped_tables(
     events: &mut Vec<Event>,
     options: &ViewOptions,
     tables: &TableWatch,

@@ -4,19 +4,19 @@ ghost use Rattle.bit_fields.specs.Reading.{Gives};
 ghost use Rattle.ts_packet.specs.Packets.{null_packet};
 ghost use Rattle.ts_packet.specs.Reading.{packet_at};
 ghost use Rattle.ts_packet.specs.Views.{packet_view};
-ghost use Rattle.pid_findings.specs.Shown.{finding_view, what_view};
+ghost use Rattle.pid_findings.specs.Shown.{finding_view};
 ghost use Rattle.ts_watch.specs.SectionPids.{with_each};
 ghost use Rattle.ts_watch.specs.TableEvents as spec;
 ghost use Rattle.stream_programs.specs.FreePids.{is_taken};
 
+use crate::check_words::{is_bad, push_check_word_if};
 use crate::section_pids::add_each;
 use arrival::Arrival;
 use demux::HeaderDemux;
 use es_events::clocks::first_byte;
 use es_events::view_options::ViewOptions;
-use events::{CheckWordFault, Event, OtherTable, RuleEvent, TableFault, TableTotals};
-use pid_findings::{Finding, What};
-use psi_tables::SectionError;
+use events::{Event, OtherTable, RuleEvent, TableFault, TableTotals};
+use pid_findings::Finding;
 use std::alloc::{AllocError, Global};
 use std::marker::Model;
 use stream_programs::PidList;
@@ -182,27 +182,6 @@ fn section_in(options: &ViewOptions, finding: &Finding<'_>) -> Option<SectionBeg
     placed(&options.arrival, section)
 }
 
-#[tactic(auto, unfolding(crate::specs::TableEvents::is_wrong))]
-fn is_wrong(what: &What<'_>) -> bool
-    ensures { result ≡ spec.is_wrong (what_view what.now) }
-{
-    matches!(what, What::BadSection(SectionError::CheckWord))
-}
-
-// Appends the event of a section whose check word is wrong, if the finding is such a section.
-fn push_check_word_if(events: &mut Vec<Event>, finding: &Finding<'_>) -> Result<(), AllocError>
-    ensures { OnOk result (events.new.items
-        ≡ events.old.items ++ spec.check_word_events (finding_view finding.now)) }
-{
-    if is_wrong(&finding.what) {
-        events.push(Event::CheckWord(CheckWordFault {
-            pid: finding.pid.unwrap_or(0),
-            packet: finding.packet,
-        }))?;
-    }
-    Ok(())
-}
-
 impl TableTimes {
     /// Returns the state before the first section.
     pub(crate) fn new(alloc: Global, timing: TableTiming) -> TableTimes
@@ -272,9 +251,7 @@ impl TableTimes {
             ≡ events.old.items ++ spec.finding_events options.now self.old (finding_view finding.now)) }
     {
         push_check_word_if(events, finding)?;
-        self.errors = self
-            .errors
-            .saturating_add(u64::from(is_wrong(&finding.what)));
+        self.errors = self.errors.saturating_add(u64::from(is_bad(finding)));
         let whole = whole_section(finding);
         push_other_if(events, &whole)?;
         self.take_whole(&placed_if(&options.arrival, whole), events)?;
@@ -422,6 +399,13 @@ impl TableWatch {
             .entries()
             .get(&key_of(pid, table_id))
             .is_some()
+    }
+
+    /// Returns whether a whole PMT of a program came on a PID.
+    pub fn has_map(&self, pid: u16, number: u16) -> bool
+        ensures { result ≡ spec.has_map self.now pid number }
+    {
+        self.times.intervals.has_part(pid, 0x02, number)
     }
 
     /// Returns whether a section of PAT, CAT or PMT names a PID.

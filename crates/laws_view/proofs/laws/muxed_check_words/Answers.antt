@@ -1,4 +1,4 @@
-use Rattle.laws_view.proofs.ViewedSections.{job_check_words_law, run_check_words_law}
+use Rattle.laws_view.proofs.HomeTables.{job_check_words_law, run_check_words_law}
 use Rattle.laws_view.proofs.laws.muxed_check_words.Goals as goal
 
 pub returns-clause-run : goal.returns-clause-run

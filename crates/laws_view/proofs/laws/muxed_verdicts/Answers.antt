@@ -1,3 +1,4 @@
+use Rattle.laws_view.proofs.LeftFaults.{job_faults_law, run_faults_law}
 use Rattle.laws_view.proofs.ViewedVerdicts.{job_verdict_law, run_verdict_law}
 use Rattle.laws_view.proofs.laws.muxed_verdicts.Goals as goal
 
@@ -6,3 +7,9 @@ returns-clause-run c = run_verdict_law
 
 pub returns-clause-jobs : goal.returns-clause-jobs
 returns-clause-jobs c = job_verdict_law
+
+pub returns-clause-faults : goal.returns-clause-faults
+returns-clause-faults c = run_faults_law
+
+pub returns-clause-jobs_faults : goal.returns-clause-jobs_faults
+returns-clause-jobs_faults c = job_faults_law
