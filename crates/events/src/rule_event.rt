@@ -37,7 +37,7 @@ pub struct OtherTable {
     pub packet: u64,
 }
 
-/// A table without a section in the whole input.
+/// A PAT that is never whole, or a PMT that is never whole of a program that the PAT names.
 #[derive(Clone, Copy)]
 pub struct AbsentTable {
     pub pid: u16,
@@ -108,7 +108,7 @@ pub enum RuleEvent {
     ScrambledTable(ScrambledPacket),
     /// A stream has scrambled packets and no CAT (2.6).
     NoCat(ScrambledPacket),
-    /// A stream has no PAT (1.3.a), or no PMT of a program that its PAT names (1.5.a).
+    /// A stream has no whole PAT (1.3.a), or no whole PMT of a program that its PAT names (1.5.a).
     NoTable(AbsentTable),
     /// A transport buffer or a multiplexing buffer is not empty for too long (3.9).
     NotEmpty(BufferStay),
