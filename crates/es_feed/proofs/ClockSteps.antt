@@ -4,7 +4,7 @@ use Rattle.std.specs.Option.{option_to_list}
 use Rattle.std.specs.Prelude.{nat_lt, not}
 use Rattle.es_moments.specs.Stamps.{distance}
 use Rattle.packet_pcr.specs.declared.pcr_reading.FoundPcr.{FoundPcr}
-use Rattle.fed_streams.specs.Clocks.{follows, jump_of, jumps, origin_stepped, report_of, step_of, unless_doubtful}
+use Rattle.fed_streams.specs.Clocks.{follows, jump_of, jumps, origin_stepped, report_of, returns, step_of, unless_doubtful}
 use Rattle.fed_streams.specs.Origins.{origin_kept}
 use Rattle.fed_streams.specs.Ticks.{jump_fed}
 use Rattle.fed_streams.specs.declared.clock_jump.ClockStep.{ClockStep}
@@ -31,30 +31,33 @@ no_jump (Some before) pcr none =
     let two = jump_if pcr before pcr.discontinuity far (record { pid = pcr.pid; packet = pcr.packet; before = before; after = pcr.base }) none in
     (two.0, rw two.1 refl)
 
-abbrev step_or : (leaves announced : Bool) → ClockStep
-step_or leaves announced = if not leaves then Continues else (if announced then Leaps else Doubts)
+abbrev step_or : (leaves announced back : Bool) → ClockStep
+step_or leaves announced back = if not leaves then Continues else (if announced then Leaps else (if back then Continues else Doubts))
 
-step_is : (shown : Option ℕ) (pcr : FoundPcr) → step_of shown None pcr ≡ step_or (jumps shown pcr.base) pcr.discontinuity
+step_is : (shown earlier : Option ℕ) (pcr : FoundPcr) →
+    step_of shown earlier None pcr ≡ step_or (jumps shown pcr.base) pcr.discontinuity (returns earlier pcr.base)
 unfolding step_of follows
-step_is shown pcr = refl
+step_is shown earlier pcr = refl
 
-report_is : (leaves announced : Bool) (shown : Option ℕ) (pcr : FoundPcr) → report_of (step_or leaves announced) shown pcr ≡ jump_of shown pcr
+report_is : (leaves announced back : Bool) (shown : Option ℕ) (pcr : FoundPcr) → report_of (step_or leaves announced back) shown pcr ≡ jump_of shown pcr
 unfolding report_of
-report_is false announced shown pcr = refl
-report_is true true shown pcr = refl
-report_is true false shown pcr = refl
+report_is false announced back shown pcr = refl
+report_is true true back shown pcr = refl
+report_is true false true shown pcr = refl
+report_is true false false shown pcr = refl
 
 -- The reference continues the clock.
-pub goes_on : (shown : Option ℕ) (doubtful : Option DoubtfulClock) (pcr : FoundPcr) → doubtful ≡ None →
-    have_fault (option_to_list (jump_fed (report_of (step_of shown doubtful pcr) shown pcr))) ≡ false →
-    (step_of shown doubtful pcr ≡ Continues) × (option_to_list (jump_fed (report_of (step_of shown doubtful pcr) shown pcr)) ≡ [])
-goes_on shown doubtful pcr sure none =
-    let step : step_of shown doubtful pcr ≡ step_or (jumps shown pcr.base) pcr.discontinuity =
-    ap (λ (d : Option DoubtfulClock). step_of shown d pcr) sure ∙ step_is shown pcr in
-    let report : report_of (step_of shown doubtful pcr) shown pcr ≡ jump_of shown pcr =
-    ap (λ (s : ClockStep). report_of s shown pcr) step ∙ report_is (jumps shown pcr.base) pcr.discontinuity shown pcr in
+pub goes_on : (shown earlier : Option ℕ) (doubtful : Option DoubtfulClock) (pcr : FoundPcr) → doubtful ≡ None →
+    have_fault (option_to_list (jump_fed (report_of (step_of shown earlier doubtful pcr) shown pcr))) ≡ false →
+    (step_of shown earlier doubtful pcr ≡ Continues) × (option_to_list (jump_fed (report_of (step_of shown earlier doubtful pcr) shown pcr)) ≡ [])
+goes_on shown earlier doubtful pcr sure none =
+    let back = returns earlier pcr.base in
+    let step : step_of shown earlier doubtful pcr ≡ step_or (jumps shown pcr.base) pcr.discontinuity back =
+    ap (λ (d : Option DoubtfulClock). step_of shown earlier d pcr) sure ∙ step_is shown earlier pcr in
+    let report : report_of (step_of shown earlier doubtful pcr) shown pcr ≡ jump_of shown pcr =
+    ap (λ (s : ClockStep). report_of s shown pcr) step ∙ report_is (jumps shown pcr.base) pcr.discontinuity back shown pcr in
     let two = no_jump shown pcr (ap (λ (j : Option ClockJump). have_fault (option_to_list (jump_fed j))) (sym report) ∙ none) in
-    (step ∙ ap (λ (leaves : Bool). step_or leaves pcr.discontinuity) two.0, ap (λ (j : Option ClockJump). option_to_list (jump_fed j)) report ∙ two.1)
+    (step ∙ ap (λ (leaves : Bool). step_or leaves pcr.discontinuity back) two.0, ap (λ (j : Option ClockJump). option_to_list (jump_fed j)) report ∙ two.1)
 
 kept_is : (o : Origin) → o.doubtful ≡ None → origin_kept o ≡ o
 unfolding origin_kept

@@ -28,7 +28,7 @@ use Rattle.fed_streams.specs.declared.feed_fault.Restart.{Restart}
 use Rattle.fed_streams.specs.Ticks.{after_end, after_end_at, after_late, after_own, after_passed, after_shown, after_tick, fed_end, fed_end_at, fed_late}
 use Rattle.fed_streams.specs.Ticks.{fed_own}
 use Rattle.fed_streams.specs.Ticks.{fed_passed, fed_shown, fed_tick, is_silence, is_tick, jump_fed, jump_pause, last_unit, late_after, late_in, late_of, passed_from}
-use Rattle.fed_streams.specs.Ticks.{silence, step_in, tick, with_shown, without_unit}
+use Rattle.fed_streams.specs.Ticks.{silence, step_in, tick, timed_in, with_shown, without_unit}
 use Rattle.fed_streams.specs.declared.due.Due.{Due}
 use Rattle.fed_streams.specs.declared.feed_fault.FeedFault.{FeedFault}
 use Rattle.fed_streams.specs.declared.feed_fault.FeedFault.TheVariants.{Silent}
@@ -274,11 +274,11 @@ shown_out feed pcr sure none =
     let g = with_shown feed pcr in
     let late = late_after feed pcr in
     let jump = option_to_list (jump_fed (report_of (step_in feed pcr) feed.shown pcr)) in
-    let stays = goes_on feed.shown feed.origin.doubtful pcr sure (fault_split jump (fed_late g late) none).0 in
+    let stays = goes_on feed.shown feed.earlier feed.origin.doubtful pcr sure (fault_split jump (fed_late g late) none).0 in
     same_out feed g (after_late g late) (fed_late g late) (fed_shown feed pcr) refl
     (stepped_is (step_in feed pcr) feed.origin feed.shown (greatest_of feed + jump_pause) pcr stays.0 sure) refl
     (ap (λ (xs : List Fed). xs ++ fed_late g late) stays.1)
-    (late_out g late (λ e. no_time (step_in feed pcr) (late_in g pcr.base) (late_unknown g pcr.base e)))
+    (late_out g late (λ e. no_time (step_in feed pcr) (late_in g (timed_in feed pcr)) (late_unknown g (timed_in feed pcr) e)))
 
 own_out : (feed : FeedView) (pcr : FoundPcr) (on : Bool) → feed.origin.doubtful ≡ None → have_fault (if on then fed_shown feed pcr else []) ≡ false →
     Out feed (if on then after_shown feed pcr else feed) (if on then fed_shown feed pcr else [])

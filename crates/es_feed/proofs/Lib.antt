@@ -18,5 +18,6 @@ pub mod PidEnds
 pub mod PlainPackets
 pub mod FedStreams
 pub mod WatchedStreams
+pub mod ContinuedClocks
 pub mod DamagedReferences
 pub mod ClockSteps

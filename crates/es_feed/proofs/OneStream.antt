@@ -62,7 +62,7 @@ abbrev due_from : ℕ → Due
 due_from e = record { earliest = e; greatest = None }
 
 abbrev single : ℕ → Origin → FedStreamView → FeedView
-single e o s = record { earliest = e; origin = o; shown = None; ticked = 0; marking = no_marking; maps = []; streams = s ∷ []; fallen = None }
+single e o s = record { earliest = e; origin = o; shown = None; earlier = None; ticked = 0; marking = no_marking; maps = []; streams = s ∷ []; fallen = None }
 
 pub other_role : (pid : ℕ) (f : FindingView) → has_pid pid f.pid ≡ false → role_of pid f ≡ Ignored
 unfolding role_of

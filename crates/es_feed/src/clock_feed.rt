@@ -6,7 +6,8 @@ ghost use Rattle.fed_streams.specs.Ticks as spec;
 
 use crate::unit_feed::{NO_STREAM, UnitFeed, push_fed};
 use fed_streams::clock_jump::{
-    ClockStep, origin_stepped, report_of, shown_after, step_of, unless_doubtful,
+    ClockStep, earlier_after, origin_stepped, report_of, shown_after, step_of, timed_by,
+    unless_doubtful,
 };
 use fed_streams::fed_map::clock_pid;
 use fed_streams::fed_streams::{end_at, greatest_of, passed_place};
@@ -118,7 +119,7 @@ impl UnitFeed {
     fn step(&self, pcr: FoundPcr) -> ClockStep
         ensures { result ≡ spec.step_in self.now pcr }
     {
-        step_of(self.shown, self.origin.doubtful, pcr)
+        step_of(self.shown, self.earlier, self.origin.doubtful, pcr)
     }
 
     // The clock shows a reference that fits it so, unless it is doubtful.
@@ -128,6 +129,7 @@ impl UnitFeed {
     {
         let moment = self.greatest() + JUMP_PAUSE;
         self.origin = origin_stepped(step, self.origin, self.shown, moment, pcr);
+        self.earlier = earlier_after(step, self.shown, self.earlier);
         self.shown = shown_after(step, self.shown, pcr);
     }
 
@@ -144,8 +146,9 @@ impl UnitFeed {
     {
         let step = self.step(pcr);
         push_fed(fed, reported_jump(report_of(step, self.shown, pcr)))?;
+        let timed = timed_by(step, self.shown, self.earlier, pcr);
         self.show(step, pcr);
-        let late = late_of(self.origin.now, self.greatest(), pcr.base);
+        let late = late_of(self.origin.now, self.greatest(), timed);
         match unless_doubtful(step, late) {
             None => Ok(()),
             Some(late) => self.go_on(alloc, late, fed),

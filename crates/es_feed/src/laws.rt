@@ -57,9 +57,10 @@ pub fn ticks_are_past()
     ensures { TicksArePast }
 {}
 
-/// States that a clock reference that leaves the clock without a discontinuity_indicator gives one report, and that all
-/// is as without it after the next reference, if that one continues the clock; units between them that are near the
-/// clock have the constant that they have without it.
+/// States that after any clock reference without a discontinuity_indicator, wherever it points, and a next reference
+/// that continues the clock, the constants and the clock are as without it. If it is far from the clock, all is as
+/// without it, and units near the clock have the constant that they have without it; otherwise no constant changes, and
+/// it moves time at most to the reference that it continues.
 pub fn damage_moves_nothing()
     ensures { DamageMovesNothing }
 {}

@@ -31,6 +31,7 @@ pub struct UnitFeed {
     pub(crate) earliest: u64,
     pub(crate) origin: Origin,
     pub(crate) shown: Option<u64>,
+    pub(crate) earlier: Option<u64>,
     pub(crate) ticked: u64,
     marking: Marking,
     pub(crate) maps: Vec<FedMap>,
@@ -51,6 +52,7 @@ impl Model for UnitFeed {
       earliest = f.earliest;
       origin = f.origin;
       shown = f.shown;
+      earlier = f.earlier;
       ticked = f.ticked;
       marking = f.marking;
       maps = f.maps.items;
@@ -164,6 +166,7 @@ impl UnitFeed {
             earliest,
             origin: Origin::new(),
             shown: None,
+            earlier: None,
             ticked: 0,
             marking,
             maps,

@@ -19,6 +19,11 @@ pts_line json e = line_of json (codes "pts_repetition")
     (number_field (codes "pid") e.pid ∷ number_field (codes "packet") e.packet
     ∷ number_field (codes "value") e.value ∷ number_field (codes "limit") e.limit ∷ [])
 
+abbrev pub pid_line : Bool → ClockFault → List ℕ
+pid_line json e = line_of json (codes "pid_repetition")
+    (number_field (codes "pid") e.pid ∷ number_field (codes "packet") e.packet
+    ∷ number_field (codes "value") e.value ∷ number_field (codes "limit") e.limit ∷ [])
+
 abbrev pub distance_line : Bool → TableFault → List ℕ
 distance_line json e = line_of json (codes "section_distance")
     (number_field (codes "pid") e.pid ∷ number_field (codes "table") e.table
@@ -56,6 +61,7 @@ clock_window_line json e = line_of json (codes "clock_window")
 
 unfoldable pub rule_line : Bool → RuleEvent → List ℕ
 rule_line json (rules.PtsRepetition e) = pts_line json e
+rule_line json (rules.PidRepetition e) = pid_line json e
 rule_line json (rules.SectionDistance e) = distance_line json e
 rule_line json (rules.OtherTable e) = other_table_line json e
 rule_line json (rules.ScrambledTable e) = scrambled_line json (codes "scrambled_table") e

@@ -23,6 +23,19 @@ fn write_pts(text: &mut String, json: bool, e: &ClockFault) -> Result<(), AllocE
     write_line(text, json, "pts_repetition", &fields)
 }
 
+// Appends `pid_repetition`.
+fn write_pid(text: &mut String, json: bool, e: &ClockFault) -> Result<(), AllocError>
+    ensures { OnOk result (string_bytes text.new ≡ string_bytes text.old ++ spec.pid_line json e.now) }
+{
+    let fields = [
+        number("pid", u128::from(e.pid)),
+        number("packet", u128::from(e.packet)),
+        number("value", e.value),
+        number("limit", u128::from(e.limit)),
+    ];
+    write_line(text, json, "pid_repetition", &fields)
+}
+
 // Appends `section_distance`.
 fn write_distance(text: &mut String, json: bool, e: &TableFault) -> Result<(), AllocError>
     ensures { OnOk result (string_bytes text.new ≡ string_bytes text.old ++ spec.distance_line json e.now) }
@@ -126,6 +139,7 @@ pub(crate) fn write_rule(text: &mut String, json: bool, event: &RuleEvent) -> Re
 {
     match event {
         RuleEvent::PtsRepetition(e) => write_pts(text, json, e),
+        RuleEvent::PidRepetition(e) => write_pid(text, json, e),
         RuleEvent::SectionDistance(e) => write_distance(text, json, e),
         RuleEvent::OtherTable(e) => write_other_table(text, json, e),
         RuleEvent::ScrambledTable(e) => write_scrambled(text, json, "scrambled_table", e),

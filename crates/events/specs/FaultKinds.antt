@@ -47,6 +47,7 @@ word_of kinds.Rest = codes "rest"
 word_of kinds.NoStamps = codes "no_stamps"
 word_of kinds.StampJump = codes "stamp_jump"
 word_of kinds.NoTable = codes "no_table"
+word_of kinds.PidRepetition = codes "pid_repetition"
 
 -- the place among all kinds
 unfoldable pub place_of : FaultKind → ℕ
@@ -86,6 +87,7 @@ place_of kinds.Rest = 32
 place_of kinds.NoStamps = 33
 place_of kinds.StampJump = 34
 place_of kinds.NoTable = 35
+place_of kinds.PidRepetition = 36
 
 -- 2. Checks
 
@@ -127,6 +129,7 @@ check_of_kind kinds.Rest = None
 check_of_kind kinds.NoStamps = None
 check_of_kind kinds.StampJump = None
 check_of_kind kinds.NoTable = None
+check_of_kind kinds.PidRepetition = Some checks.Pid
 
 -- a table that is scrambled is a PAT or a PMT
 unfoldable pub check_of_stream : FaultKind → ℕ → Option Check
@@ -166,6 +169,7 @@ check_of_stream kinds.Rest pid = check_of_kind kinds.Rest
 check_of_stream kinds.NoStamps pid = check_of_kind kinds.NoStamps
 check_of_stream kinds.StampJump pid = check_of_kind kinds.StampJump
 check_of_stream kinds.NoTable pid = check_of_kind kinds.NoTable
+check_of_stream kinds.PidRepetition pid = check_of_kind kinds.PidRepetition
 
 -- a section counts by its table_id, and a section of another table by its PID
 unfoldable pub check_of_section : FaultKind → ℕ → ℕ → Option Check
@@ -205,6 +209,7 @@ check_of_section kinds.Rest pid table = check_of_kind kinds.Rest
 check_of_section kinds.NoStamps pid table = check_of_kind kinds.NoStamps
 check_of_section kinds.StampJump pid table = check_of_kind kinds.StampJump
 check_of_section kinds.NoTable pid table = check_of_table table
+check_of_section kinds.PidRepetition pid table = check_of_kind kinds.PidRepetition
 
 unfoldable pub check_of : FaultKind → FaultSource → Option Check
 check_of kind Whole = check_of_kind kind
@@ -250,6 +255,7 @@ is_repetition kinds.Rest = false
 is_repetition kinds.NoStamps = false
 is_repetition kinds.StampJump = false
 is_repetition kinds.NoTable = false
+is_repetition kinds.PidRepetition = false
 
 -- a repetition fault of service information (EN 300 468, table 2): SI_repetition_error fails in addition to the check of the table
 unfoldable pub is_si_repetition : FaultKind → FaultSource → Bool

@@ -46,6 +46,7 @@ is_worse kinds.Rest value than = nat_lt than value
 is_worse kinds.NoStamps value than = nat_lt than value
 is_worse kinds.StampJump value than = nat_lt than value
 is_worse kinds.NoTable value than = nat_lt than value
+is_worse kinds.PidRepetition value than = nat_lt than value
 
 -- the worse value; the first of equal values
 unfoldable pub worst_of : FaultKind → Option Measured → Option Measured → Option Measured

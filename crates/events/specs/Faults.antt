@@ -93,6 +93,7 @@ input_fault (inputs.StampJump e) at = Some (jump_fault e at)
 
 unfoldable pub rule_fault : RuleEvent → Option ℕ → Option Fault
 rule_fault (rules.PtsRepetition e) at = Some (clock_fault kinds.PtsRepetition e at)
+rule_fault (rules.PidRepetition e) at = Some (clock_fault kinds.PidRepetition e at)
 rule_fault (rules.SectionDistance e) at = Some (table_fault kinds.SectionDistance e at)
 rule_fault (rules.OtherTable e) at = Some (point kinds.OtherTable (Table e.pid e.table) e.packet at)
 rule_fault (rules.ScrambledTable e) at = Some (point kinds.ScrambledTable (Stream e.pid) e.packet at)

@@ -224,6 +224,7 @@ fn rule_fault(event: RuleEvent, at: Option<u128>) -> Option<Fault>
 {
     match event {
         RuleEvent::PtsRepetition(e) => Some(clock_fault(FaultKind::PtsRepetition, &e, at)),
+        RuleEvent::PidRepetition(e) => Some(clock_fault(FaultKind::PidRepetition, &e, at)),
         RuleEvent::SectionDistance(e) => Some(table_fault(FaultKind::SectionDistance, &e, at)),
         RuleEvent::OtherTable(e) => Some(point(
             FaultKind::OtherTable,

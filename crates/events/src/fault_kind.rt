@@ -43,6 +43,7 @@ pub enum FaultKind {
     NoStamps,
     StampJump,
     NoTable,
+    PidRepetition,
 }
 
 /// Where a fault is: in the whole stream, in the stream of a PID, in the tables of a program, or in a table by PID and
@@ -98,6 +99,7 @@ impl FaultKind {
             FaultKind::NoStamps => "no_stamps",
             FaultKind::StampJump => "stamp_jump",
             FaultKind::NoTable => "no_table",
+            FaultKind::PidRepetition => "pid_repetition",
         }
     }
 
@@ -143,6 +145,7 @@ impl FaultKind {
             FaultKind::NoStamps => 33,
             FaultKind::StampJump => 34,
             FaultKind::NoTable => 35,
+            FaultKind::PidRepetition => 36,
         }
     }
 
@@ -171,7 +174,7 @@ impl FaultKind {
             FaultKind::NotEmpty => Some(Check::EmptyBuffer),
             FaultKind::Delayed => Some(Check::DataDelay),
             FaultKind::Unreferenced => Some(Check::Unreferenced),
-            FaultKind::Missing => Some(Check::Pid),
+            FaultKind::Missing | FaultKind::PidRepetition => Some(Check::Pid),
             _ => None,
         }
     }

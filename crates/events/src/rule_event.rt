@@ -101,6 +101,8 @@ pub struct TracePoint {
 pub enum RuleEvent {
     /// A PTS that comes too long after the one before it (2.5).
     PtsRepetition(ClockFault),
+    /// A packet that comes too long after the one before it of its PID, or none up to the end (1.6).
+    PidRepetition(ClockFault),
     /// A section that begins too soon after the one before it (3.1 to 3.8).
     SectionDistance(TableFault),
     OtherTable(OtherTable),

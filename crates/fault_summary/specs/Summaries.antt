@@ -35,6 +35,7 @@ nothing varies = record { counts = no_faults; rows = no_rows; faults = 0; run = 
 
 unfoldable pub is_variable_rule : RuleEvent → Bool
 is_variable_rule (rules.PtsRepetition e) = false
+is_variable_rule (rules.PidRepetition e) = false
 is_variable_rule (rules.SectionDistance e) = false
 is_variable_rule (rules.OtherTable e) = false
 is_variable_rule (rules.ScrambledTable e) = false

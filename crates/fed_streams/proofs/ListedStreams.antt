@@ -96,25 +96,32 @@ not_placed pid k i t (s ∷ ss) none at = none_if pid k i s t ss (has_pid s.unit
 
 -- 4. A stream whose current unit is passed
 
-pub record Passed (k j : ℕ) (ss : List FedStreamView) : Type 0 where
+pub record Passed (o : Origin) (late k j : ℕ) (ss : List FedStreamView) : Type 0 where
   pub place : ℕ
   pub stream : FedStreamView
   pub at : slice_get ss place ≡ Some stream
   pub is : j ≡ k + place
+  pub due : is_passed o late stream ≡ true
 
-passed_if : (o : Origin) (late k j : ℕ) (s : FedStreamView) (ss : List FedStreamView) (own : Bool) →
-    (passed_from o late (k + 1) ss ≡ Some j → Passed (k + 1) j ss) → (if own then Some k else passed_from o late (k + 1) ss) ≡ Some j → Passed k j (s ∷ ss)
-passed_if o late k j s ss true later is = record { place = zero; stream = s; at = refl; is = let same : k ≡ j = cc in omega (arith, same) }
-passed_if o late k j s ss false later is =
-    let p = later is in record { place = suc p.place; stream = p.stream; at = p.at; is = omega (arith, p.is) }
+passed_if : (o : Origin) (late k j : ℕ) (s : FedStreamView) (ss : List FedStreamView) (own : Bool) → is_passed o late s ≡ own →
+    (passed_from o late (k + 1) ss ≡ Some j → Passed o late (k + 1) j ss) → (if own then Some k else passed_from o late (k + 1) ss) ≡ Some j →
+    Passed o late k j (s ∷ ss)
+passed_if o late k j s ss true due later is =
+    record { place = zero; stream = s; at = refl; is = let same : k ≡ j = cc in omega (arith, same); due = due }
+passed_if o late k j s ss false due later is =
+    let p = later is in record { place = suc p.place; stream = p.stream; at = p.at; is = omega (arith, p.is); due = p.due }
 
-passed_first : (o : Origin) (late k j : ℕ) (ss : List FedStreamView) → passed_from o late k ss ≡ Some j → Passed k j ss
+passed_first : (o : Origin) (late k j : ℕ) (ss : List FedStreamView) → passed_from o late k ss ≡ Some j → Passed o late k j ss
 unfolding passed_from
 passed_first o late k j [] is = absurd cc
-passed_first o late k j (s ∷ ss) is = passed_if o late k j s ss (is_passed o late s) (λ e. passed_first o late (k + 1) j ss e) is
+passed_first o late k j (s ∷ ss) is = passed_if o late k j s ss (is_passed o late s) refl (λ e. passed_first o late (k + 1) j ss e) is
 
-pub passed : (o : Origin) (late j : ℕ) (ss : List FedStreamView) → passed_from o late 0 ss ≡ Some j → (s : FedStreamView) × (slice_get ss j ≡ Some s)
-passed o late j ss is =
+pub passed_due : (o : Origin) (late j : ℕ) (ss : List FedStreamView) → passed_from o late 0 ss ≡ Some j →
+    (s : FedStreamView) × (slice_get ss j ≡ Some s) × (is_passed o late s ≡ true)
+passed_due o late j ss is =
     let p = passed_first o late 0 j ss is in
     let same : j ≡ p.place = omega (arith, p.is) in
-    (p.stream, subst (λ i. slice_get ss i ≡ Some p.stream) (sym same) p.at)
+    (p.stream, subst (λ i. slice_get ss i ≡ Some p.stream) (sym same) p.at, p.due)
+
+pub passed : (o : Origin) (late j : ℕ) (ss : List FedStreamView) → passed_from o late 0 ss ≡ Some j → (s : FedStreamView) × (slice_get ss j ≡ Some s)
+passed o late j ss is = let s = passed_due o late j ss is in (s.0, s.1)

@@ -196,12 +196,14 @@ follow_after s f = is_some (unit_after s f) || (s.follow && not (is_some (report
 abbrev pub after_found : FedStreamView → FindingView → FedStreamView
 after_found s f = record s { units = after_finding s.units f; follow = follow_after s f; stray = stray_after s.stray f.what; place = place_by s f }
 
--- all streams, with the moment at which the first unit is due, the constants, what the clock showed last, in units of 90 kHz, once it has
--- come, the last tick, 0 before the first, the marks that are asked for, the programs' maps, and the stamp of the last unit, if it fell where no clock is known
+-- all streams, with the moment at which the first unit is due, the constants, what the clock showed at the last reference, in units of 90 kHz, once it has
+-- come, and at the reference before it, unless the clock jumped after this one, the last tick, 0 before the first, the marks that are asked for, the programs'
+-- maps, and the stamp of the last unit, if it fell where no clock is known
 pub record FeedView : Type 0 where
   pub earliest : ℕ
   pub origin : Origin
   pub shown : Option ℕ
+  pub earlier : Option ℕ
   pub ticked : ℕ
   pub marking : MarkingView
   pub maps : List MapView
@@ -211,7 +213,17 @@ pub record FeedView : Type 0 where
 -- before the first packet of a stream
 abbrev pub feed_first : ℕ → MarkingView → List MapView → List FedStreamView → FeedView
 feed_first earliest marking maps streams =
-    record { earliest = earliest; origin = no_origin; shown = None; ticked = 0; marking = marking; maps = maps; streams = streams; fallen = None }
+    record {
+      earliest = earliest;
+      origin = no_origin;
+      shown = None;
+      earlier = None;
+      ticked = 0;
+      marking = marking;
+      maps = maps;
+      streams = streams;
+      fallen = None;
+    }
 
 -- the greatest DTS of units that were fed and of ticks; 0 before the first
 unfoldable pub dts_or_0 : Option ℕ → ℕ
@@ -239,6 +251,7 @@ with_streams feed o streams =
       earliest = feed.earliest;
       origin = o;
       shown = feed.shown;
+      earlier = feed.earlier;
       ticked = feed.ticked;
       marking = feed.marking;
       maps = feed.maps;
@@ -290,6 +303,7 @@ watched feed f =
       earliest = feed.earliest;
       origin = feed.origin;
       shown = feed.shown;
+      earlier = feed.earlier;
       ticked = feed.ticked;
       marking = feed.marking;
       maps = maps_after f feed.maps;
@@ -333,6 +347,7 @@ restarted feed seen = record {
   earliest = feed.earliest;
   origin = origin_by feed.origin (restart_in feed seen);
   shown = feed.shown;
+  earlier = feed.earlier;
   ticked = feed.ticked;
   marking = feed.marking;
   maps = feed.maps;

@@ -3,7 +3,7 @@
 -- units of 90 kHz: the next unit may set it apart by so much) is whole, since at its DTS all its bytes are in the decoder's buffer (ISO/IEC 13818-1,
 -- 2.4.2.6). A clock that jumps is taken to come 0.3 s after the greatest DTS so far: units which begin after the jump, and are due after it, continue
 -- from there, and no stream's first unit comes sooner after its last unit than usual. A doubtful reference moves no time, and no unit that is near the
--- clock before it.
+-- clock before it. Any reference moves time by a second at most beyond the reference that it continues, less the second behind it: it may be damaged.
 use Rattle.std.specs.Prelude.{◌≡◌, ◌<◌, ℕ, ◌+◌, ◌-◌, ◌++◌, ◌^◌, ◌&&◌, nat_le, nat_lt, Bool, true, false, if◌then◌else◌, Option, Some, None, IfSome, Ok, Err}
 use Rattle.std.specs.Prelude.{List, [], ◌∷◌, All, slice_get}
 use Rattle.std.specs.Option.{option_to_list}
@@ -18,7 +18,7 @@ use Rattle.fed_streams.specs.declared.feed_fault.FeedFault.TheVariants.{Clock, S
 use Rattle.packet_pcr.specs.declared.pcr_reading.FoundPcr.{FoundPcr}
 use Rattle.fed_streams.specs.declared.origin.Origin.{Origin}
 use Rattle.packet_pcr.specs.PacketPcr.{is_on, pcr_at}
-use Rattle.fed_streams.specs.Clocks.{origin_stepped, report_of, shown_after, step_of, unless_doubtful}
+use Rattle.fed_streams.specs.Clocks.{earlier_after, origin_stepped, report_of, shown_after, step_of, timed_by, unless_doubtful}
 use Rattle.fed_streams.specs.declared.clock_jump.ClockStep.{ClockStep}
 use Rattle.fed_streams.specs.Feeding.{Fed, FedStreamView, FeedView, after_all, due_of, fed_all, fed_by, feed_with, greatest_from, greatest_of}
 use Rattle.fed_streams.specs.Maps.{clock_pid}
@@ -98,6 +98,7 @@ with_tick feed t =
       earliest = feed.earliest;
       origin = feed.origin;
       shown = feed.shown;
+      earlier = feed.earlier;
       ticked = t;
       marking = feed.marking;
       maps = feed.maps;
@@ -160,7 +161,7 @@ abbrev pub jump_pause : ℕ
 jump_pause = 27_000
 
 abbrev pub step_in : FeedView → FoundPcr → ClockStep
-step_in feed pcr = step_of feed.shown feed.origin.doubtful pcr
+step_in feed pcr = step_of feed.shown feed.earlier feed.origin.doubtful pcr
 
 abbrev pub origin_by : FeedView → FoundPcr → Origin
 origin_by feed pcr = origin_stepped (step_in feed pcr) feed.origin feed.shown (greatest_of feed + jump_pause) pcr
@@ -171,6 +172,7 @@ with_shown feed pcr =
       earliest = feed.earliest;
       origin = origin_by feed pcr;
       shown = shown_after (step_in feed pcr) feed.shown pcr;
+      earlier = earlier_after (step_in feed pcr) feed.shown feed.earlier;
       ticked = feed.ticked;
       marking = feed.marking;
       maps =
@@ -184,9 +186,12 @@ unfoldable pub jump_fed : Option ClockJump → Option Fed
 jump_fed None = None
 jump_fed (Some jump) = Some (255, Err (Clock jump))
 
--- the moment to which it moves time
+-- the moment to which it moves time: a second behind it, but at most what the clock showed at the reference that it continues
+abbrev pub timed_in : FeedView → FoundPcr → ℕ
+timed_in feed pcr = timed_by (step_in feed pcr) feed.shown feed.earlier pcr.base
+
 abbrev pub late_after : FeedView → FoundPcr → Option ℕ
-late_after feed pcr = unless_doubtful (step_in feed pcr) (late_in (with_shown feed pcr) pcr.base)
+late_after feed pcr = unless_doubtful (step_in feed pcr) (late_in (with_shown feed pcr) (timed_in feed pcr))
 
 abbrev pub after_shown : FeedView → FoundPcr → FeedView
 after_shown feed pcr = after_late (with_shown feed pcr) (late_after feed pcr)

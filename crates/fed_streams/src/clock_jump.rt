@@ -12,10 +12,16 @@ use packet_pcr::FoundPcr;
 /// The longest step of a clock from one reference to the next, in units of 90 kHz: 10 s.
 const MAX_STEP: u64 = 900_000;
 
+/// The longest step of a clock that moves time as a whole, in units of 90 kHz: a second.
+const SURE_STEP: u64 = 90_000;
+
+/// The range of stamps.
+const RANGE: u64 = 1 << 33;
+
 /// How a clock reference fits the clock.
 #[derive(Clone, Copy)]
 pub enum ClockStep {
-    /// It continues the clock.
+    /// It continues the clock, from the last reference or the one before it.
     Continues,
     /// It jumps, as its discontinuity_indicator says.
     Leaps,
@@ -66,10 +72,27 @@ fn follows(doubtful: Option<DoubtfulClock>, pcr: FoundPcr) -> bool
     }
 }
 
-/// Returns how a reference fits the clock, after what the clock showed before and a doubtful reference.
+// Returns whether a reference continues the reference before the last one.
+#[tactic(auto, unfolding(crate::specs::Clocks::returns))]
+fn returns(earlier: Option<u64>, pcr: FoundPcr) -> bool
+    ensures { result ≡ spec.returns earlier pcr.base }
+{
+    match earlier {
+        None => false,
+        Some(_) => !is_jump(pcr, earlier),
+    }
+}
+
+/// Returns how a reference fits the clock, after what the clock showed at the last reference and at the one before it,
+/// and after a doubtful reference.
 #[tactic(auto, unfolding(crate::specs::Clocks::step_of))]
-pub fn step_of(shown: Option<u64>, doubtful: Option<DoubtfulClock>, pcr: FoundPcr) -> ClockStep
-    ensures { result ≡ spec.step_of shown doubtful pcr }
+pub fn step_of(
+    shown: Option<u64>,
+    earlier: Option<u64>,
+    doubtful: Option<DoubtfulClock>,
+    pcr: FoundPcr,
+) -> ClockStep
+    ensures { result ≡ spec.step_of shown earlier doubtful pcr }
 {
     if !is_jump(pcr, shown) {
         return ClockStep::Continues;
@@ -79,6 +102,9 @@ pub fn step_of(shown: Option<u64>, doubtful: Option<DoubtfulClock>, pcr: FoundPc
     }
     if follows(doubtful, pcr) {
         return ClockStep::Confirms;
+    }
+    if returns(earlier, pcr) {
+        return ClockStep::Continues;
     }
     ClockStep::Doubts
 }
@@ -127,6 +153,51 @@ pub fn shown_after(step: ClockStep, shown: Option<u64>, pcr: FoundPcr) -> Option
         ClockStep::Continues => Some(pcr.base),
         ClockStep::Leaps => Some(pcr.base),
         ClockStep::Confirms => Some(pcr.base),
+    }
+}
+
+/// Returns what the clock showed before the last reference, after a reference.
+#[tactic(auto, unfolding(crate::specs::Clocks::earlier_after))]
+pub fn earlier_after(step: ClockStep, shown: Option<u64>, earlier: Option<u64>) -> Option<u64>
+    ensures { result ≡ spec.earlier_after step shown earlier }
+{
+    match step {
+        ClockStep::Continues => shown,
+        ClockStep::Leaps | ClockStep::Confirms => None,
+        ClockStep::Doubts => earlier,
+    }
+}
+
+// Returns the reference that a reference continues.
+#[tactic(auto, unfolding(crate::specs::Clocks::continued))]
+fn continued(shown: Option<u64>, earlier: Option<u64>, pcr: FoundPcr) -> Option<u64>
+    ensures { result ≡ spec.continued shown earlier pcr.base }
+{
+    if is_jump(pcr, shown) { earlier } else { shown }
+}
+
+// Returns a reference, or what the clock shows a second after the one before it, if this is sooner.
+#[tactic(auto, unfolding(crate::specs::Clocks::within_a_second))]
+fn within_a_second(before: Option<u64>, base: u64) -> u64
+    ensures { result ≡ spec.within_a_second before base }
+{
+    let Some(before) = before else {
+        return base;
+    };
+    if distance(before, base) > SURE_STEP {
+        return before % RANGE + SURE_STEP;
+    }
+    base
+}
+
+/// Returns what the clock shows a second after the moment to which a reference moves time.
+#[tactic(auto, unfolding(crate::specs::Clocks::timed_by))]
+pub fn timed_by(step: ClockStep, shown: Option<u64>, earlier: Option<u64>, pcr: FoundPcr) -> u64
+    ensures { result ≡ spec.timed_by step shown earlier pcr.base }
+{
+    match step {
+        ClockStep::Continues => within_a_second(continued(shown, earlier, pcr), pcr.base),
+        _ => pcr.base,
     }
 }
 

@@ -3,6 +3,8 @@ use Rattle.std.specs.Prelude.{ℕ, ◌==◌, ◌&&◌, ◌||◌, not, Bool, true
 use Rattle.std.specs.Prelude.{option_map}
 use Rattle.stream_programs.specs.declared.omission.TableOmission.{TableOmission}
 use Rattle.stream_programs.specs.declared.omission.TableOmission.TheVariants as table
+use Rattle.pes_packet.specs.declared.refusal.PesError.{PesError}
+use Rattle.pes_packet.specs.declared.refusal.PesError.TheVariants.{Marker}
 use Rattle.es_units.specs.declared.unit_warning.UnitWarning.{UnitWarning}
 use Rattle.es_units.specs.declared.unit_warning.UnitWarningCause.{UnitWarningCause}
 use Rattle.es_units.specs.declared.unit_warning.UnitWarningCause.TheVariants as unit
@@ -37,6 +39,11 @@ table_line (table.SharedOtherwise program pid holder) = codes "pid " ++ decimal 
     ++ codes " has the stream_type and descriptors of program " ++ decimal holder ++ codes ": its own left out\n"
 table_line (table.NoStream program) = codes "program " ++ decimal program ++ codes " has no stream: left out\n"
 
+-- why a PES packet is not read: a damaged stamp, with a marker bit of 0 or alone out of order, or any other fault of its header
+unfoldable pub pes_text : PesError → List ℕ
+pes_text Marker = codes "bad-stamp\n"
+pes_text error = codes "bad-pes\n"
+
 -- why a finding on a PID is in no unit
 unfoldable pub reason_text : UnitWarningCause → List ℕ
 reason_text (unit.Counter expected found) = codes "counter " ++ decimal found ++ codes " in place of " ++ decimal expected ++ codes "\n"
@@ -45,7 +52,7 @@ reason_text (unit.Truncated size) = codes "truncated " ++ decimal size ++ codes 
 reason_text (unit.TruncatedByEnd size) = codes "truncated " ++ decimal size ++ codes " by the end\n"
 reason_text unit.Section = codes "section\n"
 reason_text (unit.BadSection error) = codes "bad-section\n"
-reason_text (unit.BadPes error) = codes "bad-pes\n"
+reason_text (unit.BadPes error) = pes_text error
 reason_text (unit.NoUnitBefore size) = codes "no stamp and no unit before: " ++ decimal size ++ codes " bytes left out\n"
 reason_text (unit.OtherStreamId id size) = codes "stream_id " ++ decimal id ++ codes " inside a unit of another: " ++ decimal size ++ codes " bytes left out\n"
 reason_text unit.PartLost = codes "unit left out: a part of it is lost\n"

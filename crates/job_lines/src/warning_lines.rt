@@ -9,6 +9,7 @@ use crate::refusal_line::{write_named, write_refusal_in};
 use crate::reporting::Reporting;
 use es_units::{UnitWarning, UnitWarningCause};
 use job_programs::{JobRefusal, NamedNumbers, PacketWarning, ProgramWarning, Warning};
+use pes_packet::PesError;
 use program_tables::MapPart;
 use std::alloc::{AllocError, Global};
 use std::fmt::Write;
@@ -66,6 +67,17 @@ fn write_table(left_out: TableOmission, text: &mut String) -> Result<(), AllocEr
     }
 }
 
+// Returns why a PES packet is not read.
+#[tactic(auto, unfolding(crate::specs::WarningLines::pes_text))]
+fn pes_text(error: PesError) -> &'static str
+    ensures { result.now ≡ spec.pes_text error }
+{
+    match error {
+        PesError::Marker => "bad-stamp\n",
+        _ => "bad-pes\n",
+    }
+}
+
 // Appends why a finding on a PID is in no unit.
 #[tactic(auto, unfolding(crate::specs::WarningLines::reason_text))]
 fn write_reason(cause: UnitWarningCause, text: &mut String) -> Result<(), AllocError>
@@ -80,7 +92,7 @@ fn write_reason(cause: UnitWarningCause, text: &mut String) -> Result<(), AllocE
         UnitWarningCause::TruncatedByEnd(size) => write!(text, "truncated {size} by the end\n"),
         UnitWarningCause::Section => text.push_str("section\n"),
         UnitWarningCause::BadSection(_) => text.push_str("bad-section\n"),
-        UnitWarningCause::BadPes(_) => text.push_str("bad-pes\n"),
+        UnitWarningCause::BadPes(error) => text.push_str(pes_text(error)),
         UnitWarningCause::NoUnitBefore(size) => write!(
             text,
             "no stamp and no unit before: {size} bytes left out\n"

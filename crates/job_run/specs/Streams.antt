@@ -9,11 +9,11 @@ use Rattle.data_times.specs.References.{LogView, logged, no_packet, references_i
 use Rattle.packet_pcr.specs.declared.pcr_reading.FoundPcr.{FoundPcr}
 use Rattle.joined_parts.specs.FallingClocks.{falling_pids}
 use Rattle.joined_parts.specs.JumpsAhead.{jumps_ahead}
-use Rattle.joined_parts.specs.LoneStamps.{lone_damaged}
 use Rattle.joined_parts.specs.Recodings.{recodings_in}
 use Rattle.joined_parts.specs.Recordings.{one_recording, one_references}
 use Rattle.joined_parts.specs.declared.cuts.Cut.{Cut}
 use Rattle.joined_parts.specs.declared.recodings.Recoding.{Recoding}
+use Rattle.lone_stamps.specs.LoneStamps.{lone_damaged}
 use Rattle.demux.specs.Stream.{StreamState, start, pushed, finished}
 use Rattle.packet_sync.specs.FieldsLeftOut.{fields_left_out}
 use Rattle.packet_sync.specs.declared.field.Field.{Field}

@@ -3,16 +3,15 @@
 
 ghost use Rattle.std.specs.Prelude.{◌≡◌, IfOk, filter, map};
 ghost use Rattle.data_times.specs.DataTimes as text;
-ghost use Rattle.joined_parts.specs.LoneStamps.{lone_damaged};
+ghost use Rattle.lone_stamps.specs.LoneStamps.{lone_damaged};
 ghost use Rattle.pid_findings.specs.Shown.{finding_view};
 ghost use Rattle.job_run.specs.Streams as spec;
 
 use crate::carried_stream::PacketNotes;
 use data_times::{TextTimes, text_times};
 use job_programs::JobOptions;
-use joined_parts::{
-    Cut, Recoding, damage_lone_stamps, falling_pids, jumps_ahead, one_recording, recodings_in,
-};
+use joined_parts::{Cut, Recoding, falling_pids, jumps_ahead, one_recording, recodings_in};
+use lone_stamps::damage_lone_stamps;
 use packet_pcr::FoundPcr;
 use packet_sync::{Field, FieldLeftOut};
 use pid_findings::Finding;

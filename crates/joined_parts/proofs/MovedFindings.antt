@@ -1,7 +1,5 @@
--- Findings that are moved one after another, and the parts of them that stay the same
-use Rattle.std.proofs.Common.{◌≡◌, ◌∙◌, ◌<◌, ◌≤◌, ℕ, ◌+◌, ◌++◌, Option, Some, None, List, [], ◌∷◌, length, map, take, drop}
-use Rattle.std.proofs.Common.{set, get_or, refl, sym, ap, ap₂, arith}
-use Rattle.std.proofs.lemmas.List.{append_assoc, append-nil, drop_all, drop_more, drop-set-lt, map-append, take_all, take_more_set}
+-- The parts of moved findings that stay the same
+use Rattle.std.proofs.Common.{◌≡◌, ◌∙◌, ℕ, Option, Some, None, List, [], ◌∷◌, map, refl, ap, ap₂}
 use Rattle.pid_findings.specs.Views.{FindingView, WhatView, IsDuplicate, BreaksCounter, IsScrambled, IsTruncated, IsSection, IsBadSection, IsPes, IsBadPes}
 use Rattle.pid_findings.specs.Views.{IsBadPacket, IsErrored, IsStray}
 use Rattle.program_tables.specs.Association.{association}
@@ -17,35 +15,7 @@ use Rattle.joined_parts.specs.declared.cuts.Cut.{Cut}
 use Rattle.joined_parts.specs.declared.joins.Join.{Join}
 use Rattle.joined_parts.specs.declared.stamps.UnitStamp.{UnitStamp}
 
--- 1. One finding after another
-
-pub changed_more : {X : Type 0} (view : X → FindingView) (change : FindingView → FindingView) (xs : List X) (i : ℕ) (x y : X) (whole : List FindingView) →
-    i < length xs → x ≡ get_or xs i x → view y ≡ change (view x) →
-    map view (take i xs) ++ map change (map view (drop i xs)) ≡ whole →
-    map view (take (i + 1) (set xs i y)) ++ map change (map view (drop (i + 1) (set xs i y))) ≡ whole
-changed_more {X = X} view change xs i x y whole within at one before =
-    let front : take (i + 1) (set xs i y) ≡ take i xs ++ y ∷ [] = take_more_set xs i y within in
-    let back : drop (i + 1) (set xs i y) ≡ drop (i + 1) xs = drop-set-lt (i + 1) xs i y (omega arith) in
-    let left : drop i xs ≡ x ∷ drop (i + 1) xs = drop_more xs i x within ∙ ap (λ (z : X). z ∷ drop (i + 1) xs) (sym at) in
-    let later = map change (map view (drop (i + 1) xs)) in
-    ap (λ (l : List X). map view l ++ map change (map view (drop (i + 1) (set xs i y)))) front
-    ∙ ap (λ (l : List X). map view (take i xs ++ y ∷ []) ++ map change (map view l)) back
-    ∙ ap (λ (l : List FindingView). l ++ later) (map-append view (take i xs) (y ∷ []))
-    ∙ append_assoc (map view (take i xs)) (view y ∷ []) later
-    ∙ ap (λ (f : FindingView). map view (take i xs) ++ f ∷ later) one
-    ∙ ap (λ (l : List X). map view (take i xs) ++ map change (map view l)) (sym left)
-    ∙ before
-
-pub changed_whole : {X : Type 0} (view : X → FindingView) (change : FindingView → FindingView) (xs : List X) (i : ℕ) (whole : List FindingView) →
-    length xs ≤ i →
-    map view (take i xs) ++ map change (map view (drop i xs)) ≡ whole → map view xs ≡ whole
-changed_whole {X = X} view change xs i whole all is =
-    sym (append-nil (map view xs))
-    ∙ ap (λ (l : List X). map view l ++ []) (sym (take_all i xs all))
-    ∙ ap (λ (l : List X). map view (take i xs) ++ map change (map view l)) (sym (drop_all i xs all))
-    ∙ is
-
--- 2. Only stamps change
+-- 1. Only stamps change
 
 same_what : (shift : ℕ) (what : WhatView) → unstamped_what (moved_what shift what) ≡ unstamped_what what
 unfolding unstamped_what moved_what
@@ -75,7 +45,7 @@ all_same j (f ∷ fs) =
 pub nothing_else : NothingElseMoves
 nothing_else references findings = all_same (joins_for references findings) findings
 
--- 3. Findings without a cut
+-- 2. Findings without a cut
 
 no_join : (stamps : List UnitStamp) (cuts : List Cut) → cuts ≡ [] → joins_of stamps cuts ≡ []
 unfolding joins_after

@@ -8,6 +8,5 @@ pub mod Joins
 pub mod Joined
 pub mod JumpsAhead
 pub mod FallingClocks
-pub mod LoneStamps
 pub mod Recordings
 pub mod Laws

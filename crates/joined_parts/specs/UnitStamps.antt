@@ -1,28 +1,12 @@
 -- The stamps of the units of a recording, each by the clock of its program (ISO/IEC 13818-1, 2.4.3.7 and 2.4.4.9).
 use Rattle.std.specs.Prelude.{ℕ, ◌==◌, find, Option, Some, None, List, [], ◌∷◌, ◌++◌}
-use Rattle.pid_findings.specs.Views.{FindingView, WhatView, IsPes}
-use Rattle.pid_findings.specs.declared.finding.Kind.{Kind}
-use Rattle.pes_packet.specs.declared.time_stamps.Stamps.{Stamps}
-use Rattle.pes_packet.specs.declared.time_stamps.Stamps.TheVariants.{Absent, Pts, PtsDts}
+use Rattle.pid_findings.specs.Views.{FindingView}
 use Rattle.stream_programs.specs.Programs.{FoundProgramsView}
 use Rattle.stream_programs.specs.Streams.{FoundStreamView}
 use Rattle.data_times.specs.DataTimes.{pcr_if}
+use Rattle.lone_stamps.specs.PesStamps.{stamp_at}
+use Rattle.lone_stamps.specs.declared.pes_stamps.PesStamp.{PesStamp}
 use Rattle.joined_parts.specs.declared.stamps.UnitStamp.{UnitStamp}
-
--- without a DTS a unit is decoded at its PTS
-unfoldable pub dts_of : Stamps → Option ℕ
-dts_of Absent = None
-dts_of (Pts pts) = Some pts
-dts_of (PtsDts pts dts) = Some dts
-
-unfoldable pub dts_in : WhatView → Option ℕ
-dts_in (IsPes header unended body) = dts_of header.stamps
-dts_in what = None
-
--- the packet in which a unit begins
-unfoldable pub begin_of : Option (ℕ × Kind) → ℕ → ℕ
-begin_of None packet = packet
-begin_of (Some (first, kind)) packet = first
 
 -- the PID of the references of the clock of a stream's program
 abbrev pub clock_of : FoundProgramsView → FoundStreamView → Option ℕ
@@ -40,13 +24,13 @@ unfoldable pub clock_at : FoundProgramsView → Option ℕ → Option ℕ
 clock_at found None = None
 clock_at found (Some pid) = clock_on found pid
 
-unfoldable pub stamp_with : Option ℕ → ℕ → Option ℕ → Option UnitStamp
-stamp_with (Some clock) packet (Some dts) = Some (record { clock = clock; packet = packet; dts = dts })
-stamp_with clock packet dts = None
+unfoldable pub stamp_with : Option ℕ → Option PesStamp → Option UnitStamp
+stamp_with (Some clock) (Some pes) = Some (record { clock = clock; packet = pes.packet; dts = pes.dts })
+stamp_with clock pes = None
 
 -- the stamp of a PES packet of a stream whose program has a clock
 abbrev pub stamp_of : FoundProgramsView → FindingView → Option UnitStamp
-stamp_of found f = stamp_with (clock_at found f.pid) (begin_of f.begun f.packet) (dts_in f.what)
+stamp_of found f = stamp_with (clock_at found f.pid) (stamp_at f)
 
 unfoldable pub with_stamp : List UnitStamp → Option UnitStamp → List UnitStamp
 with_stamp stamps None = stamps

@@ -7,8 +7,8 @@ ghost use Rattle.joined_parts.specs.Recodings as spec;
 
 use crate::map_streams::add_stream;
 use crate::recodings::Recoding;
-use crate::stamps::begin_of;
 use crate::whole_maps::{put_section, section_with};
+use lone_stamps::begin_of;
 use pid_findings::Finding;
 use program_tables::any_map;
 use psi_tables::{Pmt, Stream, StreamLoop, Streams};

@@ -10,7 +10,6 @@
 //! - [`part_joins`], [`PartJoins`]: the findings and references of a recording, moved (`specs/Joined`).
 //! - [`jumps_ahead`]: where the stamps of units jump ahead with their clock (`specs/JumpsAhead`).
 //! - [`falling_pids`]: the streams whose clock goes back (`specs/FallingClocks`).
-//! - [`damage_lone_stamps`]: PES packets whose stamps are alone out of order, as damaged ones (`specs/LoneStamps`).
 //! - `map_streams`, `known_maps`, `whole_maps`: each map with the streams of all maps of its program, one PID for its
 //!   clock references (`specs/MapStreams`, `specs/WholeMaps`).
 //! - `map_pids`: one PID for the maps of each program (`specs/MapPids`).
@@ -29,7 +28,6 @@ mod joins;
 mod jumps;
 mod known_maps;
 mod laws;
-mod lone_stamps;
 mod map_pids;
 mod map_streams;
 mod recodings;
@@ -43,7 +41,6 @@ pub use joined::{PartJoins, part_joins};
 pub use joins::Join;
 pub use jumps::jumps_ahead;
 pub use laws::{nothing_else_moves, parts_come_in_order, whole_recording_stays};
-pub use lone_stamps::damage_lone_stamps;
 pub use recodings::{Recoding, recodings_in};
 pub use recording::one_recording;
 pub use stamps::UnitStamp;

@@ -1,12 +1,12 @@
 //! The stamps of the units of a recording.
 
 ghost use Rattle.std.specs.Prelude.{◌≡◌, IfOk, OnOk, map};
-ghost use Rattle.pid_findings.specs.Shown.{finding_view, what_view};
+ghost use Rattle.pid_findings.specs.Shown.{finding_view};
 ghost use Rattle.joined_parts.specs.UnitStamps as spec;
 
 use data_times::{pcr_of, stream_on};
-use pes_packet::Stamps;
-use pid_findings::{Finding, Kind, What};
+use lone_stamps::{PesStamp, stamp_at};
+use pid_findings::Finding;
 use std::alloc::{AllocError, Global};
 use stream_programs::{FoundPrograms, FoundStream};
 
@@ -19,40 +19,6 @@ pub struct UnitStamp {
     pub packet: u64,
     /// Its DTS, in units of 90 kHz modulo 2^33.
     pub dts: u64,
-}
-
-// The DTS of a unit with these stamps.
-#[tactic(auto, unfolding(crate::specs::UnitStamps::dts_of))]
-fn dts_of(stamps: Stamps) -> Option<u64>
-    ensures { result ≡ spec.dts_of stamps }
-{
-    match stamps {
-        Stamps::Absent => None,
-        Stamps::Pts(pts) => Some(pts),
-        Stamps::PtsDts { dts, .. } => Some(dts),
-    }
-}
-
-// Returns the DTS of a finding.
-#[tactic(auto, unfolding(crate::specs::UnitStamps::dts_in))]
-fn dts_in(what: &What<'_>) -> Option<u64>
-    ensures { result ≡ spec.dts_in (what_view what.now) }
-{
-    match what {
-        What::Pes { header, .. } => dts_of(header.stamps),
-        _ => None,
-    }
-}
-
-/// Returns the packet of a finding's first byte.
-#[tactic(auto, unfolding(crate::specs::UnitStamps::begin_of))]
-pub(crate) fn begin_of(begun: Option<(u64, Kind)>, packet: u64) -> u64
-    ensures { result ≡ spec.begin_of begun packet }
-{
-    match begun {
-        None => packet,
-        Some((first, _)) => first,
-    }
 }
 
 /// Returns the PID of the references of the clock of a stream's program.
@@ -86,11 +52,11 @@ fn clock_at(found: &FoundPrograms, pid: Option<u16>) -> Option<u16>
 
 // A stamp, if both are there.
 #[tactic(auto, unfolding(crate::specs::UnitStamps::stamp_with))]
-fn stamp_with(clock: Option<u16>, packet: u64, dts: Option<u64>) -> Option<UnitStamp>
-    ensures { result ≡ spec.stamp_with clock packet dts }
+fn stamp_with(clock: Option<u16>, pes: Option<PesStamp>) -> Option<UnitStamp>
+    ensures { result ≡ spec.stamp_with clock pes }
 {
-    match (clock, dts) {
-        (Some(clock), Some(dts)) => Some(UnitStamp { clock, packet, dts }),
+    match (clock, pes) {
+        (Some(clock), Some(PesStamp { packet, dts, .. })) => Some(UnitStamp { clock, packet, dts }),
         _ => None,
     }
 }
@@ -99,11 +65,7 @@ fn stamp_with(clock: Option<u16>, packet: u64, dts: Option<u64>) -> Option<UnitS
 pub(crate) fn stamp_of(found: &FoundPrograms, finding: &Finding<'_>) -> Option<UnitStamp>
     ensures { result ≡ spec.stamp_of found.now (finding_view finding.now) }
 {
-    stamp_with(
-        clock_at(found, finding.pid),
-        begin_of(finding.begun, finding.packet),
-        dts_in(&finding.what),
-    )
+    stamp_with(clock_at(found, finding.pid), stamp_at(finding))
 }
 
 // Adds a stamp, if there is one.

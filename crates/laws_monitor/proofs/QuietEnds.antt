@@ -15,6 +15,7 @@ use Rattle.tstd_rows.specs.declared.busy_watch.Stay.{Stay}
 use Rattle.tr101290.specs.RateJudges.{last_errors}
 use Rattle.tr101290.specs.declared.intervals.TableError.{TableError}
 use Rattle.tr101290.specs.declared.intervals.TableTiming.{TableTiming}
+use Rattle.events.specs.declared.event.ClockFault.{ClockFault}
 use Rattle.events.specs.declared.event.Event.TheVariants as found
 use Rattle.events.specs.declared.rule_event.BufferKind.{BufferKind}
 use Rattle.events.specs.declared.rule_event.BufferKind.TheVariants as buffers
@@ -39,13 +40,17 @@ use Rattle.es_view.specs.Entries.{EntryState, closed_seen, place_at, seen_held, 
 use Rattle.es_view.specs.Entries as entry_views
 use Rattle.ts_watch.specs.Choices.{ChoiceView, takes}
 use Rattle.ts_watch.specs.ClockEvents.{clock_event, clock_events, inaccuracy_events, variable_events}
-use Rattle.ts_watch.specs.AbsentTables.{absent_events, absent_tables, absent_unless, association_events, has_own_map, map_events, maps_events}
-use Rattle.ts_watch.specs.ReferenceEvents.{events_by, missing_events, reference_events, unreferenced_event, unreferenced_events}
+use Rattle.end_faults.specs.AbsentTables.{absent_events, absent_tables, absent_unless, association_events, has_own_map, map_events, maps_events}
+use Rattle.end_faults.specs.ReferenceEvents.{events_by, missing_events, reference_events, unreferenced_event, unreferenced_events}
 use Rattle.ts_watch.specs.RuleEvents.{RuleState, cat_events, ends_varying}
 use Rattle.ts_watch.specs.RuleEvents as rule_views
-use Rattle.ts_watch.specs.StoppedClocks.{beyond_events, clock_event as stopped_clock, clocks_by, clocks_events, clocks_in, longest_without, stopped_clocks, stops}
-use Rattle.ts_watch.specs.StoppedClocks.{clock_events as stopped_clock_events, time_without}
-use Rattle.ts_watch.specs.StoppedEvents.{errors_events, stopped_by, stopped_errors, stopped_events}
+use Rattle.end_faults.specs.StoppedClocks.{beyond_events, clock_event as stopped_clock, clocks_by, clocks_events, clocks_in, longest_without, stopped_clocks, stops}
+use Rattle.end_faults.specs.StoppedClocks.{clock_events as stopped_clock_events, time_without}
+use Rattle.end_faults.specs.StoppedEvents.{errors_events, stopped_by, stopped_errors, stopped_events}
+use Rattle.end_faults.specs.StoppedPids.{longest_seconds, stopped_pids_by, stopped_pids}
+use Rattle.pid_gaps.specs.Gaps.{GapState, stopped}
+use Rattle.pid_gaps.specs.GapEvents.{watched_event}
+use Rattle.pid_gaps.specs.Watched.{is_watched}
 use Rattle.ts_watch.specs.SystemEvents.{event_if, system_event, system_events, under_way}
 use Rattle.ts_watch.specs.SystemEvents as systems
 use Rattle.stream_programs.specs.FreePids.{is_taken}
@@ -54,7 +59,7 @@ use Rattle.ts_watch.specs.TableEvents.{TablesState, error_event, error_events, h
 use Rattle.ts_watch.specs.WindowEvents.{pid_event, pid_events}
 use Rattle.tr101290.specs.Packets.{missing_pids, unreferenced_pids}
 use Rattle.tr101290.specs.References.{referenced_pids}
-use Rattle.ts_report.specs.Seen.{SeenState, arrival_events, end_event, is_stream, pid_ends, rule_ends, unclocked, unclocked_event, window_ends}
+use Rattle.ts_report.specs.Seen.{SeenState, arrival_events, end_event, is_stream, last_rules, pid_ends, rule_ends, unclocked, unclocked_event, window_ends}
 use Rattle.ts_report.specs.StreamTables.{TableState, table_end}
 use Rattle.ts_report.specs.Views.{ViewState, end_events}
 use Rattle.monitor.specs.declared.fault.StreamFault.{StreamFault}
@@ -173,6 +178,23 @@ absent_end : (stream : Bool) (named : NamedView) (tables : TablesState) → Quie
 absent_end true named tables = tables_absent named.demux.found tables
 absent_end false named tables = refl
 
+pid_stopped : (named : NamedView) (gap : ClockFault) → Quiet (watched_event named gap)
+unfolding fault_in
+pid_stopped named gap = one_if (is_watched named gap.pid) (found.Rule (rule_events.PidRepetition gap)) refl
+
+pids_stopped : (options : ViewOptions) (named : NamedView) (gaps : GapState) (packets : ℕ) (place : Option ℕ) →
+    Quiet (stopped_pids_by options named gaps packets place)
+unfolding stopped_pids_by
+pids_stopped options named gaps packets None = refl
+pids_stopped options named gaps packets (Some place) =
+    all_of (watched_event named) (stopped gaps (longest_seconds options.arrival) packets place) (pid_stopped named)
+
+last_end : (s : SeenState) → Quiet (last_rules s)
+last_end s =
+    join (stopped_pids s.options s.named s.rules.gaps s.packets) (rule_views.end_events s.rules s.packets (has_table s.tables 0x01 0x01))
+    (pids_stopped s.options s.named s.rules.gaps s.packets (rule_views.place_at s.options.arrival s.packets))
+    (rules_end s.rules s.packets (has_table s.tables 0x01 0x01))
+
 -- The faults of tables and clock references that have stopped.
 abbrev pub stopped_of : SeenState → List StreamFault
 stopped_of s = filter_map fault_in (stops s.options s.named s.tables s.clocks s.packets)
@@ -181,8 +203,7 @@ rules_of : (s : SeenState) → filter_map fault_in (rule_ends s) ≡ stopped_of 
 unfolding rule_ends
 rules_of s =
     quiet_before (absent_events (is_stream s) s.named s.tables) _ (absent_end (is_stream s) s.named s.tables)
-    ∙ quiet_after (stops s.options s.named s.tables s.clocks s.packets) (rule_views.end_events s.rules s.packets (has_table s.tables 0x01 0x01))
-    (rules_end s.rules s.packets (has_table s.tables 0x01 0x01))
+    ∙ quiet_after (stops s.options s.named s.tables s.clocks s.packets) (last_rules s) (last_end s)
 
 tables_quiet : (t : TablesState) → Quiet (table_events t)
 unfolding fault_in

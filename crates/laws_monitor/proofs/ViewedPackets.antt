@@ -30,6 +30,7 @@ use Rattle.tr101290.specs.declared.report.PcrReport.{PcrReport}
 use Rattle.tr101290.specs.declared.stamps.PtsError.{PtsError}
 use Rattle.tr101290.specs.declared.watch.PcrTiming.{PcrTiming}
 use Rattle.tr101290.specs.declared.watch.PcrTiming.TheVariants.{ConstantRate, References, Stamps}
+use Rattle.events.specs.declared.event.ClockFault.{ClockFault}
 use Rattle.events.specs.declared.event.Event.{Event}
 use Rattle.events.specs.declared.event.Event.TheVariants as found
 use Rattle.events.specs.declared.rule_event.RuleEvent.TheVariants as rule_events
@@ -39,13 +40,16 @@ use Rattle.ts_tables.specs.NamedStreams.{NamedView}
 use Rattle.ts_watch.specs.ClockEvents.{error_event, error_events, inaccuracy_events, report_events_if, variable_events}
 use Rattle.ts_watch.specs.declared.clock_events.ClockRule.TheVariants as clock_rules
 use Rattle.ts_watch.specs.RuleEvents.{RuleState, accuracy_events, is_map, is_scrambled, judge_taken, judged_events, packet_events, place_at}
-use Rattle.ts_watch.specs.RuleEvents.{pts_events, scrambled_events, stamp_events, varies_now}
+use Rattle.ts_watch.specs.RuleEvents.{gap_events, pts_events, scrambled_events, stamp_events, varies_now}
+use Rattle.pid_gaps.specs.Gaps.{GapState, gap_at}
+use Rattle.pid_gaps.specs.GapEvents.{gap_event_if}
+use Rattle.pid_gaps.specs.Watched.{is_watched}
 use Rattle.ts_watch.specs.PidLabels.{label_of}
 use Rattle.ts_watch.specs.TableEvents.{TimesState, begin_events, check_word_event, check_word_events, distance_events, error_events as table_error_events}
 use Rattle.ts_watch.specs.TableEvents.{finding_events, findings_events, is_bad, other_events, section_in, soon_events, whole_in, with_finding}
 use Rattle.ts_report.specs.Seen.{SeenState, cause_of, clock_errors, counter_events, counter_events_by, next_window, refused_events, report_on, timing_of}
 use Rattle.ts_report.specs.Seen.{window_ends}
-use Rattle.ts_watch.specs.ClockWindows as clock_windows
+use Rattle.clock_windows.specs.ClockWindows as clock_windows
 use Rattle.ts_watch.specs.WindowEvents.{window_events}
 use Rattle.ts_report.specs.StreamTables.{table_units}
 use Rattle.ts_report.specs.Views.{ViewState, all_window_events, buffer_events_at, clocked, events_read, last_window}
@@ -205,10 +209,21 @@ unfolding fault_in
 scrambled_quiet index named packet = one_if (is_scrambled packet && is_map (label_of named packet.header.pid).coding)
     (found.Rule (rule_events.ScrambledTable (record { pid = packet.header.pid; packet = index }))) refl
 
+gap_quiet : (named : NamedView) (o : Option ClockFault) → Quiet (gap_event_if named o)
+unfolding gap_event_if fault_in
+gap_quiet named None = refl
+gap_quiet named (Some gap) = one_if (is_watched named gap.pid) (found.Rule (rule_events.PidRepetition gap)) refl
+
+gaps_quiet : (gaps : GapState) (index : ℕ) (place : Option ℕ) (named : NamedView) (pid : ℕ) → Quiet (gap_events gaps index place named pid)
+unfolding gap_events
+gaps_quiet gaps index None named pid = refl
+gaps_quiet gaps index (Some place) named pid = gap_quiet named (gap_at gaps pid index place)
+
 rules_quiet : (s : RuleState) (arrival : Arrival) (index : ℕ) (named : NamedView) (packet : PacketView) → Quiet (packet_events s arrival index named packet)
 rules_quiet s arrival index named packet =
-    join (stamp_events s.stamps index (place_at arrival index) packet) (scrambled_events index named packet)
-    (stamps_quiet s.stamps index (place_at arrival index) packet) (scrambled_quiet index named packet)
+    join (stamp_events s.stamps index (place_at arrival index) packet) _ (stamps_quiet s.stamps index (place_at arrival index) packet)
+    (join (gap_events s.gaps index (place_at arrival index) named packet.header.pid) (scrambled_events index named packet)
+    (gaps_quiet s.gaps index (place_at arrival index) named packet.header.pid) (scrambled_quiet index named packet))
 
 clocks : (s : SeenState) (packet : PacketView) → filter_map fault_in (clock_errors s packet) ≡ late_reference packet.header.pid (report_on s packet)
 clocks s packet =

@@ -3,6 +3,7 @@ use Rattle.std.specs.Prelude.{◌≡◌, ℕ, ◌*◌, List, codes, Some}
 use Rattle.arrival.specs.Clock.{greatest_interval}
 use Rattle.tr101290.specs.Limits.{milliseconds}
 use Rattle.tr101290.specs.declared.stamps.TheConstants.{GREATEST_PTS_INTERVAL}
+use Rattle.pid_gaps.specs.declared.gaps.TheConstants.{LONGEST_GAP, LONGEST_SECONDS}
 use Rattle.monitor.specs.declared.fault.Rule.{Rule}
 use Rattle.monitor.specs.declared.fault.Rule.TheVariants as rules
 use Rattle.monitor.specs.MonitorStates.{MonitorState, none_taken}
@@ -47,6 +48,10 @@ pcr_limit given = limit rules.Pcr (codes "2.3.a") 40 given 100
 abbrev pub pts_limit : Limit
 pts_limit = limit rules.Pts (codes "2.5") 700 700 700
 
+-- 1.6 PID_error (5.2.1): at most 5 s without a packet of video or audio, which `tsview` alone looks at
+abbrev pub longest_gap : ℕ
+longest_gap = 5000
+
 -- a monitor that has taken nothing keeps these limits, at a rate in bits a second
 pub record MonitorKeeps (rate given : ℕ) (m : MonitorState) : Type 0 where
   pub pat : m.found.pat.marks.limit_times_rate ≡ pat_limit.monitor * rate
@@ -61,7 +66,7 @@ pub record MonitorKeeps (rate given : ℕ) (m : MonitorState) : Type 0 where
 abbrev pub MonitorLimits : Type 0
 MonitorLimits = (rate given : ℕ) → MonitorKeeps rate given (none_taken rate given)
 
--- the limits of `tsview`: of tables by PID and table_id in milliseconds, of clock references and time stamps in ticks of 27 MHz
+-- the limits of `tsview`: of tables by PID and table_id in milliseconds, of clock references, time stamps and packets in ticks of 27 MHz, of packets in seconds
 pub record TsviewKeeps : Type 0 where
   pub pat : milliseconds 0x00 0x00 ≡ Some pat_limit.tsview
   pub pmt : (pid : ℕ) → milliseconds pid 0x02 ≡ Some pmt_limit.tsview
@@ -71,3 +76,5 @@ pub record TsviewKeeps : Type 0 where
   pub tdt : milliseconds 0x14 0x70 ≡ Some tdt_limit.tsview
   pub pcr : (given : ℕ) → greatest_interval ≡ (pcr_limit given).tsview * 27000
   pub pts : GREATEST_PTS_INTERVAL ≡ pts_limit.tsview * 27000
+  pub gap : LONGEST_GAP ≡ longest_gap * 27000
+  pub seconds : LONGEST_SECONDS * 1000 ≡ longest_gap

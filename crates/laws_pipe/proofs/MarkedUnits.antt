@@ -1,15 +1,14 @@
 -- The units of a PID for whose findings both modes of `tsjob units` request the same marks.
-use Rattle.std.proofs.Common.{◌≡◌, ◌∙◌, ◌&&◌, ◌||◌, ℕ, Bool, true, false, if◌then◌else◌, Option, Some, None, List, [], ◌∷◌, map, refl, sym, ap, ap₂}
-use Rattle.std.proofs.lemmas.Bool.{eqb-true}
+use Rattle.std.proofs.Common.{◌≡◌, ◌∙◌, ◌&&◌, ℕ, Bool, true, false, if◌then◌else◌, Some, List, [], ◌∷◌, map, refl, sym, ap, ap₂}
 use Rattle.std.specs.List.{list_any}
 use Rattle.demux.specs.Laws.{found_of, has_pid}
 use Rattle.pid_findings.specs.Views.{FindingView}
 use Rattle.data_times.specs.DataTimes.{is_unstamped, seen_in, timed}
 use Rattle.packet_pcr.specs.declared.pcr_reading.FoundPcr.{FoundPcr}
 use Rattle.data_times.proofs.OtherPids.{others_stay}
-use Rattle.joined_parts.specs.LoneStamps.{damaged, damaged_if, is_at, is_lone_pes, is_on}
-use Rattle.joined_parts.specs.UnitStamps.{begin_of}
-use Rattle.joined_parts.specs.declared.lone_stamps.LonePes.{LonePes}
+use Rattle.lone_stamps.specs.LoneStamps.{damaged, is_on}
+use Rattle.lone_stamps.specs.declared.search.LonePes.{LonePes}
+use Rattle.lone_stamps.proofs.DamagedFindings.{unfound_stay}
 use Rattle.packet_sync.specs.Slips.{carried}
 use Rattle.es_moments.specs.ApartUnits.{apart_units}
 use Rattle.es_units.specs.CarriedUnits.{Ignored, carried_units, role_of, apart_wire_units}
@@ -98,60 +97,15 @@ wire_timed references pid fs stamped =
 
 -- 4. Stamps that are alone out of order are on other PIDs
 
-neither : (a b : Bool) → (a || b) ≡ false → (a ≡ false) × (b ≡ false)
-neither true b none = absurd cc
-neither false b none = (refl, none)
-
-not_here : (pid packet : ℕ) (l : LonePes) → is_on pid l ≡ false → is_at (Some pid) packet l ≡ false
-unfolding is_at
-not_here pid packet l other = rw other refl
-
-not_at : (pid packet : ℕ) (lone : List LonePes) → list_any (is_on pid) lone ≡ false → list_any (is_at (Some pid) packet) lone ≡ false
-not_at pid packet [] none = refl
-not_at pid packet (l ∷ ls) none =
-    let both = neither (is_on pid l) (list_any (is_on pid) ls) none in
-    rw (not_here pid packet l both.0) (not_at pid packet ls both.1)
-
-own_pid : (pid : ℕ) (p : Option ℕ) → has_pid pid p ≡ true → p ≡ Some pid
-own_pid pid None is = absurd cc
-own_pid pid (Some other) is = ap Some (eqb-true other pid is)
-
-undamaged : (lone : List LonePes) (pid : ℕ) (f : FindingView) → list_any (is_on pid) lone ≡ false → has_pid pid f.pid ≡ true → damaged lone f ≡ f
-unfolding damaged_if
-undamaged lone pid f none own =
-    let begin = begin_of f.begun f.packet in
-    let at : list_any (is_at f.pid begin) lone ≡ false =
-    ap (λ (p : Option ℕ). list_any (is_at p begin) lone) (own_pid pid f.pid own) ∙ not_at pid begin lone none in
-    rw at refl
-
-same_pid : (b : Bool) (f : FindingView) → (damaged_if b f).pid ≡ f.pid
-unfolding damaged_if
-same_pid true f = refl
-same_pid false f = refl
-
-one_by : (own : Bool) (f g : FindingView) (fs gs : List FindingView) → (own ≡ true → g ≡ f) → gs ≡ fs → if_own own g gs ≡ if_own own f fs
-unfolding if_own
-one_by true f g fs gs same rest = let e : g ≡ f = same refl in rw (e, rest) refl
-one_by false f g fs gs same rest = rest
-
-ordered_alike : (lone : List LonePes) (pid : ℕ) (fs : List FindingView) → list_any (is_on pid) lone ≡ false →
-    found_of pid (map (damaged lone) fs) ≡ found_of pid fs
-unfolding if_own
-ordered_alike lone pid [] none = refl
-ordered_alike lone pid (f ∷ fs) none =
-    let later = found_of pid (map (damaged lone) fs) in
-    ap (λ (p : Option ℕ). if_own (has_pid pid p) (damaged lone f) later) (same_pid (is_lone_pes lone f) f)
-    ∙ one_by (has_pid pid f.pid) f (damaged lone f) (found_of pid fs) later (λ own. undamaged lone pid f none own) (ordered_alike lone pid fs none)
-
 pub alone_ordered : (lone : List LonePes) (pid : ℕ) (fs : List FindingView) → list_any (is_on pid) lone ≡ false →
     one_by_one pid (map (damaged lone) fs) ≡ one_by_one pid fs
 alone_ordered lone pid fs none =
-    sym (own_alone pid (map (damaged lone) fs)) ∙ ap (one_by_one pid) (ordered_alike lone pid fs none) ∙ own_alone pid fs
+    sym (own_alone pid (map (damaged lone) fs)) ∙ ap (one_by_one pid) (unfound_stay lone pid fs none) ∙ own_alone pid fs
 
 carried_ordered : (lone : List LonePes) (pid : ℕ) (fs : List FindingView) → list_any (is_on pid) lone ≡ false →
     carried_units pid (map (damaged lone) fs) ≡ carried_units pid fs
 carried_ordered lone pid fs none =
-    sym (same_units pid (map (damaged lone) fs)) ∙ ap (carried_units pid) (ordered_alike lone pid fs none) ∙ same_units pid fs
+    sym (same_units pid (map (damaged lone) fs)) ∙ ap (carried_units pid) (unfound_stay lone pid fs none) ∙ same_units pid fs
 
 pub wire_ordered : (lone : List LonePes) (pid : ℕ) (fs : List FindingView) → list_any (is_on pid) lone ≡ false →
     apart_wire_units pid (map (damaged lone) fs) ≡ apart_wire_units pid fs

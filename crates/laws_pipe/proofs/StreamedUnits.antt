@@ -16,7 +16,7 @@ use Rattle.pid_findings.specs.Views.{FindingView}
 use Rattle.packet_sync.specs.Slips.{carried}
 use Rattle.data_times.specs.DataTimes.{is_unstamped, seen_in}
 use Rattle.data_times.specs.References.{references_in}
-use Rattle.joined_parts.specs.LoneStamps.{damaged, is_on, lone_damaged}
+use Rattle.lone_stamps.specs.LoneStamps.{damaged, is_on, lone_damaged}
 use Rattle.es_moments.specs.Stamps.{distance, dts_at, moved, unit_at}
 use Rattle.es_feed.specs.EachStream.{AreFirst, fed_stream, have_fault, one_by_one}
 use Rattle.fed_streams.specs.Feeding.{Fed, FedStreamView}

@@ -10,8 +10,8 @@ use Rattle.pid_findings.specs.Views.{FindingView}
 use Rattle.packet_sync.specs.Slips.{carried}
 use Rattle.data_times.specs.DataTimes.{is_unstamped, seen_in, timed}
 use Rattle.data_times.specs.References.{references_in}
-use Rattle.joined_parts.specs.LoneStamps.{is_on, lone_in}
-use Rattle.joined_parts.specs.declared.lone_stamps.LonePes.{LonePes}
+use Rattle.lone_stamps.specs.LoneStamps.{is_on, lone_in}
+use Rattle.lone_stamps.specs.declared.search.LonePes.{LonePes}
 use Rattle.es_moments.specs.Merging.{AreMerged}
 use Rattle.es_feed.specs.EachStream.{one_by_one, units_fed}
 use Rattle.fed_streams.specs.Feeding.{Fed}

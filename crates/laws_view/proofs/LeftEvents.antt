@@ -33,6 +33,7 @@ use Rattle.tstd_rows.specs.declared.late_causes.LateCause.{LateCause}
 use Rattle.tstd_rows.specs.declared.late_causes.VideoUnit.{VideoUnit}
 use Rattle.tstd_rows.specs.declared.unit_seen.UnitSeen.{UnitSeen}
 use Rattle.events.specs.Faults.{buffer_fault, fault_of, rule_fault}
+use Rattle.events.specs.declared.event.ClockFault.{ClockFault}
 use Rattle.events.specs.declared.event.Event.{Event}
 use Rattle.events.specs.declared.event.Event.TheVariants as found
 use Rattle.events.specs.declared.event.ProgramExcess.{ProgramExcess}
@@ -58,10 +59,13 @@ use Rattle.es_view.specs.EntryFrames.{leak_ended, part_of, payload_events, place
 use Rattle.es_view.specs.HeldEvents.{held_event, held_events, unit_event, unit_events}
 use Rattle.ts_tables.specs.NamedStreams.{NamedView}
 use Rattle.ts_watch.specs.Choices.{ChoiceView, takes}
-use Rattle.ts_watch.specs.ClockWindows.{ClocksState}
-use Rattle.ts_watch.specs.ClockWindows as clocks_by_window
+use Rattle.clock_windows.specs.ClockWindows.{ClocksState}
+use Rattle.clock_windows.specs.ClockWindows as clocks_by_window
 use Rattle.ts_watch.specs.PidLabels.{label_of}
-use Rattle.ts_watch.specs.RuleEvents.{RuleState, is_map, is_scrambled, packet_events, place_at as place_in, pts_events, scrambled_events, stamp_events}
+use Rattle.pid_gaps.specs.Gaps.{GapState, gap_at}
+use Rattle.pid_gaps.specs.GapEvents.{gap_event_if}
+use Rattle.pid_gaps.specs.Watched.{is_watched}
+use Rattle.ts_watch.specs.RuleEvents.{RuleState, gap_events, is_map, is_scrambled, packet_events, place_at as place_in, pts_events, scrambled_events, stamp_events}
 use Rattle.ts_watch.specs.SystemEvents.{excess_by, excess_if}
 use Rattle.ts_watch.specs.SystemEvents as of_systems
 use Rattle.ts_watch.specs.WindowEvents as of_windows
@@ -294,10 +298,21 @@ unfolding stamp_events
 stamped stamps index None packet = refl
 stamped stamps index (Some place) packet = pts (error_at stamps index place packet)
 
+paused : (named : NamedView) (o : Option ClockFault) → Quiet (gap_event_if named o)
+unfolding gap_event_if fault_of rule_fault is_left is_other
+paused named None = refl
+paused named (Some gap) = guarded (is_watched named gap.pid) (found.Rule (rules.PidRepetition gap) ∷ []) refl
+
+pauses : (gaps : GapState) (index : ℕ) (o : Option ℕ) (named : NamedView) (pid : ℕ) → Quiet (gap_events gaps index o named pid)
+unfolding gap_events
+pauses gaps index None named pid = refl
+pauses gaps index (Some place) named pid = paused named (gap_at gaps pid index place)
+
 pub of_rules : (s : RuleState) (arrival : Arrival) (index : ℕ) (named : NamedView) (packet : PacketView) → Quiet (packet_events s arrival index named packet)
 unfolding fault_of rule_fault is_left is_other
 of_rules s arrival index named packet =
-    both (stamp_events s.stamps index (place_in arrival index) packet) (scrambled_events index named packet)
-    (stamped s.stamps index (place_in arrival index) packet)
+    both (stamp_events s.stamps index (place_in arrival index) packet) _ (stamped s.stamps index (place_in arrival index) packet)
+    (both (gap_events s.gaps index (place_in arrival index) named packet.header.pid) (scrambled_events index named packet)
+    (pauses s.gaps index (place_in arrival index) named packet.header.pid)
     (guarded (is_scrambled packet && is_map (label_of named packet.header.pid).coding)
-    (found.Rule (rules.ScrambledTable (record { pid = packet.header.pid; packet = index })) ∷ []) refl)
+    (found.Rule (rules.ScrambledTable (record { pid = packet.header.pid; packet = index })) ∷ []) refl))

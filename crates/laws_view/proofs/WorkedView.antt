@@ -102,17 +102,21 @@ use Rattle.ts_services.specs.Services.{with_provider}
 use Rattle.ts_tables.specs.NamedStreams.{clock_by, clock_in, stream_by, stream_in, streams_by, taken_if as named_streams_taken_if}
 use Rattle.ts_tables.specs.ServiceNames.{begun as service_names_begun, known_name, name_among, name_of, some_text}
 use Rattle.ts_watch.specs.Choices.{chosen, given_or, is_among, rates_if}
-use Rattle.ts_watch.specs.ClockDrifts.{ahead_of, behind_of, drift_after, drift_at, on_line}
+use Rattle.clock_windows.specs.ClockDrifts.{ahead_of, behind_of, drift_after, drift_at, on_line}
 use Rattle.ts_watch.specs.ClockEvents.{error_event, error_events as clock_events_error_events, errors_in, report_events_if}
-use Rattle.ts_watch.specs.ClockWindows.{counts_in as clock_windows_counts_in, counts_or_none, drift_or_none, taken as clock_windows_taken}
+use Rattle.clock_windows.specs.ClockWindows.{counts_in as clock_windows_counts_in, counts_or_none, drift_or_none, taken as clock_windows_taken}
 use Rattle.ts_watch.specs.PidLabels.{by_program, in_programs, in_tables, label_by, of_clock, of_map}
-use Rattle.ts_watch.specs.ReferenceEvents.{events_by}
+use Rattle.end_faults.specs.ReferenceEvents.{events_by}
 use Rattle.ts_watch.specs.RuleEvents.{accuracy_count, accuracy_events, cat_events, first_scrambled, is_map, judge_after, place_at as rule_events_place_at}
-use Rattle.ts_watch.specs.RuleEvents.{pts_events, stamp_events, stamps_by}
+use Rattle.ts_watch.specs.RuleEvents.{gap_events, gaps_by, pts_events, stamp_events, stamps_by}
+use Rattle.end_faults.specs.StoppedPids.{longest_seconds, stopped_pids_by}
+use Rattle.pid_gaps.specs.GapEvents.{gap_event_if}
+use Rattle.pid_gaps.specs.Gaps.{gap_after, places_in}
+use Rattle.pid_gaps.specs.Watched.{has_type, is_steady, is_typed, is_watched_by}
 use Rattle.ts_watch.specs.SectionPids.{access_pid, association_pids, descriptor_pid, map_pids as section_pids_map_pids, may_name, pids_by, with_each}
 use Rattle.ts_watch.specs.SectionPids.{with_found, with_pids}
-use Rattle.ts_watch.specs.StoppedClocks.{clocks_by, clocks_in, last_place, longest_without, reference_place, with_clocks}
-use Rattle.ts_watch.specs.StoppedEvents.{stopped_by}
+use Rattle.end_faults.specs.StoppedClocks.{clocks_by, clocks_in, last_place, longest_without, reference_place, with_clocks}
+use Rattle.end_faults.specs.StoppedEvents.{stopped_by}
 use Rattle.ts_watch.specs.SystemEvents.{excess_by, size_of}
 use Rattle.ts_watch.specs.TableEvents.{begin_events, distance_events, distances_after, error_events as table_events_error_events, findings_events, is_wrong}
 use Rattle.ts_watch.specs.TableEvents.{is_wrong_offset, more_errors, other_events, placed, placed_if, placed_whole, soon_events, with_begin, with_findings}
@@ -167,7 +171,8 @@ unfolding has_times lead_of step_of times_at line_in clock_moment_by step_after 
     clock_in stream_by stream_in streams_by named_streams_taken_if service_names_begun known_name name_among name_of some_text chosen given_or is_among
     rates_if ahead_of behind_of drift_after drift_at on_line error_event clock_events_error_events errors_in report_events_if clock_windows_counts_in
     counts_or_none drift_or_none clock_windows_taken by_program in_programs in_tables label_by of_clock of_map events_by accuracy_count accuracy_events
-    cat_events first_scrambled is_map judge_after rule_events_place_at pts_events stamp_events stamps_by access_pid association_pids descriptor_pid
+    cat_events first_scrambled gap_after gap_event_if gap_events gaps_by has_type is_map is_steady is_typed is_watched_by judge_after longest_seconds
+    stopped_pids_by places_in rule_events_place_at pts_events stamp_events stamps_by access_pid association_pids descriptor_pid
     section_pids_map_pids may_name pids_by with_each with_found with_pids stopped_by clocks_by clocks_in last_place longest_without reference_place with_clocks excess_by size_of begin_events distance_events distances_after
     table_events_error_events findings_events is_wrong is_wrong_offset more_errors other_events placed placed_if placed_whole soon_events with_begin
     with_findings service_of window_by busy_of busy_with leak_busy entering_after after_begin after_first after_part after_payload entered entered_first

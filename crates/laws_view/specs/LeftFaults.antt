@@ -21,7 +21,7 @@ use Rattle.laws_view.specs.StreamPackets.{most_packets}
 use Rattle.laws_view.specs.ViewedTables.{AreBytes}
 use Rattle.laws_view.specs.ViewedVerdicts.{HasNoReadyMade}
 
--- of buffers and of units; a PTS that comes too late, a section that comes too soon, and a table that is scrambled
+-- of buffers and of units; a PTS or a packet of a PID that comes too late, a section that comes too soon, and a table that is scrambled
 unfoldable pub is_left : FaultKind → Bool
 is_left kinds.Excess = true
 is_left kinds.MainExcess = true
@@ -35,6 +35,7 @@ is_left kinds.Ahead = true
 is_left kinds.NotEmpty = true
 is_left kinds.Delayed = true
 is_left kinds.PtsRepetition = true
+is_left kinds.PidRepetition = true
 is_left kinds.SectionDistance = true
 is_left kinds.ScrambledTable = true
 is_left _ = false

@@ -219,8 +219,8 @@ pub fn muxed_table_events()
 /// States what is left to decide the verdict of a view on this output without ready-made tables, which is good exactly
 /// if the view's counts are good (`is_good` of `ts_report`) and no event is a fault. The counts are good exactly if
 /// buffers and units are: no packet is refused, no error of a counter, a clock reference or a table is counted, and no
-/// byte is left (`run`, `jobs`). No packet gives a fault except of buffers and units, of a PTS that comes too late, of a
-/// section that comes too soon, and of a scrambled table (`faults`, `jobs_faults`).
+/// byte is left (`run`, `jobs`). No packet gives a fault except of buffers and units, of a PTS or of a PID's packet that
+/// comes too late, of a section that comes too soon, and of a scrambled table (`faults`, `jobs_faults`).
 pub fn muxed_verdicts()
     ensures run { RunVerdictLaw }
     ensures jobs { JobVerdictLaw }

@@ -33,14 +33,15 @@ use Rattle.es_events.specs.declared.view_options.ViewOptions.{ViewOptions}
 use Rattle.es_events.specs.Clocks.{ClockEntries, clocks_after, no_clocks}
 use Rattle.ts_report.specs.Moments.{moment_at, reference_moment}
 use Rattle.ts_watch.specs.ClockEvents.{clock_events, errors_in, report_events_if}
-use Rattle.ts_watch.specs.ClockWindows.{ClocksState}
-use Rattle.ts_watch.specs.ClockWindows as clocks_by_window
+use Rattle.clock_windows.specs.ClockWindows.{ClocksState}
+use Rattle.clock_windows.specs.ClockWindows as clocks_by_window
 use Rattle.ts_watch.specs.Choices.{ChoiceView}
-use Rattle.ts_watch.specs.AbsentTables.{absent_events}
-use Rattle.ts_watch.specs.ReferenceEvents.{reference_events}
+use Rattle.end_faults.specs.AbsentTables.{absent_events}
+use Rattle.end_faults.specs.ReferenceEvents.{reference_events}
 use Rattle.ts_watch.specs.RuleEvents.{RuleState, accuracy_count, accuracy_events, judge_after, no_rule, packet_events, with_judge}
 use Rattle.ts_watch.specs.RuleEvents as rules
-use Rattle.ts_watch.specs.StoppedClocks.{stops}
+use Rattle.end_faults.specs.StoppedClocks.{stops}
+use Rattle.end_faults.specs.StoppedPids.{stopped_pids}
 use Rattle.ts_watch.specs.SystemEvents.{excess_events}
 use Rattle.ts_watch.specs.TableEvents.{TablesState, has_table, no_tables, table_events}
 use Rattle.ts_watch.specs.TableEvents as tables
@@ -85,6 +86,10 @@ table_timing Unknown = timings.Ticks
 table_timing (AtRate rate) = timings.ConstantRate rate
 table_timing (OnLines lines) = timings.Ticks
 
+-- the rules of TR 101 290 before the first packet
+abbrev pub first_rules : Arrival → RuleState
+first_rules arrival = no_rule (table_timing arrival)
+
 -- before the first packet
 abbrev pub nothing_seen : Bool → ViewOptions → SeenState
 nothing_seen stamps options = record {
@@ -98,7 +103,7 @@ nothing_seen stamps options = record {
   watches = watching.no_packet (timing_for stamps options.arrival);
   errors = 0;
   references = clocks_by_window.no_reference;
-  rules = no_rule (table_timing options.arrival);
+  rules = first_rules options.arrival;
   tables = no_tables (table_timing options.arrival);
   systems = None;
   named = none_taken;
@@ -256,11 +261,13 @@ window_ends s = window_events s.options s.named s.services.names s.window ++ clo
 abbrev pub is_stream : SeenState → Bool
 is_stream s = not (s.packets == 0) && nat_le s.refused (s.packets / 2)
 
--- at the end, by the rules of TR 101 290: tables that were never whole, tables and clock references that have stopped, the held errors of accuracy, and
--- scrambled packets without a CAT
+-- at the end, by the rules of TR 101 290: PIDs that have stopped, the held errors of accuracy, and scrambled packets without a CAT
+abbrev pub last_rules : SeenState → List Event
+last_rules s = stopped_pids s.options s.named s.rules.gaps s.packets ++ rules.end_events s.rules s.packets (has_table s.tables 0x01 0x01)
+
+-- before these tables that were never whole, and tables and clock references that have stopped
 unfoldable pub rule_ends : SeenState → List Event
-rule_ends s = absent_events (is_stream s) s.named s.tables
-    ++ (stops s.options s.named s.tables s.clocks s.packets ++ rules.end_events s.rules s.packets (has_table s.tables 0x01 0x01))
+rule_ends s = absent_events (is_stream s) s.named s.tables ++ (stops s.options s.named s.tables s.clocks s.packets ++ last_rules s)
 
 -- at the end: clock references by PID, tables, all packets by PID, PIDs that are not named or have no packet, and what rules find
 unfoldable pub pid_ends : SeenState → List Event

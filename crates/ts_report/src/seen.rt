@@ -16,6 +16,11 @@ use crate::counter_events::push_counter_if;
 use crate::moments::{moment_at, reference_moment};
 use crate::timings::{table_timing, timing_for, timing_of};
 use arrival::Arrival;
+use clock_windows::windows::ClockWindows;
+use end_faults::absent_tables::push_absent;
+use end_faults::reference_events::push_references;
+use end_faults::stopped_clocks::push_stops;
+use end_faults::stopped_pids::push_stopped_pids;
 use es_events::clocks::Clocks;
 use es_events::view_options::ViewOptions;
 use events::{Event, RefusalCause, RefusedPacket, ReportEnd, UnclockedPackets};
@@ -26,12 +31,8 @@ use system_tables::SystemTables;
 use tr101290::{ContinuityWatch, PcrReport, PcrWatches, pcr_sample};
 use ts_packet::{Packet, PacketError, has_pcr};
 use ts_tables::{NamedStreams, ServiceNames};
-use ts_watch::absent_tables::push_absent;
 use ts_watch::clock_events::{errors_in, push_clocks, push_report};
-use ts_watch::clock_windows::ClockWindows;
-use ts_watch::reference_events::push_references;
 use ts_watch::rule_watch::RuleWatch;
-use ts_watch::stopped_clocks::push_stops;
 use ts_watch::system_events::push_excesses;
 use ts_watch::table_watch::TableWatch;
 use ts_watch::view_choice::ViewChoice;
@@ -85,6 +86,13 @@ impl Model for Seen {
     } };
 }
 
+// Returns the rules of TR 101 290 before the first packet.
+fn first_rules(alloc: Global, arrival: &Arrival) -> RuleWatch
+    ensures { result ≡ spec.first_rules arrival.now }
+{
+    RuleWatch::new(alloc, table_timing(arrival))
+}
+
 impl Seen {
     /// Returns the state before the first packet; `stamps`: packets arrive by stamps.
     pub fn new(alloc: Global, options: ViewOptions, stamps: bool) -> Seen
@@ -102,7 +110,7 @@ impl Seen {
             watches: PcrWatches::new(alloc, timing_for(&options.arrival, stamps)),
             errors: 0,
             references: ClockWindows::new(alloc),
-            rules: RuleWatch::new(alloc, table_timing(&options.arrival)),
+            rules: first_rules(alloc, &options.arrival),
             tables: TableWatch::new(alloc, table_timing(&options.arrival)),
             systems: SystemTables::new(alloc),
             named: NamedStreams::new(alloc),
@@ -247,7 +255,7 @@ impl Seen {
     }
 
     // Returns the same, if the packet has a clock reference.
-    #[tactic(auto, unfolding(tr101290::specs::PidWatches::taken_if, tr101290::specs::PidWatches::report_if, ts_watch::specs::ClockEvents::report_events_if, ts_watch::specs::ClockEvents::errors_in, ts_watch::specs::RuleEvents::judge_after, ts_watch::specs::RuleEvents::accuracy_events, ts_watch::specs::RuleEvents::accuracy_count, ts_watch::specs::ClockWindows::taken))]
+    #[tactic(auto, unfolding(tr101290::specs::PidWatches::taken_if, tr101290::specs::PidWatches::report_if, ts_watch::specs::ClockEvents::report_events_if, ts_watch::specs::ClockEvents::errors_in, ts_watch::specs::RuleEvents::judge_after, ts_watch::specs::RuleEvents::accuracy_events, ts_watch::specs::RuleEvents::accuracy_count, clock_windows::specs::ClockWindows::taken))]
     fn take_reference_if(
         &mut self,
         packet: &Packet<'_>,
@@ -379,8 +387,25 @@ impl Seen {
         self.packets != 0 && self.refused <= self.packets / 2
     }
 
-    // Appends tables that were never whole, tables and clock references that stop, the accuracies that wait, and that
-    // packets are scrambled without a CAT.
+    // Appends the accuracies that wait, and that packets are scrambled without a CAT, after PIDs that stop.
+    fn push_last_rules(&self, events: &mut Vec<Event>) -> Result<(), AllocError>
+        ensures { OnOk result (events.new.items ≡ events.old.items ++ spec.last_rules self.now) }
+    {
+        let gaps = self.rules.gaps();
+        push_stopped_pids(
+            self.alloc,
+            events,
+            &self.options,
+            &self.named,
+            gaps,
+            self.packets,
+        )?;
+        let has_cat = self.tables.has_table(0x01, 0x01);
+        self.rules.push_end(self.packets, has_cat, events)
+    }
+
+    // Appends tables that were never whole, tables, clock references and PIDs that stop, the accuracies that wait, and
+    // that packets are scrambled without a CAT.
     #[tactic(auto, unfolding(crate::specs::Seen::rule_ends))]
     fn push_rule_ends(&self, events: &mut Vec<Event>) -> Result<(), AllocError>
         ensures { OnOk result (events.new.items ≡ events.old.items ++ spec.rule_ends self.now) }
@@ -388,6 +413,7 @@ impl Seen {
         let stream = self.is_stream();
         push_absent(self.alloc, events, stream, &self.named, &self.tables)?;
         push_stops(
+            self.alloc,
             events,
             &self.options,
             &self.named,
@@ -395,8 +421,7 @@ impl Seen {
             &self.clocks,
             self.packets,
         )?;
-        let has_cat = self.tables.has_table(0x01, 0x01);
-        self.rules.push_end(self.packets, has_cat, events)
+        self.push_last_rules(events)
     }
 
     /// Appends the last events of clock references by PID, of tables, of all packets by PID, of PIDs that are not named

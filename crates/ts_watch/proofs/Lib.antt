@@ -1,6 +1,3 @@
 pub mod Sections
 pub mod HeaderTables
 pub mod TablePackets
-mod OpenSections
-mod ClockCounts
-mod ClockDrifts

@@ -2,14 +2,7 @@ pub mod PidLabels
 pub mod WindowEvents
 pub mod Choices
 pub mod ClockEvents
-pub mod ClockDrifts
-pub mod ClockWindows
-pub mod ReferenceEvents
 pub mod SectionPids
 pub mod TableEvents
-pub mod AbsentTables
 pub mod RuleEvents
-pub mod StoppedEvents
-pub mod StoppedClocks
 pub mod SystemEvents
-pub mod Laws

@@ -1,4 +1,4 @@
--- Time stamps (ETSI TR 101 290, 5.2.2, 2.5), scrambled packets (5.2.1, 1.3.a and 1.5.a; 5.2.2, 2.6), and the accuracy of clock references if the rate is
+-- Time stamps (ETSI TR 101 290, 5.2.2, 2.5), times without a packet of a PID (5.2.1, 1.6), scrambled packets (5.2.1, 1.3.a and 1.5.a; 5.2.2, 2.6), and the accuracy of clock references if the rate is
 -- constant (5.2.2, 2.4).
 use Rattle.std.specs.Prelude.{ℕ, ◌==◌, ◌&&◌, ◌||◌, not, Bool, true, false, if◌then◌else◌, List, [], ◌∷◌, ◌++◌, length, Option, Some, None}
 use Rattle.arrival.specs.Arrivals.{moment_on}
@@ -21,24 +21,28 @@ use Rattle.tr101290.specs.declared.stamps.PtsError.{PtsError}
 use Rattle.tr101290.specs.declared.watch.PcrTiming.{PcrTiming}
 use Rattle.tr101290.specs.declared.watch.PcrTiming.TheVariants.{ConstantRate, References, Stamps}
 use Rattle.ts_packet.specs.Views.{PacketView}
+use Rattle.pid_gaps.specs.Gaps.{GapState, gap_at, no_packet}
+use Rattle.pid_gaps.specs.Gaps as gaps_of
+use Rattle.pid_gaps.specs.GapEvents.{gap_event_if}
 use Rattle.ts_watch.specs.ClockEvents.{inaccuracy_events, variable_events}
 use Rattle.es_events.specs.Clocks.{first_byte}
 use Rattle.ts_watch.specs.PidLabels.{label_of}
 use Rattle.ts_tables.specs.NamedStreams.{NamedView}
 
--- the last PTS of each PID, the judge of the rate, and the first scrambled packet
+-- the last PTS and the last packet of each PID, the judge of the rate, and the first scrambled packet
 pub record RuleState : Type 0 where
   pub stamps : StampState
+  pub gaps : GapState
   pub judge : JudgeState
   pub scrambled : Option ScrambledPacket
 
 abbrev pub no_rule : TableTiming → RuleState
-no_rule timing = record { stamps = no_stamp timing; judge = no_rate; scrambled = None }
+no_rule timing = record { stamps = no_stamp timing; gaps = no_packet timing; judge = no_rate; scrambled = None }
 
 -- 1. The accuracy of clock references: at a given rate all errors count; by references around, the errors that the judge gives
 
 abbrev pub with_judge : RuleState → JudgeState → RuleState
-with_judge s judge = record { stamps = s.stamps; judge = judge; scrambled = s.scrambled }
+with_judge s judge = record { stamps = s.stamps; gaps = s.gaps; judge = judge; scrambled = s.scrambled }
 
 abbrev pub judge_taken : JudgeState → ℕ → PcrReport → JudgeState
 judge_taken judge pid report = judging.taken judge pid report
@@ -87,7 +91,7 @@ place_at (AtRate rate) index = Some index
 place_at (OnLines lines) index = Some (moment_on lines (first_byte index))
 
 abbrev pub with_stamps : RuleState → StampState → RuleState
-with_stamps s stamps = record { stamps = stamps; judge = s.judge; scrambled = s.scrambled }
+with_stamps s stamps = record { stamps = stamps; gaps = s.gaps; judge = s.judge; scrambled = s.scrambled }
 
 unfoldable pub stamps_by : StampState → Option ℕ → PacketView → StampState
 stamps_by stamps None packet = stamps
@@ -101,7 +105,20 @@ unfoldable pub stamp_events : StampState → ℕ → Option ℕ → PacketView �
 stamp_events stamps index None packet = []
 stamp_events stamps index (Some place) packet = pts_events (error_at stamps index place packet)
 
--- 3. Scrambled packets
+-- 3. Times without a packet of a PID
+
+abbrev pub with_gaps : RuleState → GapState → RuleState
+with_gaps s gaps = record { stamps = s.stamps; gaps = gaps; judge = s.judge; scrambled = s.scrambled }
+
+unfoldable pub gaps_by : GapState → Option ℕ → ℕ → GapState
+gaps_by gaps None pid = gaps
+gaps_by gaps (Some place) pid = gaps_of.taken gaps pid place
+
+unfoldable pub gap_events : GapState → ℕ → Option ℕ → NamedView → ℕ → List Event
+gap_events gaps index None named pid = []
+gap_events gaps index (Some place) named pid = gap_event_if named (gap_at gaps pid index place)
+
+-- 4. Scrambled packets
 
 abbrev pub is_scrambled : PacketView → Bool
 is_scrambled packet = not (packet.header.transport_scrambling_control == 0)
@@ -135,19 +152,21 @@ unfoldable pub first_scrambled : Option ScrambledPacket → ℕ → PacketView �
 first_scrambled (Some first) index packet = Some first
 first_scrambled None index packet = if is_scrambled packet then Some (record { pid = packet.header.pid; packet = index }) else None
 
--- 4. A packet
+-- 5. A packet
 
 abbrev pub taken : RuleState → Arrival → ℕ → PacketView → RuleState
 taken s arrival index packet = record {
   stamps = stamps_by s.stamps (place_at arrival index) packet;
+  gaps = gaps_by s.gaps (place_at arrival index) packet.header.pid;
   judge = s.judge;
   scrambled = first_scrambled s.scrambled index packet;
 }
 
 abbrev pub packet_events : RuleState → Arrival → ℕ → NamedView → PacketView → List Event
-packet_events s arrival index named packet = stamp_events s.stamps index (place_at arrival index) packet ++ scrambled_events index named packet
+packet_events s arrival index named packet = stamp_events s.stamps index (place_at arrival index) packet
+    ++ (gap_events s.gaps index (place_at arrival index) named packet.header.pid ++ scrambled_events index named packet)
 
--- 5. At the end: the held errors of accuracy, and an event if packets are scrambled without a CAT
+-- 6. At the end: the held errors of accuracy, and an event if packets are scrambled without a CAT
 
 unfoldable pub cat_events : Option ScrambledPacket → Bool → List Event
 cat_events None has_cat = []

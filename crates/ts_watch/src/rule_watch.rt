@@ -1,4 +1,4 @@
-//! Time stamps, scrambled packets, and whether the rate is constant.
+//! Time stamps, times without a packet of a PID, scrambled packets, and whether the rate is constant.
 ghost use Rattle.std.specs.Prelude.{◌≡◌, ◌++◌, Some, IfOk, OnOk};
 ghost use Rattle.ts_packet.specs.Views.{packet_view};
 ghost use Rattle.ts_watch.specs.RuleEvents as spec;
@@ -8,17 +8,19 @@ use crate::pid_labels::label_of;
 use arrival::Arrival;
 use es_events::clocks::first_byte;
 use events::{ClockFault, Event, PidName, RuleEvent, ScrambledPacket};
+use pid_gaps::{PidGaps, push_gap_if};
 use std::alloc::{AllocError, Global};
 use std::marker::Model;
 use tr101290::{PcrReport, PcrTiming, PidError, PtsError, PtsWatch, RateJudge, TableTiming};
 use ts_packet::Packet;
 use ts_tables::NamedStreams;
 
-/// The last PTS of each PID, the judge of the rate, and the first scrambled packet.
+/// The last PTS and the last packet of each PID, the judge of the rate, and the first scrambled packet.
 #[derive(Drop)]
 pub struct RuleWatch {
     alloc: Global,
     stamps: PtsWatch<Global>,
+    gaps: PidGaps,
     judge: RateJudge,
     scrambled: Option<ScrambledPacket>,
 }
@@ -28,12 +30,17 @@ impl Model for RuleWatch {
 
     ghost Value = { RuleState };
 
-    ghost view = { λ w. record { stamps = w.stamps; judge = w.judge; scrambled = w.scrambled } };
+    ghost view = { λ w. record {
+      stamps = w.stamps;
+      gaps = w.gaps;
+      judge = w.judge;
+      scrambled = w.scrambled;
+    } };
 }
 
 /// Returns the place of a packet: its index at a constant rate, else its moment, if that is known.
 #[tactic(auto, unfolding(crate::specs::RuleEvents::place_at))]
-pub(crate) fn place_at(arrival: &Arrival, index: u64) -> Option<u64>
+pub fn place_at(arrival: &Arrival, index: u64) -> Option<u64>
     ensures { result ≡ spec.place_at arrival.now index }
 {
     match arrival {
@@ -150,9 +157,12 @@ impl RuleWatch {
     pub fn new(alloc: Global, timing: TableTiming) -> RuleWatch
         ensures { result ≡ spec.no_rule timing }
     {
+        let gaps = PidGaps::new(alloc, timing);
+        let stamps = PtsWatch::new(alloc, gaps.timing());
         RuleWatch {
             alloc,
-            stamps: PtsWatch::new(alloc, timing),
+            stamps,
+            gaps,
             judge: RateJudge::new(alloc),
             scrambled: None,
         }
@@ -232,8 +242,38 @@ impl RuleWatch {
         }
     }
 
-    /// Takes the packet at an index: appends the error of its PTS, and that a packet of a PAT or of a PMT is
-    /// scrambled.
+    // Takes the packet of a PID at an index, and appends that the PID has had no packet for too long.
+    #[tactic(auto, unfolding(crate::specs::RuleEvents::gaps_by, crate::specs::RuleEvents::gap_events))]
+    fn take_gap(
+        &mut self,
+        index: u64,
+        place: Option<u64>,
+        named: &NamedStreams,
+        pid: u16,
+        events: &mut Vec<Event>,
+    ) -> Result<(), AllocError>
+        ensures watch { OnOk result (self.new ≡ spec.with_gaps self.old (spec.gaps_by self.old.gaps place pid)) }
+        ensures found { OnOk result (events.new.items
+            ≡ events.old.items ++ spec.gap_events self.old.gaps index place named.now pid) }
+    {
+        match place {
+            None => Ok(()),
+            Some(place) => {
+                let gap = self.gaps.take(pid, index, place)?;
+                push_gap_if(events, named, gap)
+            }
+        }
+    }
+
+    /// Returns the last packet of each PID.
+    pub fn gaps(&self) -> &PidGaps
+        ensures { result.now ≡ self.now.gaps }
+    {
+        &self.gaps
+    }
+
+    /// Takes the packet at an index: appends the error of its PTS, that its PID has had no packet for too long, and that
+    /// a packet of a PAT or of a PMT is scrambled.
     pub fn take(
         &mut self,
         arrival: &Arrival,
@@ -248,6 +288,7 @@ impl RuleWatch {
     {
         let place = place_at(arrival, index);
         self.take_stamp(index, place, packet, events)?;
+        self.take_gap(index, place, named, packet.header.pid, events)?;
         push_scrambled_if(events, index, named, packet)?;
         self.scrambled = first_scrambled(self.scrambled, index, packet);
         Ok(())

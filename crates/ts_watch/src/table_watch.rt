@@ -75,7 +75,8 @@ fn fault_of(error: &TableError) -> TableFault
     }
 }
 
-pub(crate) fn error_event(error: &TableError) -> Event
+/// Returns the event of a section that begins too late.
+pub fn error_event(error: &TableError) -> Event
     ensures { result ≡ spec.error_event error.now }
 {
     Event::TableRepetition(fault_of(error))
@@ -184,7 +185,7 @@ fn section_in(options: &ViewOptions, finding: &Finding<'_>) -> Option<SectionBeg
 
 impl TableTimes {
     /// Returns the state before the first section.
-    pub(crate) fn new(alloc: Global, timing: TableTiming) -> TableTimes
+    pub fn new(alloc: Global, timing: TableTiming) -> TableTimes
         ensures { result ≡ spec.no_times timing }
     {
         let intervals = TableIntervals::new(alloc, timing);
@@ -197,7 +198,7 @@ impl TableTimes {
     }
 
     /// Returns where the sections of each table begin.
-    pub(crate) fn intervals(&self) -> &TableIntervals<Global>
+    pub fn intervals(&self) -> &TableIntervals<Global>
         ensures { result.now ≡ self.now.intervals }
     {
         &self.intervals
@@ -262,7 +263,7 @@ impl TableTimes {
     }
 
     /// Takes findings, and appends sections that are late or wrong.
-    pub(crate) fn take_all(
+    pub fn take_all(
         &mut self,
         options: &ViewOptions,
         findings: &[Finding<'_>],
@@ -327,20 +328,15 @@ impl TableWatch {
         }
     }
 
-    /// Returns the allocator of the state.
-    pub(crate) fn alloc(&self) -> Global {
-        self.alloc
-    }
-
     /// Returns the demultiplexer of the tables.
-    pub(crate) fn demux(&self) -> &HeaderDemux
+    pub fn demux(&self) -> &HeaderDemux
         ensures { result.now ≡ self.now.demux }
     {
         &self.demux
     }
 
     /// Returns the sections so far.
-    pub(crate) fn times(&self) -> &TableTimes
+    pub fn times(&self) -> &TableTimes
         ensures { result.now ≡ self.now.times }
     {
         &self.times

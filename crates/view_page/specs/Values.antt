@@ -134,6 +134,7 @@ with_clock v e = if e.interval == 0 then v else with_figures v e
 unfoldable pub with_rule : KeptValues → RuleEvent → KeptValues
 with_rule v (rules.ClockWindow e) = with_clock v e
 with_rule v (rules.PtsRepetition e) = v
+with_rule v (rules.PidRepetition e) = v
 with_rule v (rules.SectionDistance e) = v
 with_rule v (rules.OtherTable e) = v
 with_rule v (rules.ScrambledTable e) = v

@@ -17,6 +17,7 @@ use Rattle.view_rows.specs.declared.cells.CellWord.TheVariants.{Unclocked, SyncB
 use Rattle.view_rows.specs.declared.cells.CellWord.TheVariants.{PacketSize, EmptyInput, NoStream, OtherRate, NoStamps, StampJump, Bytes, Packets, Millis, Nanos}
 use Rattle.view_rows.specs.declared.cells.CellWord.TheVariants.{BitRate}
 use Rattle.view_rows.specs.declared.cells.CellWord.TheVariants.{Unreferenced, Missing, PtsRepetition, SectionDistance, OtherTable, ScrambledTable, NoCat, NoTable}
+use Rattle.view_rows.specs.declared.cells.CellWord.TheVariants.{PidRepetition}
 use Rattle.view_rows.specs.declared.cells.CellWord.TheVariants.{NotEmpty, Delayed, NoClock, RateVaries, Nothing}
 use Rattle.view_rows.specs.declared.cells.Cell.{Cell}
 use Rattle.view_rows.specs.declared.cells.Cell.TheVariants.{Number, Checked, Bar, Word, CheckNumber, CheckName, Carried, Program, Source, Form}
@@ -68,6 +69,7 @@ word_text OtherTable = codes "section that does not belong on its PID"
 word_text ScrambledTable = codes "scrambled packet of a table"
 word_text NoCat = codes "scrambled packets, and no conditional access table"
 word_text NoTable = codes "no whole section of the table"
+word_text PidRepetition = codes "no packet of the PID for too long"
 word_text NotEmpty = codes "buffer that is not empty for too long"
 word_text Delayed = codes "byte that is in its buffer for too long"
 word_text NoClock = codes "can't be checked: no clock references"

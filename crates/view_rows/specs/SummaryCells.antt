@@ -71,6 +71,7 @@ kind_cells kinds.Rest = plain words.Rest
 kind_cells kinds.NoStamps = plain words.NoStamps
 kind_cells kinds.StampJump = time words.StampJump
 kind_cells kinds.NoTable = plain words.NoTable
+kind_cells kinds.PidRepetition = time words.PidRepetition
 
 -- a moment in ms, if it is known
 unfoldable pub moment_cell : Option ℕ → Cell

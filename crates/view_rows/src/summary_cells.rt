@@ -111,6 +111,7 @@ fn kind_cells(kind: FaultKind) -> KindCells
         FaultKind::NoStamps => plain(CellWord::NoStamps),
         FaultKind::StampJump => time(CellWord::StampJump),
         FaultKind::NoTable => plain(CellWord::NoTable),
+        FaultKind::PidRepetition => time(CellWord::PidRepetition),
     }
 }
 

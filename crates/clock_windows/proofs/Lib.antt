@@ -1,0 +1,2 @@
+mod ClockCounts
+mod ClockDrifts

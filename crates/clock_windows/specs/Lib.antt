@@ -1,0 +1,3 @@
+pub mod ClockDrifts
+pub mod ClockWindows
+pub mod Laws

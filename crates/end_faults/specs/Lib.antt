@@ -1,0 +1,5 @@
+pub mod ReferenceEvents
+pub mod AbsentTables
+pub mod StoppedEvents
+pub mod StoppedClocks
+pub mod StoppedPids

@@ -1,0 +1,76 @@
+-- What the laws of this crate say.
+use Rattle.std.specs.Prelude.{◌≡◌, ◌<◌, ℕ, ◌&&◌, not, Bool, true, false, if◌then◌else◌, Option, Some, None, List, [], ◌∷◌, ◌++◌}
+use Rattle.std.specs.Prelude.{All, filter, filter_map, length, slice_get}
+use Rattle.demux.specs.Laws.{found_of, has_pid}
+use Rattle.pid_findings.specs.Views.{FindingView, IsBadPes}
+use Rattle.pes_packet.specs.declared.refusal.PesError.TheVariants.{Marker}
+use Rattle.lone_stamps.specs.LoneStamps.{all_lone, falls_by, is_lone, is_lone_pes, is_on, lone_damaged, lone_in}
+use Rattle.lone_stamps.specs.PesStamps.{stamp_at}
+use Rattle.lone_stamps.specs.declared.pes_stamps.PesStamp.{PesStamp}
+
+-- 1. The stamps of a PID
+
+-- the stamps of a PES packet, if it is on the PID and has any
+abbrev pub stamp_on : ℕ → FindingView → Option PesStamp
+stamp_on pid f = if has_pid pid f.pid then stamp_at f else None
+
+-- in the order of the PES packets
+abbrev pub stamps_on : ℕ → List FindingView → List PesStamp
+stamps_on pid findings = filter_map (stamp_on pid) findings
+
+-- 2. PIDs are independent
+
+-- if fewer than 256 PES packets are found in all, the findings of a PID decide which of its PES packets are found, and which of them are damaged
+abbrev pub EachPidAlone : Type 0
+EachPidAlone = (falling : List ℕ) (findings : List FindingView) (pid : ℕ) → length (all_lone findings) < 256 →
+    (filter (is_on pid) (all_lone findings) ≡ all_lone (found_of pid findings))
+    × (found_of pid (lone_damaged falling findings) ≡ lone_damaged falling (found_of pid findings))
+
+-- 3. What stays
+
+-- the same finding, except that it is a damaged PES packet
+abbrev pub as_damaged : FindingView → FindingView
+as_damaged f = record { packet = f.packet; pid = f.pid; begun = f.begun; what = IsBadPes Marker }
+
+-- each finding keeps its place: those that are not found stay as they are, and those that are found become damaged PES packets
+abbrev pub AllElseStays : Type 0
+AllElseStays = (falling : List ℕ) (findings : List FindingView) →
+    (length (lone_damaged falling findings) ≡ length findings)
+    × ((k : ℕ) (f : FindingView) → slice_get findings k ≡ Some f →
+    (is_lone_pes (lone_in falling findings) f ≡ false → slice_get (lone_damaged falling findings) k ≡ Some f)
+    × (is_lone_pes (lone_in falling findings) f ≡ true → slice_get (lone_damaged falling findings) k ≡ Some (as_damaged f)))
+
+-- the DTS does not fall by over a second, nor the PTS by over 10 s
+abbrev pub is_in_order : PesStamp → PesStamp → Bool
+is_in_order before stamp = not (falls_by 90_000 before.dts stamp.dts) && not (falls_by 900_000 before.pts stamp.pts)
+
+unfoldable pub are_in_order_after : PesStamp → List PesStamp → Bool
+are_in_order_after before [] = true
+are_in_order_after before (s ∷ ss) = is_in_order before s && are_in_order_after s ss
+
+unfoldable pub are_in_order : List PesStamp → Bool
+are_in_order [] = true
+are_in_order (s ∷ ss) = are_in_order_after s ss
+
+-- if each stamp of a PID is in order after the stamp before it, the PID's findings stay as they are
+abbrev pub OrderedStays : Type 0
+OrderedStays = (falling : List ℕ) (findings : List FindingView) (pid : ℕ) → are_in_order (stamps_on pid findings) ≡ true →
+    found_of pid (lone_damaged falling findings) ≡ found_of pid findings
+
+-- 4. What is found
+
+-- among these stamps those of the PES packet that begins in a packet are alone out of order: between stamps before them and the stamps after them
+pub record IsAlone (stamps : List PesStamp) (packet : ℕ) : Type 0 where
+  pub earlier : List PesStamp
+  pub before : PesStamp
+  pub between : List PesStamp
+  pub stamp : PesStamp
+  pub next : PesStamp
+  pub later : List PesStamp
+  pub are : stamps ≡ earlier ++ before ∷ (between ++ stamp ∷ next ∷ later)
+  pub packet_is : stamp.packet ≡ packet
+  pub alone : is_lone before stamp next ≡ true
+
+-- each PES packet that is found is one of its PID, and its stamps are alone out of order among the stamps of the PID
+abbrev pub EachIsAlone : Type 0
+EachIsAlone = (findings : List FindingView) → All (λ l. IsAlone (stamps_on l.pid findings) l.packet) (all_lone findings)

@@ -1,0 +1,3 @@
+pub mod PesStamps
+pub mod LoneStamps
+pub mod Laws

@@ -1,0 +1,24 @@
+//! The laws of the definitions. They do nothing: their contracts are the laws.
+
+ghost use Rattle.lone_stamps.specs.Laws.{AllElseStays, EachIsAlone, EachPidAlone, OrderedStays};
+
+/// States that the findings of a PID alone decide which of its PES packets are found and damaged, if fewer than 256 are
+/// found in all.
+pub fn each_pid_alone()
+    ensures { EachPidAlone }
+{}
+
+/// States that each finding keeps its place, and changes only if it is a PES packet that is found.
+pub fn all_else_stays()
+    ensures { AllElseStays }
+{}
+
+/// States that the findings of a PID stay as they are, if no DTS falls by over a second and no PTS by over 10 s.
+pub fn ordered_stays()
+    ensures { OrderedStays }
+{}
+
+/// States that the stamps of each PES packet that is found are alone out of order on its PID.
+pub fn each_is_alone()
+    ensures { EachIsAlone }
+{}

@@ -1,0 +1,3 @@
+pub mod Watched
+pub mod Gaps
+pub mod GapEvents
