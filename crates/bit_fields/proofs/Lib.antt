@@ -1,3 +1,0 @@
-pub mod Bind
-pub mod ByteLists
-pub mod Fields

@@ -1,8 +1,0 @@
-use Rattle.std.proofs.Common.{◌∙◌, ap, sym, arith}
-use Rattle.std.proofs.lemmas.List.{take_all}
-use Rattle.capture.specs.FrontForms.{form_in}
-use Rattle.capture.proofs.front_form.form_of.Goals as goal
-
-pub returns-then-bytes-lt-FRONT_BYTES : goal.returns-then-bytes-lt-FRONT_BYTES
-returns-then-bytes-lt-FRONT_BYTES c =
-    c.form_in.ensures ∙ ap form_in (sym (take_all 188 c.args.bytes.now (omega (arith, c.if-bytes-lt-FRONT_BYTES.true))))

@@ -1,4 +1,0 @@
-pub mod FrontForms
-pub mod Captures
-pub mod Reading
-pub mod Laws

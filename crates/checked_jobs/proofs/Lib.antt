@@ -1,2 +1,0 @@
-pub mod JobReaders
-pub mod LongerJobs

@@ -1,8 +1,0 @@
-use Rattle.checked_jobs.proofs.JobReaders.{names_line, planned_rest}
-use Rattle.checked_jobs.proofs.jobs.read_plan.Goals as goal
-
-pub returns-in-Ok-clause-read : goal.returns-in-Ok-clause-read
-returns-in-Ok-clause-read c = planned_rest c.args.text.now c.in-Ok.plan c.in-Ok.size c.in-Ok.ensures.read
-
-pub returns-in-Err-clause-refused : goal.returns-in-Err-clause-refused
-returns-in-Err-clause-refused c = names_line c.args.text.now c.in-Err.error c.in-Err.ensures.refused

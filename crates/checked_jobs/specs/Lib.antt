@@ -1,4 +1,0 @@
-pub mod FaultLines
-pub mod Jobs
-pub mod JobFaults
-pub mod JobSchedules

@@ -1,6 +1,0 @@
-pub mod Codes
-pub mod Stream
-pub mod Laws
-pub mod FoundSoFar
-pub mod StreamBodies
-pub mod KeptBodies

@@ -1,4 +1,0 @@
-pub mod Reading
-pub mod SectionBytes
-pub mod Pids
-pub mod Entries

@@ -1,7 +1,0 @@
-use Rattle.std.proofs.Common.{◌≡◌, map, take}
-use Rattle.toml.specs.View.{view}
-use Rattle.description_parts.specs.Contents.{described_stream}
-use Rattle.description_parts.proofs.building.streams_of.Given as goal
-
-abbrev pub invariant-loop-part : goal.invariant-loop-part
-invariant-loop-part l = l.streams.items ≡ map described_stream (map view (take l.part-index l.parts))

@@ -1,9 +1,0 @@
-use Rattle.std.proofs.Common.{◌≡◌, ◌≤◌, ◌*◌, sum_by, take}
-use Rattle.description_parts.specs.Tables.{service_length}
-use Rattle.description_parts.proofs.section_lengths.services_length.Given as goal
-
-abbrev pub invariant-loop-program : goal.invariant-loop-program
-invariant-loop-program l = record {
-  total : l.total ≡ sum_by service_length (take l.program-index l.programs);
-  bound : l.total ≤ 210 * l.program-index;
-}

@@ -1,6 +1,0 @@
-pub mod Described
-pub mod Tables
-pub mod Ranges
-pub mod Shown
-pub mod Contents
-pub mod Consistency

@@ -1,7 +1,0 @@
-pub mod Positions
-pub mod CivilTimes
-pub mod TimeShape
-pub mod HexBytes
-pub mod Elements
-pub mod MemberKeys
-pub mod Octets

@@ -1,8 +1,0 @@
-use Rattle.std.proofs.Common.{sym, ◌∙◌}
-use Rattle.std.proofs.lemmas.List.Folds.{list_all-map}
-use Rattle.toml.specs.View.{view}
-use Rattle.description_values.specs.Values.{is_section}
-use Rattle.description_values.proofs.arrays.all_sections.Goals as goal
-
-pub returns : goal.returns
-returns c = c.each_is_section.ensures ∙ sym (list_all-map is_section view c.args.values.now)

@@ -1,5 +1,0 @@
-pub mod Numerals
-pub mod TakenInput
-pub mod Performances
-pub mod ReportedTexts
-pub mod NamedReaders

@@ -1,3 +1,0 @@
-pub mod KeyRows
-pub mod EqualRows
-pub mod Explained

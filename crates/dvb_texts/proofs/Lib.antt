@@ -1,2 +1,0 @@
-pub mod FittingText
-pub mod CharacterSteps

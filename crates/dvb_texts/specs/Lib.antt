@@ -1,2 +1,0 @@
-pub mod CharacterTables
-pub mod Texts

@@ -1,3 +1,0 @@
-pub mod Video
-pub mod Buffers
-pub mod Stays

@@ -1,2 +1,0 @@
-pub mod Videos
-pub mod Joins

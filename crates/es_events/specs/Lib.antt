@@ -1,9 +1,0 @@
-pub mod Clocks
-pub mod Tallies
-pub mod MarkTallies
-pub mod EntryEvents
-pub mod VideoTallies
-pub mod VideoFigures
-pub mod VideoEvents
-pub mod TraceEvents
-pub mod EntryStays

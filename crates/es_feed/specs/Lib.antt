@@ -1,7 +1,0 @@
-pub mod EachStream
-pub mod Laws
-pub mod MovedApart
-pub mod StreamFeeding
-pub mod Watching
-pub mod FedLines
-pub mod DamagedReferences

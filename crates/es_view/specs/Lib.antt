@@ -1,4 +1,0 @@
-pub mod HeldEvents
-pub mod EntryFrames
-pub mod Entries
-pub mod Crowding

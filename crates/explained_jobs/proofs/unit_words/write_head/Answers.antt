@@ -1,7 +1,0 @@
-use Rattle.std.proofs.Common.{append_assoc}
-use Rattle.explained_jobs.specs.UnitWords.{unit_head}
-use Rattle.explained_jobs.proofs.unit_words.write_head.Goals as goal
-
-pub returns : goal.returns
-unfolding unit_head
-returns c = simp append_assoc c.write.ensures.bytes

@@ -1,2 +1,0 @@
-pub mod UnitWords
-pub mod JobWords

@@ -1,6 +1,0 @@
-pub mod FaultRows
-pub mod BufferFigures
-pub mod Verdicts
-pub mod SyncRuns
-pub mod Summaries
-pub mod Laws

@@ -1,9 +1,0 @@
-use Rattle.std.proofs.Common.{◌≡◌, ◌==◌, ◌&&◌}
-use Rattle.std.specs.List.{list_any}
-use Rattle.psi_tables.specs.ProgramMap.{StreamView, streams_of}
-use Rattle.fed_streams.proofs.fed_map.is_named.Given as goal
-
-abbrev pub invariant-loop-stream : goal.invariant-loop-stream
-invariant-loop-stream l =
-    list_any (λ (s : StreamView). s.stream_type == l.named.stream_type && s.elementary_pid == l.named.pid) (streams_of l.stream-iterator)
-    ≡ list_any (λ (s : StreamView). s.stream_type == l.named.stream_type && s.elementary_pid == l.named.pid) (streams_of l.fn.streams)

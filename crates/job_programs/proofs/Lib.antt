@@ -1,6 +1,0 @@
-pub mod Elements
-pub mod AndThen
-mod MapWarnings
-pub mod Each
-pub mod FrameSums
-pub mod Steps

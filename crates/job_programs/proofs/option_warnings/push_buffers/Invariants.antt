@@ -1,7 +1,0 @@
-use Rattle.std.proofs.Common.{◌≡◌, ◌++◌, drop, flat_map}
-use Rattle.job_programs.specs.Warnings.{buffer_warning}
-use Rattle.job_programs.proofs.option_warnings.push_buffers.Given as goal
-
-abbrev pub invariant-loop-one : goal.invariant-loop-one
-invariant-loop-one l = l.fn.warnings.items ++ flat_map (buffer_warning l.streams) l.buffers ≡ l.warnings.items
-    ++ flat_map (buffer_warning l.streams) (drop l.one-index l.buffers)

@@ -1,7 +1,0 @@
-use Rattle.std.proofs.Common.{◌≡◌, ◌++◌, drop, flat_map}
-use Rattle.job_programs.specs.Warnings.{name_warning}
-use Rattle.job_programs.proofs.option_warnings.push_names.Given as goal
-
-abbrev pub invariant-loop-name : goal.invariant-loop-name
-invariant-loop-name l = l.fn.warnings.items ++ flat_map (name_warning l.association) l.names ≡ l.warnings.items
-    ++ flat_map (name_warning l.association) (drop l.name-index l.names)

@@ -1,9 +1,0 @@
-pub mod Comments
-pub mod ShownTexts
-pub mod ShownProfiles
-pub mod NoteLines
-pub mod FlatArrays
-pub mod Scalars
-pub mod TableArrays
-pub mod SingleTables
-pub mod DocumentTexts

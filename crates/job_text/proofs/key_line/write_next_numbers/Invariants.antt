@@ -1,8 +1,0 @@
-use Rattle.std.proofs.Common.{◌≡◌, ◌++◌, drop, string_bytes}
-use Rattle.std.specs.List.{flat_map}
-use Rattle.job_text.specs.KeyLines.{next_number}
-use Rattle.job_text.proofs.key_line.write_next_numbers.Given as goal
-
-abbrev pub invariant-loop-number : goal.invariant-loop-number
-invariant-loop-number g l = string_bytes l.text ++ flat_map next_number (drop l.number-index l.numbers) ≡ string_bytes l.fn.text
-    ++ flat_map next_number l.numbers

@@ -1,4 +1,0 @@
-pub mod CarriedStreams
-mod OddStreams
-mod StreamMoments
-mod TakenStreams

@@ -1,7 +1,0 @@
-use Rattle.std.proofs.Common.{◌≡◌, ◌++◌, drop, flat_map}
-use Rattle.job_units.specs.BufferWarnings.{header_warning}
-use Rattle.job_units.proofs.buffer_warnings.push_header_warnings.Given as goal
-
-abbrev pub invariant-loop-stream : goal.invariant-loop-stream
-invariant-loop-stream l = l.fn.warnings.items ++ flat_map (header_warning l.given) l.streams ≡ l.warnings.items
-    ++ flat_map (header_warning l.given) (drop l.stream-index l.streams)

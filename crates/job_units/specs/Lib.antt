@@ -1,6 +1,0 @@
-pub mod Moments
-pub mod Declarations
-pub mod OddStreams
-pub mod WireStreams
-pub mod BufferWarnings
-pub mod TakenStreams

@@ -1,9 +1,0 @@
-use Rattle.std.proofs.Common.{◌∙◌}
-use Rattle.es_units.proofs.KeptDeclarations.{units_kept}
-use Rattle.es_units.proofs.QueueAcceptance.{taken_one_by_one}
-use Rattle.laws_job.proofs.AcceptedUnits.{none_refused_in}
-use Rattle.laws_job.proofs.laws.joined_accepted.Goals as goal
-
-pub returns : goal.returns
-returns c = λ made line inputs origins units ranges are. c.room_for_all.ensures line units
-    ∙ none_refused_in units_kept taken_one_by_one made line inputs origins units ranges are

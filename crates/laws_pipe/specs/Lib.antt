@@ -1,3 +1,0 @@
-pub mod PipedJobs
-pub mod PipedFiles
-pub mod StreamedUnits

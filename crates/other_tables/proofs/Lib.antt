@@ -1,3 +1,0 @@
-pub mod PidCounts
-pub mod SectionSteps
-pub mod TableSteps

@@ -1,4 +1,0 @@
-pub mod OtherTables
-pub mod PidCounts
-pub mod TableKinds
-pub mod SteadySections

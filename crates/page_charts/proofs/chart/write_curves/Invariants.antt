@@ -1,8 +1,0 @@
-use Rattle.std.proofs.Common.{◌≡◌, ◌++◌, drop, string_bytes}
-use Rattle.std.specs.Prelude.{flat_map}
-use Rattle.page_charts.specs.Charts.{curve}
-use Rattle.page_charts.proofs.chart.write_curves.Given as goal
-
-abbrev pub invariant-loop-entry : goal.invariant-loop-entry
-invariant-loop-entry l = string_bytes l.text ++ flat_map (curve l.frame l.labels l.order) (drop l.entry-index l.curves) ≡ string_bytes l.fn.text
-    ++ flat_map (curve l.frame l.labels l.order) l.curves

@@ -1,9 +1,0 @@
-pub mod Views
-pub mod Marks
-pub mod Roles
-pub mod OpenUnits
-pub mod Findings
-pub mod Shown
-pub mod Machine
-pub mod GoingOn
-pub mod Bodies

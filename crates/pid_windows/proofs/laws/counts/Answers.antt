@@ -1,8 +1,0 @@
-use Rattle.pid_windows.proofs.Counted.{clock_law, count_law}
-use Rattle.pid_windows.proofs.laws.counts.Goals as goal
-
-pub returns-clause-packets : goal.returns-clause-packets
-returns-clause-packets c = count_law
-
-pub returns-clause-clocks : goal.returns-clause-clocks
-returns-clause-clocks c = clock_law

@@ -1,5 +1,0 @@
-pub mod Refusals
-pub mod Served
-pub mod SentBytes
-pub mod Failing
-pub mod EmptyWalks

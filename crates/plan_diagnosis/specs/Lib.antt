@@ -1,3 +1,0 @@
-pub mod ItemNames
-pub mod ReasonLines
-pub mod ConditionLines

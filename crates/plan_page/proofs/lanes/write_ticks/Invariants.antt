@@ -1,8 +1,0 @@
-use Rattle.std.proofs.Common.{◌≡◌, ◌++◌, drop, string_bytes}
-use Rattle.slot_plan.specs.Numbered.{numbered}
-use Rattle.plan_page.specs.Lanes.{tick}
-use Rattle.plan_page.proofs.lanes.write_ticks.Given as goal
-
-abbrev pub invariant-loop-number : goal.invariant-loop-number
-invariant-loop-number l = string_bytes l.text ++ numbered (tick l.owner) l.number (drop l.number l.slots) ≡ string_bytes l.fn.text
-    ++ numbered (tick l.owner) 0 l.slots

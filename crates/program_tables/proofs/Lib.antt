@@ -1,9 +1,0 @@
-pub mod Slices
-pub mod AssociationSteps
-pub mod ProgramLists
-pub mod LastMaps
-pub mod NumberedMaps
-pub mod MapKeys
-pub mod MapPlaces
-pub mod KnownSteps
-pub mod NotedChanges

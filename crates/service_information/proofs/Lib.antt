@@ -1,3 +1,0 @@
-pub mod FirstPackets
-pub mod EventSteps
-pub mod TimeSteps

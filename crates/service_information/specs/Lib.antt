@@ -1,9 +1,0 @@
-pub mod CodedTimes
-pub mod CivilTimes
-pub mod FirstFindings
-pub mod EventSections
-pub mod ShortEvents
-pub mod Events
-pub mod EventSurplus
-pub mod StreamTime
-pub mod Warnings

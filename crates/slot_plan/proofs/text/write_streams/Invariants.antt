@@ -1,7 +1,0 @@
-use Rattle.std.proofs.Common.{◌≡◌, ◌++◌, take, string_bytes}
-use Rattle.slot_plan.specs.Numbered.{numbered}
-use Rattle.slot_plan.specs.Text.{stream_line}
-use Rattle.slot_plan.proofs.text.write_streams.Given as goal
-
-abbrev pub invariant-loop-number : goal.invariant-loop-number
-invariant-loop-number g l = string_bytes l.text ≡ string_bytes l.initial.text ++ numbered (stream_line) 0 (take l.number l.entries)

@@ -1,2 +1,0 @@
-mod FrameWalks
-mod FrameParts

@@ -1,3 +1,0 @@
-pub mod FrameHeaders
-pub mod Frames
-pub mod FrameWalks

@@ -1,6 +1,0 @@
-mod Agreement
-mod TableAgreement
-mod WholeAgreement
-pub mod JobUnits
-mod TriedRates
-pub mod JoinedUnits

@@ -1,4 +1,0 @@
-pub mod Texts
-pub mod Rates
-pub mod Jobs
-pub mod WhyNoJob

@@ -1,2 +1,0 @@
-pub mod SwitchEntries
-pub mod SwitchGaps

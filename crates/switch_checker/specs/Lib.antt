@@ -1,2 +1,0 @@
-pub mod SwitchShares
-pub mod Followed

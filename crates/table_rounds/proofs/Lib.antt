@@ -1,5 +1,0 @@
-pub mod SectionParts
-pub mod Places
-pub mod CarouselSteps
-pub mod CarriedBytes
-pub mod SectionStarts

@@ -1,5 +1,0 @@
-pub mod Tables
-pub mod Parts
-pub mod Carousels
-pub mod Laws
-pub mod Payloads

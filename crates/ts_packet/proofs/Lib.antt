@@ -1,9 +1,0 @@
-pub mod Flagging
-pub mod Filling
-pub mod Exact
-pub mod Again
-pub mod Answering
-pub mod Written
-pub mod PlainWritten
-pub mod Listing
-pub mod PcrBytes

@@ -1,5 +1,0 @@
-pub mod Entries
-pub mod Packets
-pub mod ClockedPackets
-pub mod Tables
-pub mod NewFramings

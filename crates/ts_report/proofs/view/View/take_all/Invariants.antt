@@ -1,8 +1,0 @@
-use Rattle.std.proofs.Common.{◌++◌, drop}
-use Rattle.ts_report.specs.Views.{IsView, ViewState, after_all, events_all}
-use Rattle.ts_report.proofs.Packets.{Settled}
-use Rattle.ts_report.proofs.view.View.take_all.Given as goal
-
-abbrev pub invariant-loop-packet : goal.invariant-loop-packet
-invariant-loop-packet l = (s : ViewState) → IsView l.fn.self s →
-    Settled l.self (drop l.packet-index l.packets) (l.events.items) (after_all s l.packets) (l.fn.events.items ++ events_all s l.packets)

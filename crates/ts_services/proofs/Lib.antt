@@ -1,4 +1,0 @@
-pub mod LastServices
-pub mod ServicePlaces
-pub mod FirstNetworks
-pub mod NetworkSteps

@@ -1,3 +1,0 @@
-pub mod Grows
-pub mod MappedPrograms
-pub mod First

@@ -1,4 +1,0 @@
-pub mod NamedStreams
-pub mod Mapped
-pub mod Laws
-pub mod ServiceNames

@@ -1,3 +1,0 @@
-pub mod Sections
-pub mod HeaderTables
-pub mod TablePackets

@@ -1,5 +1,0 @@
-pub mod StreamedUnits
-pub mod Explaining
-mod FileWords
-pub mod MadeJobs
-mod Commands

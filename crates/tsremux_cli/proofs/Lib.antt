@@ -1,3 +1,0 @@
-mod ByHand
-mod Remuxed
-mod Written

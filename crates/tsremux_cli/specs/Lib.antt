@@ -1,9 +1,0 @@
-pub mod Options
-pub mod Words
-pub mod Muxing
-pub mod Remuxing
-pub mod ByHand
-pub mod Packets
-pub mod Lines
-pub mod Outputs
-pub mod Program

@@ -1,9 +1,0 @@
-pub mod Options
-pub mod Arguments
-pub mod CapturedStreams
-pub mod Laws
-pub mod Viewing
-pub mod Drawing
-pub mod PlanDrawing
-pub mod NamedStream
-pub mod Answers

@@ -1,9 +1,0 @@
-pub mod OwnedStreams
-pub mod Places
-pub mod Causes
-pub mod Codes
-pub mod Tallies
-pub mod Queues
-pub mod QueueSteps
-pub mod Payloads
-pub mod Laws
