@@ -35,7 +35,7 @@ pub struct MainFigures {
     pub excesses: u128,
 }
 
-/// Returns that a stream's buffers begin with a packet.
+/// Returns the event that a stream's buffers begin with a packet.
 pub fn stream_event(index: u64, stream: &FoundStream, coding: Coding, buffers: Buffers) -> Event
     ensures { result ≡ spec.stream_event index stream.now coding buffers }
 {

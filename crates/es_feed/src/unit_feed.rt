@@ -137,7 +137,7 @@ fn reported_restart(restart: Option<Restart>) -> Option<(u8, Result<Unit, FeedFa
     }
 }
 
-// The greatest DTS so far, where the clock is known.
+// Returns the greatest DTS so far, if the clock is known.
 #[tactic(auto, unfolding(fed_streams::specs::Feeding::greatest_if))]
 fn greatest_if(shown: Option<u64>, greatest: u64) -> Option<u64>
     requires { greatest ≤ 2 ^ 52 }

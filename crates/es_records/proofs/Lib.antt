@@ -1,3 +1,4 @@
 pub mod PendingOutput
 pub mod ReportedLines
 pub mod PassedStreams
+pub mod EndedStreams

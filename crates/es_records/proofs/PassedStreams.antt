@@ -1,7 +1,7 @@
 -- The output of a stream while its input arrives
 use Rattle.std.proofs.Common.{◌≡◌, ◌⊎◌, ◌<◌, ◌≤◌, ◌+◌, ◌-◌, ◌^◌, ℕ, Bool, true, false, List, [], ◌++◌, length, take, Option, Result, Ok, Err, le_trans, refl}
 use Rattle.std.proofs.Common.{sym, ap, ◌∙◌, subst, inl, inr, arith, length-append, length-take-le}
-use Rattle.std.specs.Prelude.{◌||◌, OnOk, if◌then◌else◌}
+use Rattle.std.specs.Prelude.{◌||◌, OnOk}
 use Rattle.std.specs.Result.{is_err}
 use Rattle.std.specs.Io.KnownBytes.{Appends, Consumes, IsAtEnd, Keeps}
 use Rattle.std.proofs.KnownBytes.{Appends-nil, Appends-trans, Consumes-kept, Consumes-nil, Consumes-trans}
@@ -9,8 +9,7 @@ use Rattle.std.proofs.lemmas.List.{append-nil}
 use Rattle.std.proofs.lemmas.List.Elements.{All-nil}
 use Rattle.counted_io.specs.Device.{CountsOne, Failed}
 use Rattle.devices.specs.Devices.{Device, Port, Takes, between}
-use Rattle.devices.specs.Lines.{Reports, ReportsAll}
-use Rattle.devices.specs.Outcomes.{halt_line}
+use Rattle.devices.specs.Lines.{ReportsAll}
 use Rattle.devices.specs.declared.halt.Halt.{Halt}
 use Rattle.devices.specs.declared.halt.Halt.TheVariants.{Read, Write, Memory}
 use Rattle.devices.proofs.ReportedTexts.{reported_all, reported_none}
@@ -22,8 +21,8 @@ use Rattle.es_records.proofs.ReportedLines.{any_append, flat_append, or_true}
 use Rattle.es_feed.proofs.WatchedStreams.{no_rounds}
 use Rattle.fed_streams.specs.Ticks.{after_packets, fed_packets}
 use Rattle.es_feed.specs.FedLines.{fed_lines, fed_record, fed_records, has_fault, have_fault, have_refusal, is_refusal, lines_of}
-use Rattle.es_records.specs.Passing.{FailsToPass, FeedsPiece, FeedsSome, GoesOut, IsFedSoFar, Midway, Passes, PassesAll, PassesLast, PassesOn, PassesPieces}
-use Rattle.es_records.specs.Passing.{RunsStream, longest_piece}
+use Rattle.es_records.specs.Passing.{FailsToPass, FeedsPiece, FeedsSome, GoesOut, IsFedSoFar, IsUnrefused, Midway, Passes}
+use Rattle.es_records.specs.Passing.{PassesPieces, longest_piece}
 
 -- 1. Before the first byte
 
@@ -37,36 +36,51 @@ slips_none = record { fields = []; so = λ more none. record { slips = refl; fie
 watched_none : (first : FeedView) → IsWatchedBy first [] false (watched_first first) []
 watched_none first = record { fed = []; found = []; rounds = no_rounds; by = fed_none first; slips_are = slips_none }
 
-pub none_came : (first : FeedView) (pids : List ℕ) (input output faults : Port) (s : WatchedView) → s ≡ watched_first first →
-    Midway first pids (between input input) (between output output) (between faults faults) false s
-none_came first pids input output faults s is =
-    subst (λ (t : WatchedView). Midway first pids (between input input) (between output output) (between faults faults) false t) (sym is) (record {
-      came = [];
-      fed = [];
-      by = watched_none first;
-      held = omega arith;
-      passes = record { read = Consumes-nil input.bytes; written = Appends-nil output.bytes; clean = refl; reports_all = reported_none faults };
-      unfailed = refl;
-      faulty_is = refl;
-    })
+-- The stream so far: at least one byte in each piece, and nothing shows that the description is of another stream.
+pub record MidwayLong (first : FeedView) (pids : List ℕ) (input output faults : Device) (faulty : Bool) (s : WatchedView) (pieces : ℕ) : Type 0 where
+  pub midway : Midway first pids input output faults faulty s
+  pub unrefused : have_refusal midway.fed ≡ false
+  pub pieces_in : pieces ≤ length midway.came
+
+pub none_came : (first : FeedView) (pids : List ℕ) (input output faults : Port) →
+    MidwayLong first pids (between input input) (between output output) (between faults faults) false (watched_first first) 0
+none_came first pids input output faults = record {
+  midway = record {
+    came = [];
+    fed = [];
+    by = watched_none first;
+    held = omega arith;
+    passes = record { read = Consumes-nil input.bytes; written = Appends-nil output.bytes; clean = refl; reports_all = reported_none faults };
+    unfailed = refl;
+    faulty_is = refl;
+  };
+  unrefused = refl;
+  pieces_in = omega arith;
+}
+
+pub long_first : (first : FeedView) (pids : List ℕ) (input output faults : Port) (s : WatchedView) → s ≡ watched_first first →
+    MidwayLong first pids (between input input) (between output output) (between faults faults) false s 0
+long_first first pids input output faults s is =
+    subst (λ (t : WatchedView). MidwayLong first pids (between input input) (between output output) (between faults faults) false t 0) (sym is)
+    (none_came first pids input output faults)
 
 -- 2. One more piece
 
 -- The bytes of earlier output, and of the output now
-all_written : (before mid after : Port) (old new : List Fed) → Takes (between before mid) (fed_records old) → Takes (between mid after) (fed_records new) →
+pub all_written : (before mid after : Port) (old new : List Fed) → Takes (between before mid) (fed_records old) → Takes (between mid after) (fed_records new) →
     Takes (between before after) (fed_records (old ++ new))
 all_written before mid after old new a b =
     subst (λ (bytes : List ℕ). Appends before.bytes after.bytes bytes) (sym (flat_append fed_record old new))
     (Appends-trans before.bytes mid.bytes after.bytes (fed_records old) (fed_records new) a b)
 
-all_lines_reported : (pids : List ℕ) (before mid after : Port) (old new : List Fed) → ReportsAll before mid (fed_lines pids old) →
+pub all_lines_reported : (pids : List ℕ) (before mid after : Port) (old new : List Fed) → ReportsAll before mid (fed_lines pids old) →
     ReportsAll mid after (fed_lines pids new) →
     ReportsAll before after (fed_lines pids (old ++ new))
 all_lines_reported pids before mid after old new a b =
     subst (λ (lines : List (List ℕ)). ReportsAll before after lines) (sym (flat_append (lines_of pids) old new))
     (reported_all before mid after (fed_lines pids old) (fed_lines pids new) a b)
 
-all_faulty : (early late faulty : Bool) (old new : List Fed) → early ≡ have_fault old → late ≡ have_fault new → faulty ≡ (early || late) →
+pub all_faulty : (early late faulty : Bool) (old new : List Fed) → early ≡ have_fault old → late ≡ have_fault new → faulty ≡ (early || late) →
     faulty ≡ have_fault (old ++ new)
 all_faulty early late faulty old new a b e = e ∙ ap (λ (x : Bool). x || late) a ∙ ap (λ (x : Bool). have_fault old || x) b ∙ sym (any_append has_fault old new)
 
@@ -81,12 +95,36 @@ with_input first pids piece i0 i1 i2 output faults faulty s m reads = record {
   reports_all = m.passes.reports_all;
 }
 
+pub so_far : (first : FeedView) (pids : List ℕ) (input output faults : Device) (faulty : Bool) (s : WatchedView)
+    (m : Midway first pids input output faults faulty s) → IsFedSoFar first m.came m.fed
+so_far first pids input output faults faulty s m = record { state = s; by = m.by; held = m.held }
+
+-- Nothing so far shows that the description is of another stream, and then a last piece is read.
+unrefused_before : (first : FeedView) (pids piece : List ℕ) (input output faults : Device) (faulty : Bool) (s : WatchedView)
+    (m : Midway first pids input output faults faulty s) → have_refusal m.fed ≡ false → length piece ≤ longest_piece → IsUnrefused first (m.came ++ piece)
+unrefused_before first pids piece input output faults faulty s m unrefused most = record {
+  earlier = m.came;
+  last = piece;
+  came_is = refl;
+  most = most;
+  before = m.fed;
+  fed_is = so_far first pids input output faults faulty s m;
+  unrefused = unrefused;
+}
+
+-- No byte is read after what is fed.
+unrefused_here : (first : FeedView) (pids : List ℕ) (input output faults : Device) (faulty : Bool) (s : WatchedView)
+    (m : Midway first pids input output faults faulty s) → have_refusal m.fed ≡ false → IsUnrefused first (m.came ++ [])
+unrefused_here first pids input output faults faulty s m unrefused =
+    unrefused_before first pids [] input output faults faulty s m unrefused (omega arith)
+
 -- 3. The end of the pieces
 
 pub pieces_end : (first : FeedView) (pids : List ℕ) (i0 i1 i2 : Port) (output faults : Device) (faulty : Bool) (s : WatchedView)
-    (m : Midway first pids (between i0 i1) output faults faulty s) → Consumes i1.bytes i2.bytes [] → i2.failed ≡ i1.failed → IsAtEnd i2.bytes →
+    (m : Midway first pids (between i0 i1) output faults faulty s) → have_refusal m.fed ≡ false → Consumes i1.bytes i2.bytes [] →
+    i2.failed ≡ i1.failed → IsAtEnd i2.bytes →
     PassesPieces first pids (between i0 i2) output faults (Ok faulty) s
-pieces_end first pids i0 i1 i2 output faults faulty s m reads clean ends = (
+pieces_end first pids i0 i1 i2 output faults faulty s m unrefused reads clean ends = (
   record {
     came = m.came;
     fed = m.fed;
@@ -98,24 +136,23 @@ pieces_end first pids i0 i1 i2 output faults faulty s m reads clean ends = (
     faulty_is = m.faulty_is;
   },
   inl ends,
+  subst (λ (bytes : List ℕ). IsUnrefused first bytes) (append-nil m.came)
+      (unrefused_here first pids (between i0 i1) output faults faulty s m unrefused),
 )
-
-so_far : (first : FeedView) (pids : List ℕ) (input output faults : Device) (faulty : Bool) (s : WatchedView)
-    (m : Midway first pids input output faults faulty s) → IsFedSoFar first m.came m.fed
-so_far first pids input output faults faulty s m = record { state = s; by = m.by; held = m.held }
 
 failed_after : (a b c : ℕ) → b ≡ a → CountsOne b c → Failed a c
 failed_after a b c e (inl n) = inl (omega (arith, e, n))
 failed_after a b c e (inr h) = inr (h.0 ∙ e, sym e ∙ h.1)
 
 pub read_fails : (first : FeedView) (pids : List ℕ) (i0 i1 i2 : Port) (output faults : Device) (faulty : Bool) (s : WatchedView)
-    (m : Midway first pids (between i0 i1) output faults faulty s) → Keeps i1.bytes i2.bytes → CountsOne i1.failed i2.failed →
-    PassesPieces first pids (between i0 i2) output faults (Err Read) s
-read_fails first pids i0 i1 i2 output faults faulty s m keeps counts = record {
+    (m : Midway first pids (between i0 i1) output faults faulty s) → have_refusal m.fed ≡ false → Keeps i1.bytes i2.bytes →
+    CountsOne i1.failed i2.failed → PassesPieces first pids (between i0 i2) output faults (Err Read) s
+read_fails first pids i0 i1 i2 output faults faulty s m unrefused keeps counts = record {
   came = m.came;
   fed = m.fed;
   fed_is = so_far first pids (between i0 i1) output faults faulty s m;
   untaken = [];
+  unrefused = unrefused_here first pids (between i0 i1) output faults faulty s m unrefused;
   passes = record {
     read = subst (λ (bytes : List ℕ). Consumes i0.bytes i2.bytes bytes) (sym (append-nil m.came))
         (Consumes-kept i0.bytes i1.bytes i2.bytes m.came m.passes.read keeps);
@@ -127,44 +164,49 @@ read_fails first pids i0 i1 i2 output faults faulty s m keeps counts = record {
 }
 
 pub too_long : (first : FeedView) (pids : List ℕ) (input output faults : Device) (faulty : Bool) (s : WatchedView)
-    (m : Midway first pids input output faults faulty s) → 2 ^ 64 - 1 ≤ length m.came → PassesPieces first pids input output faults (Err Read) s
-too_long first pids input output faults faulty s m long = record {
+    (m : Midway first pids input output faults faulty s) → have_refusal m.fed ≡ false → 2 ^ 64 - 1 ≤ length m.came →
+    PassesPieces first pids input output faults (Err Read) s
+too_long first pids input output faults faulty s m unrefused long = record {
   came = m.came;
   fed = m.fed;
   fed_is = so_far first pids input output faults faulty s m;
   untaken = [];
+  unrefused = unrefused_here first pids input output faults faulty s m unrefused;
   passes = subst (λ (bytes : List ℕ). Passes pids bytes m.fed input output faults) (sym (append-nil m.came)) m.passes;
   stopped = (refl, inr long);
 }
 
 pub no_room : (first : FeedView) (pids piece : List ℕ) (i0 i1 i2 : Port) (output faults : Device) (faulty : Bool) (s t : WatchedView)
-    (m : Midway first pids (between i0 i1) output faults faulty s) → Consumes i1.bytes i2.bytes piece → i2.failed ≡ i1.failed →
+    (m : Midway first pids (between i0 i1) output faults faulty s) → have_refusal m.fed ≡ false → Consumes i1.bytes i2.bytes piece →
+    i2.failed ≡ i1.failed → length piece ≤ longest_piece →
     PassesPieces first pids (between i0 i2) output faults (Err Memory) t
-no_room first pids piece i0 i1 i2 output faults faulty s t m reads clean = record {
+no_room first pids piece i0 i1 i2 output faults faulty s t m unrefused reads clean most = record {
   came = m.came;
   fed = m.fed;
   fed_is = so_far first pids (between i0 i1) output faults faulty s m;
   untaken = piece;
+  unrefused = unrefused_before first pids piece (between i0 i1) output faults faulty s m unrefused most;
   passes = with_input first pids piece i0 i1 i2 output faults faulty s m reads;
   stopped = clean ∙ m.unfailed;
 }
 
 -- Feeding the next piece fails.
 pub feed_fails : (first : FeedView) (pids : List ℕ) (i0 i1 i2 : Port) (output faults : Device) (faulty : Bool) (s t : WatchedView) (fed : List Fed)
-    (halt : Halt) →
-    Midway first pids (between i0 i1) output faults faulty s → FeedsPiece s (between i1 i2) t fed (Err halt) →
+    (halt : Halt) (m : Midway first pids (between i0 i1) output faults faulty s) → have_refusal m.fed ≡ false →
+    FeedsPiece s (between i1 i2) t fed (Err halt) →
     PassesPieces first pids (between i0 i2) output faults (Err halt) t
-feed_fails first pids i0 i1 i2 output faults faulty s t fed Read m p = read_fails first pids i0 i1 i2 output faults faulty s m p.0 p.1
-feed_fails first pids i0 i1 i2 output faults faulty s t fed Write m p = absurd p
-feed_fails first pids i0 i1 i2 output faults faulty s t fed Memory m (piece, reads, clean) =
-    no_room first pids piece i0 i1 i2 output faults faulty s t m reads clean
+feed_fails first pids i0 i1 i2 output faults faulty s t fed Read m unrefused p =
+    read_fails first pids i0 i1 i2 output faults faulty s m unrefused p.0 p.1
+feed_fails first pids i0 i1 i2 output faults faulty s t fed Write m unrefused p = absurd p
+feed_fails first pids i0 i1 i2 output faults faulty s t fed Memory m unrefused (piece, reads, clean, most) =
+    no_room first pids piece i0 i1 i2 output faults faulty s t m unrefused reads clean most
 
 pub feed_ends : (first : FeedView) (pids : List ℕ) (i0 i1 i2 : Port) (output faults : Device) (faulty : Bool) (s t : WatchedView) (fed : List Fed) →
-    Midway first pids (between i0 i1) output faults faulty s → FeedsPiece s (between i1 i2) t fed (Ok false) →
+    (m : Midway first pids (between i0 i1) output faults faulty s) → have_refusal m.fed ≡ false → FeedsPiece s (between i1 i2) t fed (Ok false) →
     PassesPieces first pids (between i0 i2) output faults (Ok faulty) t
-feed_ends first pids i0 i1 i2 output faults faulty s t fed m (reads, clean, ends, same) =
+feed_ends first pids i0 i1 i2 output faults faulty s t fed m unrefused (reads, clean, ends, same) =
     subst (λ (v : WatchedView). PassesPieces first pids (between i0 i2) output faults (Ok faulty) v) (sym same)
-    (pieces_end first pids i0 i1 i2 output faults faulty s m reads clean ends)
+    (pieces_end first pids i0 i1 i2 output faults faulty s m unrefused reads clean ends)
 
 pub feeds_some : (s t : WatchedView) (input : Device) (fed : List Fed) (more : Bool) → more ≡ true → FeedsPiece s input t fed (Ok more) →
     FeedsSome s input t fed
@@ -181,15 +223,16 @@ failed_later : (a b c : ℕ) → b ≡ a → Failed b c → Failed a c
 failed_later a b c e f = subst (λ (n : ℕ). Failed n c) e f
 
 -- The writer fails within the records that were fed last, after the earlier records of the stream.
-last_fails : (first : FeedView) (pids bytes : List ℕ) (i0 i1 i2 o0 o1 o2 f0 f1 f2 : Port) (faulty : Bool) (s : WatchedView) (new : List Fed)
+pub last_fails : (first : FeedView) (pids bytes : List ℕ) (i0 i1 i2 o0 o1 o2 f0 f1 f2 : Port) (faulty : Bool) (s : WatchedView) (new : List Fed)
     (m : Midway first pids (between i0 i1) (between o0 o1) (between f0 f1) faulty s) → Consumes i0.bytes i2.bytes bytes →
-    (IsFedSoFar first bytes (m.fed ++ new) ⊎ IsWatchedOf first bytes (m.fed ++ new)) → GoesOut pids new (between o1 o2) (between f1 f2) (Err Write) →
-    FailsToPass first pids (between i0 i2) (between o0 o2) (between f0 f2)
-last_fails first pids bytes i0 i1 i2 o0 o1 o2 f0 f1 f2 faulty s new m reads is out = record {
+    (IsFedSoFar first bytes (m.fed ++ new) ⊎ IsWatchedOf first bytes (m.fed ++ new)) → IsUnrefused first bytes →
+    GoesOut pids new (between o1 o2) (between f1 f2) (Err Write) → FailsToPass first pids (between i0 i2) (between o0 o2) (between f0 f2)
+last_fails first pids bytes i0 i1 i2 o0 o1 o2 f0 f1 f2 faulty s new m reads is unrefused out = record {
   came = bytes;
   before = m.fed;
   last = new;
   fed_is = is;
+  unrefused = unrefused;
   read = reads;
   taken = out.0.taken;
   written = Appends-trans o0.bytes o1.bytes o2.bytes (fed_records m.fed) (take out.0.taken (fed_records new)) m.passes.written out.0.appends;
@@ -198,106 +241,18 @@ last_fails first pids bytes i0 i1 i2 o0 o1 o2 f0 f1 f2 faulty s new m reads is o
 }
 
 pub piece_fails : (first : FeedView) (pids : List ℕ) (i0 i1 i2 o0 o1 o2 f0 f1 f2 : Port) (faulty : Bool) (s t : WatchedView) (new : List Fed) (halt : Halt) →
-    Midway first pids (between i0 i1) (between o0 o1) (between f0 f1) faulty s → FeedsSome s (between i1 i2) t new →
+    (m : Midway first pids (between i0 i1) (between o0 o1) (between f0 f1) faulty s) → have_refusal m.fed ≡ false → FeedsSome s (between i1 i2) t new →
     GoesOut pids new (between o1 o2) (between f1 f2) (Err halt) →
     PassesPieces first pids (between i0 i2) (between o0 o2) (between f0 f2) (Err halt) t
-piece_fails first pids i0 i1 i2 o0 o1 o2 f0 f1 f2 faulty s t new Read m p out = absurd out
-piece_fails first pids i0 i1 i2 o0 o1 o2 f0 f1 f2 faulty s t new Write m p out =
+piece_fails first pids i0 i1 i2 o0 o1 o2 f0 f1 f2 faulty s t new Read m unrefused p out = absurd out
+piece_fails first pids i0 i1 i2 o0 o1 o2 f0 f1 f2 faulty s t new Write m unrefused p out =
     last_fails first pids (m.came ++ p.piece) i0 i1 i2 o0 o1 o2 f0 f1 f2 faulty s new m
     (Consumes-trans i0.bytes i1.bytes i2.bytes m.came p.piece m.passes.read p.read)
-    (inl (record { state = t; by = p.taken first m.came m.fed m.by; held = p.held })) out
-piece_fails first pids i0 i1 i2 o0 o1 o2 f0 f1 f2 faulty s t new Memory m p out = absurd out
+    (inl (record { state = t; by = p.taken first m.came m.fed m.by; held = p.held }))
+    (unrefused_before first pids p.piece (between i0 i1) (between o0 o1) (between f0 f1) faulty s m unrefused p.most) out
+piece_fails first pids i0 i1 i2 o0 o1 o2 f0 f1 f2 faulty s t new Memory m unrefused p out = absurd out
 
--- 5. The items that the end of the stream feeds
-
-still_refused : (old new : List Fed) → have_refusal old ≡ true → have_refusal (old ++ new) ≡ true
-still_refused old new is = any_append is_refusal old new ∙ ap (λ (b : Bool). b || have_refusal new) is
-
-still_ends : (E : Type 0) (old new : List Fed) → E ⊎ (have_refusal old ≡ true) → E ⊎ (have_refusal (old ++ new) ≡ true)
-still_ends E old new (inl ends) = inl ends
-still_ends E old new (inr is) = inr (still_refused old new is)
-
-pub stream_ends : (first : FeedView) (pids : List ℕ) (input : Device) (o0 o1 o2 f0 f1 f2 : Port) (early late faulty : Bool) (s : WatchedView)
-    (m : Midway first pids input (between o0 o1) (between f0 f1) early s) → IsAtEnd input.after.bytes ⊎ (have_refusal m.fed ≡ true) →
-    PassesLast first pids m.came m.fed (between o1 o2) (between f1 f2) (Ok late) → faulty ≡ (early || late) →
-    PassesAll first pids input (between o0 o2) (between f0 f2) faulty
-stream_ends first pids input o0 o1 o2 f0 f1 f2 early late faulty s m ends (last, all, out) is = record {
-  came = m.came;
-  fed = m.fed ++ last;
-  fed_is = all;
-  passes = record {
-    read = m.passes.read;
-    written = all_written o0 o1 o2 m.fed last m.passes.written out.0;
-    clean = out.1 ∙ m.passes.clean;
-    reports_all = all_lines_reported pids f0 f1 f2 m.fed last m.passes.reports_all out.2;
-  };
-  ends = still_ends (IsAtEnd input.after.bytes) m.fed last ends;
-  unfailed = m.unfailed;
-  faulty_is = all_faulty early late faulty m.fed last m.faulty_is out.3 is;
-}
-
-pub end_fails : (first : FeedView) (pids : List ℕ) (input : Device) (o0 o1 o2 f0 f1 f2 : Port) (early : Bool) (s : WatchedView) (halt : Halt)
-    (m : Midway first pids input (between o0 o1) (between f0 f1) early s) → PassesLast first pids m.came m.fed (between o1 o2) (between f1 f2) (Err halt) →
-    PassesOn first pids input (between o0 o2) (between f0 f2) (Err halt)
-end_fails first pids input o0 o1 o2 f0 f1 f2 early s Read m p = absurd p
-end_fails first pids input o0 o1 o2 f0 f1 f2 early s Write m (last, all, out) =
-    last_fails first pids m.came input.before input.after input.after o0 o1 o2 f0 f1 f2 early s last m m.passes.read (inr all) out
-end_fails first pids input o0 o1 o2 f0 f1 f2 early s Memory m p = record {
-  came = m.came;
-  fed = m.fed;
-  fed_is = so_far first pids input (between o0 o1) (between f0 f1) early s m;
-  untaken = [];
-  passes = record {
-    read = subst (λ (bytes : List ℕ). Consumes input.before.bytes input.after.bytes bytes) (sym (append-nil m.came)) m.passes.read;
-    written = subst (λ (q : Port). Takes (between o0 q) (fed_records m.fed)) (sym p.0) m.passes.written;
-    clean = ap (λ (q : Port). q.failed) p.0 ∙ m.passes.clean;
-    reports_all = subst (λ (q : Port). ReportsAll f0 q (fed_lines pids m.fed)) (sym p.1) m.passes.reports_all;
-  };
-  stopped = m.unfailed;
-}
-
-pub pieces_fail : (first : FeedView) (pids : List ℕ) (input output faults : Device) (s : WatchedView) (halt : Halt) →
-    PassesPieces first pids input output faults (Err halt) s →
-    PassesOn first pids input output faults (Err halt)
-pieces_fail first pids input output faults s Read p = p
-pieces_fail first pids input output faults s Write p = p
-pieces_fail first pids input output faults s Memory p = p
-
--- There is no memory for the room of a piece.
-none_came_pieces : (first : FeedView) (pids : List ℕ) (input output faults : Port) →
-    PassesPieces first pids (between input input) (between output output) (between faults faults) (Err Memory) (watched_first first)
-none_came_pieces first pids input output faults =
-    no_room first pids [] input input input (between output output) (between faults faults) false (watched_first first) (watched_first first)
-    (none_came first pids input output faults (watched_first first) refl) (Consumes-nil input.bytes) refl
-
-pub no_piece : (first : FeedView) (pids : List ℕ) (input output faults : Port) →
-    PassesOn first pids (between input input) (between output output) (between faults faults) (Err Memory)
-no_piece first pids input output faults =
-    pieces_fail first pids (between input input) (between output output) (between faults faults) (watched_first first) Memory
-    (none_came_pieces first pids input output faults)
-
--- 6. The status
-
-pub run_ends : (first : FeedView) (pids : List ℕ) (input output faults : Device) (faulty : Bool) (status : ℕ) →
-    PassesOn first pids input output faults (Ok faulty) → status ≡ (if faulty then 1 else 0) →
-    RunsStream first pids input output faults status
-run_ends first pids input output faults faulty status p s = inl (record { faulty = faulty; passes = p; status_is = s })
-
-pub run_stops : (first : FeedView) (pids : List ℕ) (input output : Device) (before reported after : Port) (halt : Halt) (status : ℕ) →
-    PassesOn first pids input output (between before reported) (Err halt) →
-    Reports (between reported after) (halt_line halt) → status ≡ 3 → RunsStream first pids input output (between before after) status
-run_stops first pids input output before reported after halt status p r s =
-    inr (record { halt = halt; reported = reported; passes = p; reports = r; status_is = s })
-
--- 7. A number of pieces, each of at least one byte
-
-pub record MidwayLong (first : FeedView) (pids : List ℕ) (input output faults : Device) (faulty : Bool) (s : WatchedView) (pieces : ℕ) : Type 0 where
-  pub midway : Midway first pids input output faults faulty s
-  pub pieces_in : pieces ≤ length midway.came
-
-pub long_first : (first : FeedView) (pids : List ℕ) (input output faults : Port) (s : WatchedView) → s ≡ watched_first first →
-    MidwayLong first pids (between input input) (between output output) (between faults faults) false s 0
-long_first first pids input output faults s is = record { midway = none_came first pids input output faults s is; pieces_in = omega arith }
+-- 5. One piece after another
 
 -- The state after a push
 pub pushed : {E : Type 0} (piece : List ℕ) (s t : WatchedView) (items : List Fed) (r : Result (Unit {0}) E) → is_err r ≡ false →
@@ -327,69 +282,66 @@ fed_piece s t i1 i2 part n items r most within some reads clean ok push short = 
   held = held_short (length t.stream.held) r ok short;
 }
 
+-- There is no memory for a piece that was read.
+pub piece_lost : (s t : WatchedView) (i1 i2 : Port) (part : List ℕ) (n : ℕ) (items : List Fed) → length part ≤ longest_piece → n ≤ length part →
+    Consumes i1.bytes i2.bytes (take n part) → i2.failed ≡ i1.failed → FeedsPiece s (between i1 i2) t items (Err Memory)
+piece_lost s t i1 i2 part n items most within reads clean =
+    (take n part, reads, clean, omega (arith, length-take-le n part within, within, most))
+
 -- A read that gave no bytes
 pub none_read : (a b : Option (List ℕ)) (n : ℕ) (part : List ℕ) → n ≡ 0 → Consumes a b (take n part) → Consumes a b []
 none_read a b n part e h = subst (λ (m : ℕ). Consumes a b (take m part)) e h
 
+more_came : (first : FeedView) (pids : List ℕ) (i0 i1 i2 o0 o1 o2 f0 f1 f2 : Port) (early late faulty : Bool) (s t : WatchedView) (new : List Fed) →
+    Midway first pids (between i0 i1) (between o0 o1) (between f0 f1) early s → FeedsSome s (between i1 i2) t new →
+    GoesOut pids new (between o1 o2) (between f1 f2) (Ok late) → faulty ≡ (early || late) →
+    Midway first pids (between i0 i2) (between o0 o2) (between f0 f2) faulty t
+more_came first pids i0 i1 i2 o0 o1 o2 f0 f1 f2 early late faulty s t new m p out is = record {
+  came = m.came ++ p.piece;
+  fed = m.fed ++ new;
+  by = p.taken first m.came m.fed m.by;
+  held = p.held;
+  passes = record {
+    read = Consumes-trans i0.bytes i1.bytes i2.bytes m.came p.piece m.passes.read p.read;
+    written = all_written o0 o1 o2 m.fed new m.passes.written out.0;
+    clean = out.1 ∙ m.passes.clean;
+    reports_all = all_lines_reported pids f0 f1 f2 m.fed new m.passes.reports_all out.2;
+  };
+  unfailed = p.clean ∙ m.unfailed;
+  faulty_is = all_faulty early late faulty m.fed new m.faulty_is out.3 is;
+}
+
+-- A read that does not show that the description is of another stream
 pub long_more : (first : FeedView) (pids : List ℕ) (i0 i1 i2 o0 o1 o2 f0 f1 f2 : Port) (early late faulty : Bool) (s t : WatchedView) (new : List Fed)
     (pieces : ℕ) →
     MidwayLong first pids (between i0 i1) (between o0 o1) (between f0 f1) early s pieces → FeedsSome s (between i1 i2) t new →
-    GoesOut pids new (between o1 o2) (between f1 f2) (Ok late) → faulty ≡ (early || late) →
+    GoesOut pids new (between o1 o2) (between f1 f2) (Ok late) → faulty ≡ (early || late) → have_refusal new ≡ false →
     MidwayLong first pids (between i0 i2) (between o0 o2) (between f0 f2) faulty t (pieces + 1)
-long_more first pids i0 i1 i2 o0 o1 o2 f0 f1 f2 early late faulty s t new pieces m p out is =
+unfolding more_came
+long_more first pids i0 i1 i2 o0 o1 o2 f0 f1 f2 early late faulty s t new pieces m p out is none =
     let before = m.midway in
     let some = p.some in
     record {
-      midway = record {
-        came = before.came ++ p.piece;
-        fed = before.fed ++ new;
-        by = p.taken first before.came before.fed before.by;
-        held = p.held;
-        passes = record {
-          read = Consumes-trans i0.bytes i1.bytes i2.bytes before.came p.piece before.passes.read p.read;
-          written = all_written o0 o1 o2 before.fed new before.passes.written out.0;
-          clean = out.1 ∙ before.passes.clean;
-          reports_all = all_lines_reported pids f0 f1 f2 before.fed new before.passes.reports_all out.2;
-        };
-        unfailed = p.clean ∙ before.unfailed;
-        faulty_is = all_faulty early late faulty before.fed new before.faulty_is out.3 is;
-      };
+      midway = more_came first pids i0 i1 i2 o0 o1 o2 f0 f1 f2 early late faulty s t new before p out is;
+      unrefused = any_append is_refusal before.fed new ∙ ap (λ (b : Bool). b || have_refusal new) m.unrefused ∙ none;
       pieces_in = omega (arith, m.pieces_in, length-append before.came p.piece, some);
     }
 
--- A read that shows that the description belongs to another stream
+-- A read that shows that the description is of another stream
 pub long_refused : (first : FeedView) (pids : List ℕ) (i0 i1 i2 o0 o1 o2 f0 f1 f2 : Port) (early late faulty : Bool) (s t : WatchedView) (new : List Fed)
     (pieces : ℕ) →
     MidwayLong first pids (between i0 i1) (between o0 o1) (between f0 f1) early s pieces → FeedsSome s (between i1 i2) t new →
     GoesOut pids new (between o1 o2) (between f1 f2) (Ok late) → faulty ≡ (early || late) → have_refusal new ≡ true →
     PassesPieces first pids (between i0 i2) (between o0 o2) (between f0 f2) (Ok faulty) t
-unfolding long_more
+unfolding more_came
 long_refused first pids i0 i1 i2 o0 o1 o2 f0 f1 f2 early late faulty s t new pieces m p out is refused = (
-  (long_more first pids i0 i1 i2 o0 o1 o2 f0 f1 f2 early late faulty s t new pieces m p out is).midway,
+  more_came first pids i0 i1 i2 o0 o1 o2 f0 f1 f2 early late faulty s t new m.midway p out is,
   inr (any_append is_refusal m.midway.fed new ∙ ap (λ (b : Bool). have_refusal m.midway.fed || b) refused ∙ or_true (have_refusal m.midway.fed)),
+  unrefused_before first pids p.piece (between i0 i1) (between o0 o1) (between f0 f1) early s m.midway m.unrefused p.most,
 )
 
 pub long_enough : (first : FeedView) (pids : List ℕ) (input output faults : Device) (faulty : Bool) (s : WatchedView) (pieces : ℕ)
     (m : MidwayLong first pids input output faults faulty s pieces) →
     2 ^ 64 - 1 ≤ pieces → PassesPieces first pids input output faults (Err Read) s
 long_enough first pids input output faults faulty s pieces m long =
-    too_long first pids input output faults faulty s m.midway (le_trans long m.pieces_in)
-
--- 8. The items that the end of a stream feeds are written
-
-last_is : (first : FeedView) (came : List ℕ) (s : WatchedView) (before items shown : List Fed) → shown ≡ items → IsWatchedBy first came false s before →
-    (IsWatchedBy first came false s before → IsWatchedOf first came (before ++ items)) → IsWatchedOf first came (before ++ shown)
-last_is first came s before items shown e by finish = subst (λ (x : List Fed). IsWatchedOf first came (before ++ x)) (sym e) (finish by)
-
-pub last_out : {E : Type 0} (first : FeedView) (pids came : List ℕ) (s : WatchedView) (before items shown : List Fed) (output faults : Device)
-    (done : Result (Unit {0}) E) (r : Result Bool Halt) →
-    shown ≡ items → is_err done ≡ false → IsWatchedBy first came false s before →
-    (IsWatchedBy first came false s before → OnOk done (IsWatchedOf first came (before ++ items))) →
-    GoesOut pids shown output faults r → PassesLast first pids came before output faults r
-last_out first pids came s before items shown output faults (Err x) r e ok by finish out = absurd cc
-last_out first pids came s before items shown output faults (Ok x) (Ok late) e ok by finish out =
-    (shown, last_is first came s before items shown e by finish, out)
-last_out first pids came s before items shown output faults (Ok x) (Err Read) e ok by finish out = absurd out
-last_out first pids came s before items shown output faults (Ok x) (Err Write) e ok by finish out =
-    (shown, last_is first came s before items shown e by finish, out)
-last_out first pids came s before items shown output faults (Ok x) (Err Memory) e ok by finish out = absurd out
+    too_long first pids input output faults faulty s m.midway m.unrefused (le_trans long m.pieces_in)

@@ -21,6 +21,20 @@ pub record IsFedSoFar (first : FeedView) (came : List ℕ) (fed : List Fed) : Ty
   pub by : IsWatchedBy first came false state fed
   pub held : length state.stream.held < 1128
 
+-- the most bytes of one read; units that they make whole go out before the next
+abbrev pub longest_piece : ℕ
+longest_piece = 2 ^ 16
+
+-- before the last read, which gave at most 64 KiB of these bytes, nothing showed that the description is of another stream
+pub record IsUnrefused (first : FeedView) (came : List ℕ) : Type 0 where
+  pub earlier : List ℕ
+  pub last : List ℕ
+  pub came_is : came ≡ earlier ++ last
+  pub most : length last ≤ longest_piece
+  pub before : List Fed
+  pub fed_is : IsFedSoFar first earlier before
+  pub unrefused : have_refusal before ≡ false
+
 -- 2. What went out of it
 
 -- these bytes of the input were read, and their records went to the output, and a line for everything else to the error output
@@ -31,13 +45,14 @@ pub record Passes (pids : List ℕ) (came : List ℕ) (fed : List Fed) (input ou
   pub reports_all : ReportsAll faults.before faults.after (fed_lines pids fed)
 
 -- the input came to its end, and all that it feeds went out; or the description is of another stream, and the stream is taken to end with
--- the read that shows it
+-- the first read that shows it
 pub record PassesAll (first : FeedView) (pids : List ℕ) (input output faults : Device) (faulty : Bool) : Type 0 where
   pub came : List ℕ
   pub fed : List Fed
   pub fed_is : IsWatchedOf first came fed
   pub passes : Passes pids came fed input output faults
   pub ends : IsAtEnd input.after.bytes ⊎ (have_refusal fed ≡ true)
+  pub unrefused : IsUnrefused first came
   pub unfailed : IsClean input
   pub faulty_is : faulty ≡ have_fault fed
 
@@ -54,6 +69,7 @@ pub record PassesFront (first : FeedView) (pids : List ℕ) (halt : Halt) (input
   pub fed : List Fed
   pub fed_is : IsFedSoFar first came fed
   pub untaken : List ℕ
+  pub unrefused : IsUnrefused first (came ++ untaken)
   pub passes : Passes pids (came ++ untaken) fed input output faults
   pub stopped : IsStopped halt came untaken input
 
@@ -64,6 +80,7 @@ pub record FailsToPass (first : FeedView) (pids : List ℕ) (input output faults
   pub before : List Fed
   pub last : List Fed
   pub fed_is : IsFedSoFar first came (before ++ last) ⊎ IsWatchedOf first came (before ++ last)
+  pub unrefused : IsUnrefused first came
   pub read : Consumes input.before.bytes input.after.bytes came
   pub taken : ℕ
   pub written : Takes output (fed_records before ++ take taken (fed_records last))
@@ -77,10 +94,6 @@ PassesOn first pids input output faults (Err Write) = FailsToPass first pids inp
 PassesOn first pids input output faults (Err Memory) = PassesFront first pids Memory input output faults
 
 -- 3. Piece by piece
-
--- the most bytes of one read; units that they make whole go out before the next
-abbrev pub longest_piece : ℕ
-longest_piece = 2 ^ 16
 
 -- a read gave bytes of the input, and all that they make whole is fed
 pub record FeedsSome (old : WatchedView) (input : Device) (new : WatchedView) (fed : List Fed) : Type 0 where
@@ -99,7 +112,8 @@ FeedsPiece old input new fed (Ok true) = FeedsSome old input new fed
 FeedsPiece old input new fed (Ok false) = Consumes input.before.bytes input.after.bytes [] × IsClean input × IsAtEnd input.after.bytes × (new ≡ old)
 FeedsPiece old input new fed (Err Read) = Keeps input.before.bytes input.after.bytes × CountsOne input.before.failed input.after.failed
 FeedsPiece old input new fed (Err Write) = ⊥
-FeedsPiece old input new fed (Err Memory) = (piece : List ℕ) × Consumes input.before.bytes input.after.bytes piece × IsClean input
+FeedsPiece old input new fed (Err Memory) =
+    (piece : List ℕ) × Consumes input.before.bytes input.after.bytes piece × IsClean input × (length piece ≤ longest_piece)
 
 -- the fed records go out, and then a line for everything else; or the writer fails within the records
 abbrev pub GoesOut : List ℕ → List Fed → Device → Device → Result Bool Halt → Type 0
@@ -121,7 +135,7 @@ pub record Midway (first : FeedView) (pids : List ℕ) (input output faults : De
 
 abbrev pub PassesPieces : FeedView → List ℕ → Device → Device → Device → Result Bool Halt → WatchedView → Type 0
 PassesPieces first pids input output faults (Ok faulty) state =
-    (m : Midway first pids input output faults faulty state) × (IsAtEnd input.after.bytes ⊎ (have_refusal m.fed ≡ true))
+    (m : Midway first pids input output faults faulty state) × (IsAtEnd input.after.bytes ⊎ (have_refusal m.fed ≡ true)) × IsUnrefused first m.came
 PassesPieces first pids input output faults (Err Read) state = PassesFront first pids Read input output faults
 PassesPieces first pids input output faults (Err Write) state = FailsToPass first pids input output faults
 PassesPieces first pids input output faults (Err Memory) state = PassesFront first pids Memory input output faults

@@ -165,7 +165,9 @@ impl FaultKind {
             | FaultKind::MultiplexingExcess
             | FaultKind::ElementaryExcess
             | FaultKind::SystemExcess
-            | FaultKind::SystemMainExcess => Some(Check::Buffer),
+            | FaultKind::SystemMainExcess
+            | FaultKind::Late
+            | FaultKind::ElementaryLate => Some(Check::Buffer),
             FaultKind::PcrRepetition => Some(Check::PcrRepetition),
             FaultKind::PcrDiscontinuity => Some(Check::PcrDiscontinuity),
             FaultKind::PcrAccuracy => Some(Check::PcrAccuracy),

@@ -29,7 +29,7 @@ pub struct DoubtfulClock {
 pub struct Origin {
     /// The constant of the units that begin in the packet `since` or later.
     pub now: Option<u64>,
-    /// The packet at which the clock jumped last; 0 where it has not.
+    /// The packet at which the clock jumped last; 0 if it has not.
     pub since: u64,
     /// The constant of the units that begin before it.
     pub before: Option<u64>,
@@ -148,7 +148,7 @@ impl Origin {
         origin
     }
 
-    /// Returns the clock jumps at a packet: it is taken to show `shown` at a moment.
+    /// Returns the origin after the clock jumps at a packet: it is taken to show `shown` at a moment.
     #[tactic(auto, unfolding(crate::specs::Origins::origin_jumped))]
     pub fn jumped(self, packet: u64, moment: u64, shown: u64) -> Origin
         requires { spec.IsOrigin self }

@@ -75,7 +75,7 @@ named_text there = first_text there.first ++ (next_text there.second ++ (next_te
 unfoldable pub refusal_line : JobRefusal → List ℕ
 refusal_line NoPackets = codes "not a stream of 188-byte packets\n"
 refusal_line NoAssociation = codes "no PAT: the stream is empty, or names no programs\n"
-refusal_line (NoProgram there) = codes "no PMT: none of the programs that are asked for is there; the PAT names " ++ named_text there
+refusal_line (NoProgram there) = codes "no PMT: no program that is asked for has one with a stream; the PAT names " ++ named_text there
 refusal_line NoStream = codes "no stream\n"
 refusal_line Scrambled = codes "no stream that is not scrambled\n"
 refusal_line (Programs count) = decimal count ++ codes " programs: more than 16\n"

@@ -265,7 +265,7 @@ fn write_no_program(there: NamedNumbers, text: &mut String) -> Result<(), AllocE
     ensures { OnOk result
         (string_bytes text.new ≡ string_bytes text.old ++ spec.refusal_line (refusals.NoProgram there)) }
 {
-    text.push_str("no PMT: none of the programs that are asked for is there; the PAT names ")?;
+    text.push_str("no PMT: no program that is asked for has one with a stream; the PAT names ")?;
     write_named(there, text)
 }
 

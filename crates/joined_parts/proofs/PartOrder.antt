@@ -1,18 +1,17 @@
 -- The parts of a recording, one after another
-use Rattle.std.proofs.Common.{◌≡◌, ◌∙◌, ◌≤◌, ◌<◌, ℕ, zero, suc, ◌+◌, ◌-◌, ◌%◌, ◌^◌, ◌&&◌, Bool, true, false, if◌then◌else◌, Option, Some, None, List, []}
+use Rattle.std.proofs.Common.{◌≡◌, ◌∙◌, ◌≤◌, ◌<◌, ℕ, zero, suc, ◌+◌, ◌-◌, ◌*◌, ◌%◌, ◌^◌, ◌&&◌, Bool, true, false, if◌then◌else◌, Option, Some, None, List, []}
 use Rattle.std.proofs.Common.{◌∷◌, refl, sym, ap, subst, arith}
-use Rattle.std.specs.Prelude.{fold, max, min, nat_le, slice_get, unwrap_or}
+use Rattle.std.specs.Prelude.{fold, max, nat_le, slice_get, unwrap_or}
 use Rattle.std.proofs.lemmas.Bool.{le-leb, leb-true}
 use Rattle.std.proofs.lemmas.Option.{same_Some}
 use Rattle.std.proofs.Math.Nat.{le_trans}
 use Rattle.fed_streams.specs.Ticks.{jump_pause}
 use Rattle.es_moments.specs.Stamps.{distance}
 use Rattle.es_moments.proofs.StampMoments.{shows}
-use Rattle.joined_parts.specs.Joins.{cut_if, is_between, joined_after, later, lead_of, least_of, nearest, reach_of, shift_after, shift_if, with_lead}
+use Rattle.joined_parts.specs.Joins.{cut_if, is_between, later, lead_of, least_of, nearest, reach_of, shift_if, with_lead}
 use Rattle.joined_parts.specs.Joins.{with_reach}
 use Rattle.joined_parts.specs.Laws.{PartsComeInOrder}
 use Rattle.joined_parts.specs.declared.cuts.Cut.{Cut}
-use Rattle.joined_parts.specs.declared.joins.Join.{Join}
 use Rattle.joined_parts.specs.declared.stamps.UnitStamp.{UnitStamp}
 
 both : (a b : Bool) → a ≡ true → b ≡ true → (a && b) ≡ true
@@ -129,8 +128,11 @@ same_place before by shift = omega arith
 after_end : (place reach pause more : ℕ) → ((place + reach + pause) % 2 ^ 33 + more) % 2 ^ 33 ≡ (place + (reach + pause + more)) % 2 ^ 33
 after_end place reach pause more = omega arith
 
+abbrev IsPartLater : ℕ → Type 0
+IsPartLater by = (jump_pause ≤ by) × (by ≤ jump_pause + 2 * nearest)
+
 apart : (before reach x base lead y shift s t : ℕ) → x ≡ distance before s → y ≡ distance base t → x ≤ reach → reach ≤ nearest → lead ≤ y → y ≤ nearest →
-    jump_pause ≤ distance (later s shift) (later t (distance (later base lead) (later (later before shift) (later reach jump_pause))))
+    IsPartLater (distance (later s shift) (later t (distance (later base lead) (later (later before shift) (later reach jump_pause)))))
 apart before reach x base lead y shift s t x_is y_is in_reach few least near =
     let place : ℕ = before + shift in
     let end : ℕ = later (later before shift) (later reach jump_pause) in
@@ -145,7 +147,7 @@ apart before reach x base lead y shift s t x_is y_is in_reach few least near =
     let far : distance (later s shift) (later t next) ≡ reach + jump_pause + (y - lead) - x =
     ap (λ (n : ℕ). distance n (later t next)) one ∙ ap (λ (n : ℕ). distance ((place + x) % 2 ^ 33) n) other
     ∙ gap place x (reach + jump_pause + (y - lead)) (omega arith) (omega arith) in
-    omega (arith, far)
+    (omega (arith, far), omega (arith, far))
 
 pub in_order : PartsComeInOrder
 in_order stamps before cut next i k s t at_s at_t part_s part_t near_s near_t =

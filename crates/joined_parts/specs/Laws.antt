@@ -1,5 +1,5 @@
 -- What the laws of this crate say.
-use Rattle.std.specs.Prelude.{◌≡◌, ◌≤◌, ℕ, ◌^◌, true, List, [], Option, Some, map, slice_get}
+use Rattle.std.specs.Prelude.{◌≡◌, ◌≤◌, ℕ, ◌+◌, ◌*◌, true, List, [], Option, Some, map, slice_get}
 use Rattle.pid_findings.specs.Views.{FindingView, WhatView, IsPes}
 use Rattle.pes_packet.specs.declared.reading.PesHeader.{PesHeader}
 use Rattle.pes_packet.specs.declared.time_stamps.Stamps.TheVariants.{Absent}
@@ -44,10 +44,15 @@ WholeRecordingStays = (references : List FoundPcr) (findings : List FindingView)
 
 -- 2. The order of parts
 
--- a unit of the part after a cut is due 0.3 s after each unit of the part before it, or later, if their DTS are near to the references beside the cut
+-- how long after a unit of the part before a cut a unit of the part after it is due
+abbrev pub apart_by : List UnitStamp → Option Join → Cut → Option Cut → UnitStamp → UnitStamp → ℕ
+apart_by stamps before cut next s t = distance (later s.dts (shift_if before)) (later t.dts (joined_after stamps before cut next).shift)
+
+-- at least 0.3 s and at most 20.3 s, if the DTS of each is at most 10 s after the reference beside the cut: the last one before the cut for the unit before
+-- it, the first one after the cut for the unit after it
 abbrev pub PartsComeInOrder : Type 0
 PartsComeInOrder = (stamps : List UnitStamp) (before : Option Join) (cut : Cut) (next : Option Cut) (i k : ℕ) (s t : UnitStamp) →
     slice_get stamps i ≡ Some s → slice_get stamps k ≡ Some t →
     is_between cut.pid (cut_if before) (Some cut) s ≡ true → is_between cut.pid (Some cut) next t ≡ true →
     distance cut.before s.dts ≤ nearest → distance cut.base t.dts ≤ nearest →
-    jump_pause ≤ distance (later s.dts (shift_if before)) (later t.dts (joined_after stamps before cut next).shift)
+    (jump_pause ≤ apart_by stamps before cut next s t) × (apart_by stamps before cut next s t ≤ jump_pause + 2 * nearest)

@@ -12,7 +12,8 @@ pub fn whole_recording_stays()
     ensures { WholeRecordingStays }
 {}
 
-/// States that the units after a cut are due 0.3 s after the units before it, or later.
+/// States that each unit after a cut is due at least 0.3 s and at most 20.3 s after each unit before it, if the DTS of
+/// each is at most 10 s after the reference beside the cut.
 pub fn parts_come_in_order()
     ensures { PartsComeInOrder }
 {}

@@ -121,7 +121,7 @@ pub fn stray_payload()
 {}
 
 /// States that a job is made of a small stream: a demultiplexer finds a PAT, a PMT and two units of sound in its four
-/// packets, and these findings give the input of a job, of which each value is known. So the laws above are about
+/// packets, and these findings give the input of a job, whose values are all known. So the laws above are about
 /// something.
 pub fn worked_job()
     ensures { WorkedJob }

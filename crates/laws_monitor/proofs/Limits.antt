@@ -8,4 +8,16 @@ monitor_limits rate given = record { pat = refl; pmt = refl; nit = refl; sdt = r
 
 pub tsview_limits : TsviewKeeps
 unfolding milliseconds
-tsview_limits = record { pat = refl; pmt = λ pid. refl; nit = refl; sdt = refl; eit = refl; tdt = refl; pcr = λ given. refl; pts = refl; gap = refl; seconds = refl }
+tsview_limits = record {
+  pat = refl;
+  pmt = λ pid. refl;
+  nit = refl;
+  sdt = refl;
+  eit = refl;
+  tdt = refl;
+  pcr = λ given. refl;
+  pts = refl;
+  gap = refl;
+  distance = refl;
+  seconds = refl;
+}

@@ -2,6 +2,7 @@
 use Rattle.std.specs.Prelude.{◌≡◌, ℕ, ◌*◌, List, codes, Some}
 use Rattle.arrival.specs.Clock.{greatest_interval}
 use Rattle.tr101290.specs.Limits.{milliseconds}
+use Rattle.tr101290.specs.declared.distances.TheConstants.{LEAST_DISTANCE}
 use Rattle.tr101290.specs.declared.stamps.TheConstants.{GREATEST_PTS_INTERVAL}
 use Rattle.pid_gaps.specs.declared.gaps.TheConstants.{LONGEST_GAP, LONGEST_SECONDS}
 use Rattle.monitor.specs.declared.fault.Rule.{Rule}
@@ -52,6 +53,10 @@ pts_limit = limit rules.Pts (codes "2.5") 700 700 700
 abbrev pub longest_gap : ℕ
 longest_gap = 5000
 
+-- EN 300 468, 5.1.4: at least 25 ms from the end of a section to the next one of its table, which `tsview` alone looks at
+abbrev pub least_distance : ℕ
+least_distance = 25
+
 -- a monitor that has taken nothing keeps these limits, at a rate in bits a second
 pub record MonitorKeeps (rate given : ℕ) (m : MonitorState) : Type 0 where
   pub pat : m.found.pat.marks.limit_times_rate ≡ pat_limit.monitor * rate
@@ -66,7 +71,7 @@ pub record MonitorKeeps (rate given : ℕ) (m : MonitorState) : Type 0 where
 abbrev pub MonitorLimits : Type 0
 MonitorLimits = (rate given : ℕ) → MonitorKeeps rate given (none_taken rate given)
 
--- the limits of `tsview`: of tables by PID and table_id in milliseconds, of clock references, time stamps and packets in ticks of 27 MHz, of packets in seconds
+-- the limits of `tsview`: of tables by PID and table_id in milliseconds; of clock references, time stamps, packets and sections in ticks of 27 MHz; of packets in seconds
 pub record TsviewKeeps : Type 0 where
   pub pat : milliseconds 0x00 0x00 ≡ Some pat_limit.tsview
   pub pmt : (pid : ℕ) → milliseconds pid 0x02 ≡ Some pmt_limit.tsview
@@ -77,4 +82,5 @@ pub record TsviewKeeps : Type 0 where
   pub pcr : (given : ℕ) → greatest_interval ≡ (pcr_limit given).tsview * 27000
   pub pts : GREATEST_PTS_INTERVAL ≡ pts_limit.tsview * 27000
   pub gap : LONGEST_GAP ≡ longest_gap * 27000
+  pub distance : LEAST_DISTANCE ≡ least_distance * 27000
   pub seconds : LONGEST_SECONDS * 1000 ≡ longest_gap

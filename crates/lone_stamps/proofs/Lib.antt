@@ -3,5 +3,7 @@ pub mod ChangedFindings
 pub mod PidSearch
 pub mod DamagedFindings
 pub mod PidsApart
+pub mod FoundStamps
 pub mod OrderedStamps
 pub mod AloneStamps
+pub mod DamageLimits

@@ -1,6 +1,7 @@
 -- Stamps in order: none is found
 use Rattle.std.proofs.Common.{◌≡◌, ◌∙◌, ℕ, ◌&&◌, ◌||◌, ◌++◌, Bool, true, false, cond, not, Option, Some, None, List, [], ◌∷◌, filter}
 use Rattle.std.proofs.Common.{refl, sym, ap, ap₂}
+use Rattle.std.proofs.lemmas.Bool.{and_parts}
 use Rattle.std.specs.List.{cons_option, list_any}
 use Rattle.lone_stamps.specs.Laws.{OrderedStays, are_in_order, are_in_order_after, is_in_order, stamps_on}
 use Rattle.lone_stamps.specs.LoneStamps.{all_lone, falls_by, is_damage, is_last_lone, is_lone, is_on, lone_at, lone_damaged, lone_in, next_last, no_stamps}
@@ -8,6 +9,7 @@ use Rattle.lone_stamps.specs.declared.pes_stamps.PesStamp.{PesStamp}
 use Rattle.lone_stamps.specs.declared.search.LastStamps.{LastStamps}
 use Rattle.lone_stamps.specs.declared.search.LonePes.{LonePes}
 use Rattle.lone_stamps.proofs.DamagedFindings.{unfound_stay}
+use Rattle.lone_stamps.proofs.FoundStamps.{last_two}
 use Rattle.lone_stamps.proofs.PidSearch.{lone_after, pid_search}
 
 -- 1. Stamps in order are not alone out of order
@@ -36,31 +38,24 @@ unfolding in_order_if is_last_lone
 last_in_order None last next a b = refl
 last_in_order (Some before) last next a b = not_lone before last next a b
 
-both_true : (a b : Bool) → (a && b) ≡ true → (a ≡ true) × (b ≡ true)
-both_true true b is = (refl, is)
-both_true false b is = absurd cc
-
 -- 2. None is found
 
-abbrev last_stamps : Option PesStamp → PesStamp → LastStamps
-last_stamps before last = record { before = before; last = last }
-
 none_at : (pid : ℕ) (before : Option PesStamp) (last next : PesStamp) → is_last_lone before last next ≡ false →
-    lone_at pid (Some (last_stamps before last)) next ≡ None
+    lone_at pid (Some (last_two before last)) next ≡ None
 unfolding lone_at
 none_at pid before last next none = rw none refl
 
 steady : (before : Option PesStamp) (last next : PesStamp) → is_last_lone before last next ≡ false →
-    next_last (Some (last_stamps before last)) next ≡ last_stamps (Some last) next
+    next_last (Some (last_two before last)) next ≡ last_two (Some last) next
 unfolding next_last
 steady before last next none = rw none refl
 
 none_after : (pid : ℕ) (before : Option PesStamp) (last : PesStamp) (ss : List PesStamp) → in_order_if before last ≡ true →
-    are_in_order_after last ss ≡ true → lone_after pid (Some (last_stamps before last)) ss ≡ []
+    are_in_order_after last ss ≡ true → lone_after pid (Some (last_two before last)) ss ≡ []
 unfolding are_in_order_after in_order_if
 none_after pid before last [] here order = refl
 none_after pid before last (s ∷ ss) here order =
-    let both = both_true (is_in_order last s) (are_in_order_after s ss) order in
+    let both = and_parts (is_in_order last s) (are_in_order_after s ss) order in
     let none : is_last_lone before last s ≡ false = last_in_order before last s here both.0 in
     ap₂ (λ (o : Option LonePes) (l : LastStamps). cons_option o (lone_after pid (Some l) ss)) (none_at pid before last s none) (steady before last s none)
     ∙ none_after pid (Some last) s ss both.0 both.1

@@ -21,7 +21,7 @@ use Rattle.lone_stamps.specs.declared.search.LonePes.{LonePes}
 pub itself : (a : ℕ) → nat_eq a a ≡ true
 itself a = eq-eqb a a refl
 
-apart : (a b : ℕ) → (a ≡ b → ⊥) → nat_eq a b ≡ false
+pub apart : (a b : ℕ) → (a ≡ b → ⊥) → nat_eq a b ≡ false
 apart a b f = elim (eqb_tells a b) [
   | inl same ↦ absurd (f same.1)
   | inr other ↦ other.0
@@ -161,7 +161,7 @@ pub record PidSearch (pid : ℕ) (s : SearchView) (fs : List FindingView) : Type
   pub kept : filter (is_on pid) (search_after s fs).lone ≡ filter (is_on pid) s.lone ++ found
   pub whole : length (search_after s fs).lone < 256 → rest ≡ []
 
-cons_append : (o : Option LonePes) (a b : List LonePes) → cons_option o (a ++ b) ≡ cons_option o a ++ b
+pub cons_append : (o : Option LonePes) (a b : List LonePes) → cons_option o (a ++ b) ≡ cons_option o a ++ b
 cons_append None a b = refl
 cons_append (Some l) a b = refl
 

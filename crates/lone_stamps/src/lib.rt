@@ -6,8 +6,8 @@
 //! - [`PesStamp`], [`stamp_at`], [`begin_of`]: the stamps of a PES packet, and where it begins (`specs/PesStamps`).
 //! - `search`: the PES packets whose stamps are alone out of order, in one pass (`specs/LoneStamps`).
 //! - [`damage_lone_stamps`]: the findings of a stream, in which they are damaged.
-//! - [`each_pid_alone`], [`all_else_stays`], [`ordered_stays`], [`each_is_alone`]: laws over the definitions
-//!   (`specs/Laws`).
+//! - [`each_pid_alone`], [`all_else_stays`], [`ordered_stays`], [`each_is_alone`], [`lone_is_found`],
+//!   [`limit_is_exact`]: laws over the definitions (`specs/Laws`).
 #![tactic(auto)]
 
 mod damage;
@@ -16,5 +16,7 @@ mod pes_stamps;
 mod search;
 
 pub use damage::damage_lone_stamps;
-pub use laws::{all_else_stays, each_is_alone, each_pid_alone, ordered_stays};
+pub use laws::{
+    all_else_stays, each_is_alone, each_pid_alone, limit_is_exact, lone_is_found, ordered_stays,
+};
 pub use pes_stamps::{PesStamp, begin_of, stamp_at};

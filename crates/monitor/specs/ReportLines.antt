@@ -25,7 +25,7 @@ rule_name rules.Pcr = codes "pcr"
 rule_name rules.Pts = codes "pts"
 rule_name rules.Cut = codes "cut"
 
--- a PID, `-` where there is none
+-- a PID, or `-` for no PID
 unfoldable pub pid_text : Option ℕ → List ℕ
 pid_text None = codes "-"
 pid_text (Some pid) = decimal pid

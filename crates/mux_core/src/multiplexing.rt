@@ -68,7 +68,7 @@ pub fn multiplex<A: Allocator + Copy, W: Sink>(
     multiplex_as(alloc, plan, units, slots, false, to)
 }
 
-/// Returns the same, where with `hex` each packet leaves as a line of 376 lower-case digits and LF.
+/// Writes the packets as `multiplex` does; with `hex` each packet is a line of 376 lower-case digits and LF.
 pub fn multiplex_as<A: Allocator + Copy, W: Sink>(
     alloc: A,
     plan: CheckedPlan<A>,
@@ -101,7 +101,8 @@ pub fn multiplex_as<A: Allocator + Copy, W: Sink>(
     written
 }
 
-/// Returns the same over two plans, the first for `periods` of its periods: 1 or more, and 2^40 slots at most.
+/// Writes the packets as `multiplex` does, over two plans, the first for `periods` of its periods: 1 or more, and 2^40
+/// slots at most.
 pub fn multiplex_switch<A: Allocator + Copy, W: Sink>(
     alloc: A,
     switch: CheckedSwitch<A>,
@@ -124,7 +125,7 @@ pub fn multiplex_switch<A: Allocator + Copy, W: Sink>(
     multiplex_switch_as(alloc, switch, periods, units, slots, false, to)
 }
 
-/// Returns the same, where with `hex` each packet leaves as a line of 376 lower-case digits and LF.
+/// Writes the packets as `multiplex_switch` does; with `hex` each packet is a line of 376 lower-case digits and LF.
 pub fn multiplex_switch_as<A: Allocator + Copy, W: Sink>(
     alloc: A,
     switch: CheckedSwitch<A>,

@@ -62,9 +62,9 @@ all_read files words k bytes over all =
     let past : length names ≤ k = omega (arith, size, over) in
     subst (λ (ns : List (List ℕ)). HaveBytes files ns bytes) (take_all k names past) all
 
-pub stops_at_one : (files : Files) (words : List (Bor (List ℕ))) (k : ℕ) (d : Bor (List ℕ)) (faults : Device) (status : ℕ) → k < length words →
-    StopsAt files (get_or words k d).now faults → status ≡ 3 → StopsAtOne files (map (λ s. s.now) words) faults status
-stops_at_one files words k d faults status within stops is =
+pub stops_at_one : (files : Files) (words : List (Bor (List ℕ))) (k : ℕ) (d : Bor (List ℕ)) (bytes : List ℕ) (faults : Device) (status : ℕ) → k < length words →
+    HaveBytes files (take k (map (λ s. s.now) words)) bytes → StopsAt files (get_or words k d).now faults → status ≡ 3 → StopsAtOne files (map (λ s. s.now) words) faults status
+stops_at_one files words k d bytes faults status within read stops is =
     let names = map (λ s. s.now) words in
     let name = (get_or words k d).now in
     let at : name ≡ get_or names k name = mapped_at words k d name within in
@@ -74,6 +74,8 @@ stops_at_one files words k d faults status within stops is =
       name = name;
       after = drop (k + 1) names;
       is = sym (take-append-drop k names) ∙ ap (λ (ns : List (List ℕ)). take k names ++ ns) here;
+      bytes = bytes;
+      read = read;
       stops = stops;
       status_is = is;
     }

@@ -35,12 +35,14 @@ abbrev pub ReadsFile : Files → List ℕ → Device → Result (List ℕ) ℕ �
 ReadsFile files name faults (Ok bytes) = HasBytes files name bytes × IsUntouched faults
 ReadsFile files name faults (Err status) = StopsAt files name faults × (status ≡ 3)
 
--- the first of them that can't be read
+-- the files before one that can't be read were read to their ends
 pub record StopsAtOne (files : Files) (names : List (List ℕ)) (faults : Device) (status : ℕ) : Type 0 where
   pub before : List (List ℕ)
   pub name : List ℕ
   pub after : List (List ℕ)
   pub is : names ≡ before ++ name ∷ after
+  pub bytes : List ℕ
+  pub read : HaveBytes files before bytes
   pub stops : StopsAt files name faults
   pub status_is : status ≡ 3
 

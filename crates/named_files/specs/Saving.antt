@@ -23,7 +23,7 @@ pub record IsSaved (creates keeps : Option Bool) (name bytes : List ℕ) (ended 
   pub clean : IsClean file
   pub kept : Keeps keeps name ended faults status
 
--- the writer failed: the file is removed
+-- the writer failed within the bytes of a new file; that the file is then removed is only tested
 pub record IsRemoved (creates : Option Bool) (name bytes : List ℕ) (faults : Device) (status : ℕ) : Type 0 where
   pub file : Device
   pub new : IsNew creates file

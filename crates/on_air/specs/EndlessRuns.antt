@@ -25,7 +25,7 @@ pub record StaysIn (run : Run) (now later : Air) : Type 0 where
   pub refused : BeginsWith later.refused now.refused
   pub slots : now.slots ≤ later.slots
 
--- a run after these records, more of which may come for ever: exactly the slots that the greatest DTS settles are written, and their bytes keep every promise;
+-- a run after these records, after which more may come for ever: exactly the slots that the greatest DTS settles are written, and their bytes keep every promise;
 -- what was written, accepted and refused stays, whatever records come later, and also if the input then ends
 pub record HoldsSoFar (run : Run) (entries : List (ℕ × AccessUnit)) : Type 0 where
   pub slots : (aired_all run entries).slots ≡ settled_at run (aired_all run entries).greatest

@@ -28,7 +28,7 @@ fn table_name(kind: Option<TableKind>) -> ItemName
     }
 }
 
-// The number of the program of a place, 0 where there is none.
+// Returns the number of the program of a place; 0 if there is no program.
 #[tactic(auto, unfolding(crate::specs::PlanItems::number_at))]
 fn number_at(description: &Description, place: usize) -> u16
     ensures { result ≡ spec.number_at description.now place }

@@ -6,7 +6,7 @@
 //! - [`ViewRequest`]: the request of a view, in two parts: [`ViewOptions`], how the packets arrive and the length of a
 //!   window; and [`ViewChoice`], the programs whose streams are viewed, and buffers that are given.
 //!
-//! The main buffer of sound whose frames have headers is viewed by access units (`specs/EntryFrames`), unless its
+//! The main buffer of sound whose frames have headers is viewed by access units (`es_view/specs/EntryFrames`), unless its
 //! buffers are given; all other main buffers by PES packets.
 //!
 //! Memory does not grow with the stream: the counts and the last clock reference of each PID, what the first packets

@@ -346,7 +346,8 @@ impl StreamTable {
         are_crowded(&self.entries)
     }
 
-    /// Returns whether no buffer held more than its size, and no unit was late.
+    /// Returns whether no buffer held more than its size, no unit was late, no byte stayed too long, and no buffer was
+    /// not empty for more than a second.
     pub fn is_good(&self) -> bool
         ensures { (t : TableState) → IsTable self.now t → result ≡ spec.is_good t }
     {

@@ -24,6 +24,7 @@ use Rattle.tsair_cli.specs.AirRuns.{AirsJob, AirsRecords, Begins, begin_cause, b
 use Rattle.tsair_cli.specs.Endings.{end_outcome}
 use Rattle.tsair_cli.specs.Fronts.{ReadsPlans}
 use Rattle.tsair_cli.specs.HeardRecords.{EndsRecords, FailsRecords}
+use Rattle.tsair_cli.proofs.HeardRecords.{stopped_at_most}
 
 -- If no packet waits, all packets are written.
 whole_output : (start now : Option (List ℕ)) (packets : Buffered) (all : List ℕ) → waiting_of packets ≡ [] → IsOutput start now packets all →
@@ -32,12 +33,13 @@ whole_output start now packets all none o =
     subst (λ (bytes : List ℕ). Appends start now bytes) (sym (o.is ∙ ap (λ (l : List ℕ). o.written ++ l) none ∙ append-nil o.written)) o.taken
 
 pub records_failed : (o : AirOptions) (run : Run) (input output : Device) (before so_far after : Port) (sent status : ℕ) →
-    FailsRecords run output.before.bytes input output (between before so_far) sent → Reports (between so_far after) (halt_line Write) → status ≡ 3 →
+    FailsRecords run o.stop output.before.bytes input output (between before so_far) sent → Reports (between so_far after) (halt_line Write) → status ≡ 3 →
     AirsRecords o run input output (between before after) status
 records_failed o run input output before so_far after sent status f r s = inr (record {
   rest = input.after.bytes;
   so_far = so_far;
   airs = f.airs;
+  stops = f.stops;
   air = f.airs.came;
   air_is = inl refl;
   sent = sent;
@@ -62,6 +64,7 @@ run_ended o run input begin mid end before so_far after why s t records status e
       airs = e.airs;
       end = why;
       ends = e.ends;
+      stops = e.stops;
       refused = e.refused;
       reader = e.reader;
       written = whole_output begin.bytes end.bytes t.packets (air_output run (ended run e.airs.came)) none h.output;
@@ -79,6 +82,7 @@ end_failed o run input begin mid end before so_far after why s sent status e f f
   rest = e.rest;
   so_far = so_far;
   airs = e.airs;
+  stops = λ on. stopped_at_most e.airs.came why.why (e.stops on);
   air = ended run e.airs.came;
   air_is = inr refl;
   sent = sent;

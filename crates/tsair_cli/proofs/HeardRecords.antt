@@ -1,8 +1,8 @@
 -- Records that arrive one after another, and the lines for refused records
-use Rattle.std.proofs.Common.{◌≡◌, ◌<◌, ◌+◌, ℕ, Bool, true, false, nat_lt, List, [], ◌∷◌, ◌++◌, length, map, Option, Some, None, Result, Ok, Err, refl, sym, ap}
-use Rattle.std.proofs.Common.{◌∙◌, subst, arith, below_none, length-append}
+use Rattle.std.proofs.Common.{◌≡◌, ◌≤◌, ◌<◌, ◌+◌, ℕ, Bool, true, false, nat_lt, List, [], ◌∷◌, ◌++◌, length, map, Option, Some, None, Result, Ok, Err, refl}
+use Rattle.std.proofs.Common.{sym, ap, ◌∙◌, subst, arith, below_none, length-append}
 use Rattle.std.proofs.lemmas.List.{map-append}
-use Rattle.std.proofs.lemmas.Bool.{lt-ltb}
+use Rattle.std.proofs.lemmas.Bool.{false≢true, lt-ltb}
 use Rattle.devices.specs.Devices.{Device, Port, HasFailed, IsClean, between}
 use Rattle.devices.specs.Lines.{Reports, ReportsAll}
 use Rattle.devices.proofs.ReportedTexts.{reported_more, reported_none}
@@ -17,7 +17,7 @@ use Rattle.on_air.specs.Airing.{Run, Air, caught_up, heard, silence, limit_of}
 use Rattle.on_air.specs.AirStates.{AirState, IsOnAir}
 use Rattle.on_air.specs.Hearing.{Fails, HasHeard, HeardOn, HearsOn, NamesDevice}
 use Rattle.tsair_cli.specs.declared.hearing.RecordsEnd.{RecordsEnd}
-use Rattle.tsair_cli.specs.HeardRecords.{Airs, EndsRecords, FailsRecords, HearsAll, NamesReader, has_refused, refusal_line}
+use Rattle.tsair_cli.specs.HeardRecords.{Airs, EndsRecords, FailsRecords, HearsAll, NamesReader, StopsAtFirst, has_refused, refusal_line}
 
 -- 1. The lines about refused records
 
@@ -34,6 +34,25 @@ some_refused old new refused is =
     let size : length new ≡ length (old ++ (refused ∷ [])) = ap length is in
     let more : length (old ++ (refused ∷ [])) ≡ length old + 1 = length-append old (refused ∷ []) in
     lt-ltb 0 (length new) (omega (arith, size, more))
+
+-- No record is refused if none is counted.
+none_refused : (refused : Bool) (l : List (ℕ × AirRefusal)) → refused ≡ nat_lt 0 (length l) → refused ≡ false → l ≡ []
+none_refused refused [] is none = refl
+none_refused refused (r ∷ rs) is none = absurd (false≢true (sym none ∙ is ∙ lt-ltb 0 (length (r ∷ rs)) (omega arith)))
+
+-- After no other record a refused record is the only one.
+one_refused : (old new : List (ℕ × AirRefusal)) (refused : ℕ × AirRefusal) → new ≡ old ++ (refused ∷ []) → old ≡ [] → length new ≡ 1
+one_refused old new refused is none = ap length is ∙ ap (λ (l : List (ℕ × AirRefusal)). length (l ++ (refused ∷ []))) none
+
+at_most_one : (l : List (ℕ × AirRefusal)) → length l ≡ 1 → length l ≤ 1
+at_most_one l one = omega (arith, one)
+
+at_most_none : (l : List (ℕ × AirRefusal)) → l ≡ [] → length l ≤ 1
+at_most_none l none = let size : length l ≡ 0 = ap length none in omega (arith, size)
+
+pub stopped_at_most : (came : Air) (why : Option Ending) → StopsAtFirst came why → length came.refused ≤ 1
+stopped_at_most came None one = at_most_one came.refused one
+stopped_at_most came (Some why) none = at_most_none came.refused none
 
 -- 2. Up to a refused record, or to the end
 
@@ -84,20 +103,23 @@ next run origin mid left start now later last before so_far after refused s hear
 }
 
 -- The writer failed within the slots up to a record that the run follows.
-pub follow_fails : (run : Run) (mid start now later : Option (List ℕ)) (input output : Device) (before so_far after : Port) (refused : Bool)
+pub follow_fails : (run : Run) (stop : Bool) (mid start now later : Option (List ℕ)) (input output : Device) (before so_far after : Port) (refused : Bool)
     (s heard_to : AirState) (index : ℕ)
     (cause : AirRefusal) (sent : ℕ) (m : Midway run input.before.bytes mid start now (between before so_far) refused s) →
     HearsOn run m.airs.came input.before.bytes input.after.bytes start later (Ok (Refused index cause)) heard_to →
     ((a : Air) → IsOnAir run a start later heard_to → Fails run (caught_up run a (Some cause)) start output.after.bytes sent) →
-    Reports (between so_far after) (refusal_line (index, cause)) → IsClean input → HasFailed output →
-    FailsRecords run start input output (between before after) sent
-follow_fails run mid start now later input output before so_far after refused s heard_to index cause sent m (b, heard_on, adds, state) failing r clean failed =
+    Reports (between so_far after) (refusal_line (index, cause)) → (stop ≡ true → refused ≡ false) → IsClean input → HasFailed output →
+    FailsRecords run stop start input output (between before after) sent
+follow_fails run stop mid start now later input output before so_far after refused s heard_to index cause sent m (b, heard_on, adds, state) failing r first_one
+    clean failed =
     record {
       airs = record {
         came = caught_up run b (Some cause);
         heard_is = heard_on;
         so_far = reported_refused before so_far after m.airs.came.refused b.refused (index, cause) adds m.airs.so_far r;
       };
+      stops = λ on. at_most_one b.refused
+          (one_refused m.airs.came.refused b.refused (index, cause) adds (none_refused refused m.airs.came.refused m.refused_is (first_one on)));
       fails = failing b state;
       clean = clean;
       failed = failed;
@@ -132,37 +154,53 @@ pub ends : (run : Run) (stop : Bool) (mid start now : Option (List ℕ)) (input 
     (m : Midway run input.before.bytes mid start now faults refused s) →
     HearsOn run m.airs.came input.before.bytes input.after.bytes start output.after.bytes (Ok (Ended why)) new →
     NamesDevice (Ok (Ended why)) input.before.failed input.after.failed output.before.failed output.after.failed →
-    EndsRecords run stop start input output faults (record { has_refused = refused; why = Some why }) new
-ends run stop mid start now input output faults refused s new why m (b, (rest, heard_on, ends_at), same, state) n = record {
+    (stop ≡ true → refused ≡ false) → EndsRecords run stop start input output faults (record { has_refused = refused; why = Some why }) new
+ends run stop mid start now input output faults refused s new why m (b, (rest, heard_on, ends_at), same, state) n first_one = record {
   rest = rest;
   airs = record { came = b; heard_is = heard_on; so_far = reported_same faults.before faults.after m.airs.came.refused b.refused same m.airs.so_far };
   ends = ends_at;
+  stops = λ on. same ∙ none_refused refused m.airs.came.refused m.refused_is (first_one on);
   refused = m.refused_is ∙ ap (λ (l : List (ℕ × AirRefusal)). nat_lt 0 (length l)) (sym same);
   state = state;
   reader = reader_named input why output.before.failed output.after.failed n;
   clean = writer_clean why input.before.failed input.after.failed output.before.failed output.after.failed n;
 }
 
-pub stops : (run : Run) (stop : Bool) (start : Option (List ℕ)) (input output faults : Device) (s : AirState) → stop ≡ true →
-    Midway run input.before.bytes input.after.bytes start output.after.bytes faults true s → IsClean input → IsClean output →
-    EndsRecords run stop start input output faults (record { has_refused = true; why = None }) s
-stops run stop start input output faults s is m r w = record {
-  rest = input.after.bytes;
-  airs = m.airs;
-  ends = (is, (sym m.refused_is, refl));
-  refused = m.refused_is;
-  state = m.state;
-  reader = r;
-  clean = w;
-}
+-- The first refused record is reported, and followed if the run follows such records; it ends the run.
+pub stops : (run : Run) (stop : Bool) (mid start now later : Option (List ℕ)) (input output : Device) (before so_far after : Port) (refused : Bool)
+    (s heard_to new : AirState) (index : ℕ) (cause : AirRefusal)
+    (m : Midway run input.before.bytes mid start now (between before so_far) refused s) →
+    HearsOn run m.airs.came input.before.bytes input.after.bytes start later (Ok (Refused index cause)) heard_to →
+    ((a : Air) → IsOnAir run a start later heard_to → IsOnAir run (caught_up run a (Some cause)) start output.after.bytes new) →
+    Reports (between so_far after) (refusal_line (index, cause)) → stop ≡ true → (stop ≡ true → refused ≡ false) → IsClean input → IsClean output →
+    EndsRecords run stop start input output (between before after) (record { has_refused = true; why = None }) new
+stops run stop mid start now later input output before so_far after refused s heard_to new index cause m (b, heard_on, adds, state) follows r on first_one clean
+    written =
+    let some = some_refused m.airs.came.refused b.refused (index, cause) adds in
+    record {
+      rest = input.after.bytes;
+      airs = record {
+        came = caught_up run b (Some cause);
+        heard_is = heard_on;
+        so_far = reported_refused before so_far after m.airs.came.refused b.refused (index, cause) adds m.airs.so_far r;
+      };
+      ends = (on, (some, refl));
+      stops = λ asked. one_refused m.airs.came.refused b.refused (index, cause) adds
+          (none_refused refused m.airs.came.refused m.refused_is (first_one asked));
+      refused = sym some;
+      state = follows b state;
+      reader = clean;
+      clean = written;
+    }
 
-pub fails : (run : Run) (mid start now : Option (List ℕ)) (input output faults : Device) (refused : Bool) (s new : AirState) (fault : OutputFault)
+pub fails : (run : Run) (stop : Bool) (mid start now : Option (List ℕ)) (input output faults : Device) (refused : Bool) (s new : AirState) (fault : OutputFault)
     (m : Midway run input.before.bytes mid start now faults refused s) →
     HearsOn run m.airs.came input.before.bytes input.after.bytes start output.after.bytes (Err fault) new →
     NamesDevice (Err fault) input.before.failed input.after.failed output.before.failed output.after.failed →
-    FailsRecords run start input output faults fault.sent
-fails run mid start now input output faults refused s new fault m (b, heard_on, same, failing) n = record {
+    (stop ≡ true → refused ≡ false) → FailsRecords run stop start input output faults fault.sent
+fails run stop mid start now input output faults refused s new fault m (b, heard_on, same, failing) n first_one = record {
   airs = record { came = b; heard_is = heard_on; so_far = reported_same faults.before faults.after m.airs.came.refused b.refused same m.airs.so_far };
+  stops = λ on. at_most_none b.refused (same ∙ none_refused refused m.airs.came.refused m.refused_is (first_one on));
   fails = failing;
   clean = n.0;
   failed = n.1;

@@ -1,5 +1,6 @@
 -- The work of the program: a front of its input, a run over its plans, and the records after it.
-use Rattle.std.specs.Prelude.{◌≡◌, ◌⊎◌, ℕ, Bool, if◌then◌else◌, List, [], length, map, Option, Some, None, Result, Ok, Err, codes, is_some, unwrap_or}
+use Rattle.std.specs.Prelude.{◌≡◌, ◌≤◌, ◌⊎◌, ℕ, Bool, true, if◌then◌else◌, List, [], length, map, Option, Some, None, Result, Ok, Err, codes}
+use Rattle.std.specs.Prelude.{is_some, unwrap_or}
 use Rattle.std.specs.Io.KnownBytes.{Appends, Consumes}
 use Rattle.slot_plan.specs.Planned.{Planned}
 use Rattle.plan_checker.specs.Served.{Served}
@@ -21,7 +22,7 @@ use Rattle.tsair_cli.specs.declared.arguments.AirOptions.{AirOptions}
 use Rattle.tsair_cli.specs.declared.front.FrontError.{FrontError}
 use Rattle.tsair_cli.specs.declared.hearing.RecordsEnd.{RecordsEnd}
 use Rattle.tsair_cli.specs.Fronts.{ReadsFront, front_outcome}
-use Rattle.tsair_cli.specs.HeardRecords.{Airs, EndsBy, NamesReader, has_refused}
+use Rattle.tsair_cli.specs.HeardRecords.{Airs, EndsBy, NamesReader, StopsAtFirst, has_refused}
 use Rattle.tsair_cli.specs.Endings.{end_outcome}
 
 -- 1. The run that a job asks for
@@ -58,6 +59,7 @@ pub record EndsRun (o : AirOptions) (run : Run) (input output faults : Device) (
   pub airs : Airs run input.before.bytes rest (between faults.before so_far)
   pub end : RecordsEnd
   pub ends : EndsBy run airs.came o.stop rest input.after.bytes end.why
+  pub stops : o.stop ≡ true → StopsAtFirst airs.came end.why
   pub refused : end.has_refused ≡ has_refused airs.came
   pub reader : NamesReader input end.why
   pub written : Appends output.before.bytes output.after.bytes (air_output run (ended run airs.came))
@@ -68,10 +70,11 @@ pub record EndsRun (o : AirOptions) (run : Run) (input output faults : Device) (
 
 -- the writer failed: it took exactly the first bytes of the output that the records so far settle, or of all slots of the run, and every promise holds for
 -- these slots
-pub record FailsToAir (run : Run) (input output faults : Device) (status : ℕ) : Type 0 where
+pub record FailsToAir (o : AirOptions) (run : Run) (input output faults : Device) (status : ℕ) : Type 0 where
   pub rest : Option (List ℕ)
   pub so_far : Port
   pub airs : Airs run input.before.bytes rest (between faults.before so_far)
+  pub stops : o.stop ≡ true → length airs.came.refused ≤ 1
   pub air : Air
   pub air_is : (air ≡ airs.came) ⊎ (air ≡ ended run airs.came)
   pub sent : ℕ
@@ -81,7 +84,7 @@ pub record FailsToAir (run : Run) (input output faults : Device) (status : ℕ) 
   pub status_is : status ≡ 3
 
 abbrev pub AirsRecords : AirOptions → Run → Device → Device → Device → ℕ → Type 0
-AirsRecords o run input output faults status = EndsRun o run input output faults status ⊎ FailsToAir run input output faults status
+AirsRecords o run input output faults status = EndsRun o run input output faults status ⊎ FailsToAir o run input output faults status
 
 -- 3. The whole
 

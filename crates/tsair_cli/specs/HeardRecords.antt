@@ -1,5 +1,5 @@
 -- The records of a run, taken one after another, and a line for each refused record.
-use Rattle.std.specs.Prelude.{◌≡◌, ◌<◌, ℕ, Bool, true, nat_lt, List, [], ◌∷◌, length, map, Option, Some, None, Result, Ok, Err, codes}
+use Rattle.std.specs.Prelude.{◌≡◌, ◌≤◌, ◌<◌, ℕ, Bool, true, nat_lt, List, [], ◌∷◌, length, map, Option, Some, None, Result, Ok, Err, codes}
 use Rattle.devices.specs.Devices.{Device, Port, HasFailed, IsClean, between}
 use Rattle.devices.specs.Lines.{ReportsAll, line_text}
 use Rattle.packet_output.specs.declared.output.OutputFault.{OutputFault}
@@ -36,10 +36,16 @@ pub record Airs (run : Run) (origin left : Option (List ℕ)) (faults : Device) 
   pub heard_is : HeardOn run origin left came
   pub so_far : ReportsAll faults.before faults.after (map refusal_line came.refused)
 
--- why the run takes no further record: a record was refused, if that ends a run; or the end that comes at this place of the input
+-- why the run takes no further record: a record was refused, if that ends a run; or the end of the input, of the slots or of the records
 abbrev pub EndsBy : Run → Air → Bool → Option (List ℕ) → Option (List ℕ) → Option Ending → Type 0
 EndsBy run came stop before left None = (stop ≡ true) × ((has_refused came ≡ true) × (left ≡ before))
 EndsBy run came stop before left (Some why) = EndsAt run came before left why
+
+-- if the first refused record ends a run: exactly one record was refused if the run has no other end, otherwise no record was refused; a record that the run
+-- follows counts as refused
+abbrev pub StopsAtFirst : Air → Option Ending → Type 0
+StopsAtFirst came None = length came.refused ≡ 1
+StopsAtFirst came (Some why) = came.refused ≡ []
 
 -- a call of the reader failed exactly if that is why
 abbrev pub NamesReader : Device → Option Ending → Type 0
@@ -57,18 +63,20 @@ pub record EndsRecords (run : Run) (stop : Bool) (start : Option (List ℕ)) (in
   pub rest : Option (List ℕ)
   pub airs : Airs run input.before.bytes rest faults
   pub ends : EndsBy run airs.came stop rest input.after.bytes end.why
+  pub stops : stop ≡ true → StopsAtFirst airs.came end.why
   pub refused : end.has_refused ≡ has_refused airs.came
   pub state : IsOnAir run airs.came start output.after.bytes s
   pub reader : NamesReader input end.why
   pub clean : IsClean output
 
 -- the writer failed within the slots of the last record
-pub record FailsRecords (run : Run) (start : Option (List ℕ)) (input output faults : Device) (sent : ℕ) : Type 0 where
+pub record FailsRecords (run : Run) (stop : Bool) (start : Option (List ℕ)) (input output faults : Device) (sent : ℕ) : Type 0 where
   pub airs : Airs run input.before.bytes input.after.bytes faults
+  pub stops : stop ≡ true → length airs.came.refused ≤ 1
   pub fails : Fails run airs.came start output.after.bytes sent
   pub clean : IsClean input
   pub failed : HasFailed output
 
 abbrev pub HearsAll : Run → Bool → Option (List ℕ) → Device → Device → Device → Result RecordsEnd OutputFault → AirState → Type 0
 HearsAll run stop start input output faults (Ok end) s = EndsRecords run stop start input output faults end s
-HearsAll run stop start input output faults (Err fault) s = FailsRecords run start input output faults fault.sent
+HearsAll run stop start input output faults (Err fault) s = FailsRecords run stop start input output faults fault.sent

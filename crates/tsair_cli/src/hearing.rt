@@ -41,7 +41,7 @@ fn report_refused<E: Sink>(faults: &mut E, index: u64, cause: AirRefusal)
 }
 
 /// Takes all records of a run, and reports each refused record before the next is read, and before the slots up to it
-/// are written if the run follows it. On request the first refused record ends the run.
+/// are written if the run follows it. If `stop`, the first refused record ends the run, after those slots.
 pub fn hear_all<R: HeldInput, W: Sink, E: Sink>(
     alloc: Global,
     stop: bool,

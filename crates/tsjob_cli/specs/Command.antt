@@ -72,18 +72,33 @@ pub record Outputs : Type 0 where
 abbrev pub outputs_of : (List ℕ → Option Bool) → (List ℕ → Option Bool) → Option Bool → Outputs
 outputs_of creates keeps shows = record { creates = creates; keeps = keeps; shows = shows }
 
+-- the report for a terminal: it advises `-o`, or `>` for the units of a running stream, since `-o` is refused beside `--stream`
+abbrev pub stream_word : Text
+stream_word = codes "--stream"
+
+abbrev pub terminal_by : Option Text → List ℕ
+terminal_by None = terminal_line
+terminal_by (Some name) = codes "standard output is a terminal: name a file by > FILE\n"
+
+abbrev pub terminal_text : List Text → List ℕ
+terminal_text words = terminal_by (value_given stream_word (option_words words))
+
 -- no packets or units go to a terminal
 pub record IsTerminal (shows : Option Bool) (words : List Text) (input output faults : Device) (status : ℕ) : Type 0 where
   pub binary : is_text words ≡ false
   pub shown : IsAsKnown shows true
   pub unread : IsUntouched input
   pub unwritten : IsUntouched output
-  pub reports : Reports faults terminal_line
+  pub reports : Reports faults (terminal_text words)
   pub status_is : status ≡ 2
+
+-- the output is text, or does not go to a terminal
+abbrev pub MayBeShown : Option Bool → List Text → Type 0
+MayBeShown shows words = (is_text words ≡ true) ⊎ IsAsKnown shows false
 
 abbrev pub ToOutput : Option Bool → List Text → Files → Device → Device → Device → ℕ → Type 0
 ToOutput shows words files input output faults status =
-    IsTerminal shows words input output faults status ⊎ RunsJob words files input output faults status
+    IsTerminal shows words input output faults status ⊎ (MayBeShown shows words × RunsJob words files input output faults status)
 
 -- the output is written to a file, if it is to be kept
 abbrev pub Saves : Option Bool → Option Bool → Text → List ℕ → ℕ → Device → ℕ → Type 0

@@ -15,6 +15,7 @@ use crate::file_words::{file_words, option_words};
 use crate::made_job::{MadeJob, make_job};
 use crate::options::{explain_words, known_for, sorting_words, usage};
 use crate::program::run;
+use crate::streaming::STREAM_TERMINAL;
 use counted_io::{Sink, Source};
 use devices::{Halt, NamedFiles, OutputFiles, report_halt, report_text};
 use named_files::{TERMINAL, save_file};
@@ -26,6 +27,9 @@ use word_faults::{
 
 /// The word of the option that names the file that is written.
 pub const OUTPUT_WORD: &str = "--output";
+
+// The word of the option that names the description of a running stream.
+const STREAM_WORD: &str = "--stream";
 
 /// The short names of options.
 pub const SHORT_NAMES: [ShortName; 3] = [
@@ -104,6 +108,16 @@ fn is_text(words: &[&str]) -> bool
     }
 }
 
+// Returns the report for an output that would be written to a terminal: it advises `-o`, except beside `--stream`.
+fn terminal_text(words: &[&str]) -> &'static str
+    ensures { result.now ≡ spec.terminal_text (map (λ s. s.now) words.now) }
+{
+    match value_given(STREAM_WORD, option_words(words)) {
+        Some(_) => STREAM_TERMINAL,
+        None => TERMINAL,
+    }
+}
+
 // Writes to standard output and returns the status. A terminal gets text only: anything else is refused.
 fn write_output<F: NamedFiles + OutputFiles, R: Source, W: Sink, E: Sink>(
     alloc: Global,
@@ -119,7 +133,7 @@ fn write_output<F: NamedFiles + OutputFiles, R: Source, W: Sink, E: Sink>(
         (writes E.Sink faults.old faults.new) result }
 {
     if !is_text(words) && files.shows_output() {
-        report_text(faults, TERMINAL);
+        report_text(faults, terminal_text(words));
         return 2;
     }
     run(alloc, words, files, input, output, faults)

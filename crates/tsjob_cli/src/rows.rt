@@ -70,7 +70,7 @@ pub const DECLARE: OptionRow = OptionRow {
     form: "groups|time",
     unit: "",
     apart: "",
-    help: "by what packets are declared; else by groups where they ask for little more",
+    help: "by what packets are declared; else by groups if they ask for little more",
 };
 
 /// The greatest time between clock references.

@@ -10,7 +10,7 @@ use Rattle.tsmux_cli.specs.Carrying.{Carries}
 use Rattle.tsmux_cli.specs.declared.request.CarryOptions.{CarryOptions}
 use Rattle.tsmux_cli.specs.declared.request.MuxOptions.{MuxOptions}
 
--- an input was read to its end, and its bytes are a job of which nothing is refused: the packets of this job are written, and they keep every promise
+-- an input was read to its end, and its bytes are a job with nothing that is refused: the packets of this job are written, and they keep every promise
 pub record MuxesJob (o : MuxOptions) (input packets : Device) : Type 0 where
   pub bytes : List ℕ
   pub read : ReadsInput input (Ok bytes)

@@ -40,7 +40,7 @@ pub fn report_usage<E: Sink>(faults: &mut E) -> u8
     2
 }
 
-/// Returns the whole program: it reads the input, writes the output, reports faults on the second writer, and returns
+/// Runs the whole program: it reads the input, writes the output, reports faults on the second writer, and returns
 /// the exit status: 0 good, 1 refused or a fault found, 2 a usage error, 3 a device failed or out of memory.
 pub fn run<R: Source, W: Sink, E: Sink>(
     alloc: Global,

@@ -90,7 +90,7 @@ const USAGE: &str = "usage: tsremux [OPTIONS] [FILE..|-] -o OUT
   --without PID,..               PIDs that are left out
   --buffers PID:RX:MAIN,..       buffers of a PID, in bits a second and bytes
   --lead 1..90000                the greatest lead of a unit, in units of 90 kHz
-  --declare groups|time          by what packets are declared; else by groups where they ask for little more
+  --declare groups|time          by what packets are declared; else by groups if they ask for little more
   --pcr 1..100                   the greatest time between clock references, in ms
   --start YYYY-MM-DDThh:mm:ss    the moment of the first packet
   --base 0..8589934591|input     the system clock as the run begins, in units of 90 kHz, or that of the input

@@ -1,9 +1,10 @@
 -- A stream that is viewed piece by piece.
 use Rattle.std.proofs.Common.{◌≡◌, ℕ, zero, suc, ◌+◌, ◌*◌, ◌%◌, ◌<◌, min, Bool, true, List, [], ◌∷◌, ◌++◌, length, take, drop, refl, sym, ap, subst, ◌∙◌, arith}
-use Rattle.std.proofs.Common.{append_assoc, length-append, Option, Some, None, Result, Ok, Err, inl, inr}
+use Rattle.std.proofs.Common.{append_assoc, length-append, Option, Some, None, Result, Ok, Err, ◌⊎◌, inl, inr, ◌≤◌, false}
 use Rattle.std.proofs.KnownBytes.{Appends-nil, Appends-trans}
 use Rattle.std.proofs.lemmas.Grind.{flat_map-append}
-use Rattle.std.proofs.lemmas.List.{take-append-drop}
+use Rattle.std.proofs.lemmas.List.{length-take-le, take-append-drop, take-append-le, take_all}
+use Rattle.std.proofs.Math.Nat.{eq-or-lt_of_le}
 use Rattle.std.specs.Io.KnownBytes.{Appends}
 use Rattle.capture.specs.Captures.{Part}
 use Rattle.event_lines.specs.EventLines.{lines_of, timed_line}
@@ -19,7 +20,7 @@ use Rattle.std.specs.Prelude.{IfOk, IfErr}
 use Rattle.devices.specs.declared.halt.Halt.TheVariants.{Read, Write, Memory}
 use Rattle.devices.proofs.TakenInput.{IsAfter, TakesFront}
 use Rattle.tsview_cli.specs.CapturedStreams.{IsSoFar, after_part, after_parts, events_of, part_events}
-use Rattle.tsview_cli.specs.Viewing.{AreSettled, BeginsWith, Breaks, Reaches, Seen, Shows, StopsNext, lines_all}
+use Rattle.tsview_cli.specs.Viewing.{AreSettled, BeginsWith, Breaks, IsCalmAfter, Reaches, Seen, Shows, StopsNext, WasCalm, lines_all, longest_piece}
 use Rattle.tsview_cli.specs.declared.captured.CapturedView.{CapturedView}
 use Rattle.tsview_cli.proofs.CapturedParts.{events_both}
 
@@ -33,18 +34,48 @@ lines_both json s parts more =
 pub settled_by : (first : AnalysisState) (now : CapturedView) (bytes : List ℕ) (found : List Part) → IsSoFar first now bytes found → AreSettled bytes found
 settled_by first now bytes found s = record { reader = now.reader; left = s.left; few = s.few }
 
--- 2. The pieces that were viewed
+-- 2. The view is not crowded
+
+pub calm_so_far : (first : AnalysisState) (now : CapturedView) (bytes : List ℕ) (found : List Part) → IsSoFar first now bytes found →
+    is_crowded now.parts.view ≡ false → IsCalmAfter first bytes
+calm_so_far first now bytes found s calm = record { found = found; are = settled_by first now bytes found s; now = now.parts.view; kept = s.view; calm = calm }
+
+pub none_calm : (first : AnalysisState) → WasCalm first []
+none_calm first n whole below = let no : ⊥ = omega (arith, below) in absurd no
+
+-- The end of an earlier piece, or of the last
+front_calm : (first : AnalysisState) (bytes : List ℕ) (n : ℕ) → WasCalm first bytes → IsCalmAfter first bytes → n % longest_piece ≡ 0 →
+    (n ≡ length bytes) ⊎ (n < length bytes) → IsCalmAfter first (take n bytes)
+front_calm first bytes n was calm whole (inl all) = subst (IsCalmAfter first) (sym (take_all n bytes (omega (arith, all)))) calm
+front_calm first bytes n was calm whole (inr below) = was n whole below
+
+-- The piece after these bytes is read only if the view is calm.
+pub calm_then : (first : AnalysisState) (bytes piece : List ℕ) → WasCalm first bytes → IsCalmAfter first bytes → length bytes % longest_piece ≡ 0 →
+    length piece ≤ longest_piece → WasCalm first (bytes ++ piece)
+calm_then first bytes piece was calm pieces most n whole below =
+    let within : n ≤ length bytes = omega (arith, whole, pieces, most, below, length-append bytes piece) in
+    subst (IsCalmAfter first) (sym (take-append-le n bytes piece within)) (front_calm first bytes n was calm whole (eq-or-lt_of_le within))
+
+pub part_most : (piece given : List ℕ) (n : ℕ) → length piece ≡ length given → length given ≡ longest_piece → n ≤ length piece →
+    length (take n piece) ≤ longest_piece
+part_most piece given n room size fits = omega (arith, length-take-le n piece fits, room, size, fits)
+
+pub part_whole : (piece given : List ℕ) → length piece ≡ length given → length given ≡ longest_piece → length piece % longest_piece ≡ 0
+part_whole piece given room size = omega (arith, room, size)
+
+-- 3. The pieces that were viewed
 
 pub seen_none : (json : Bool) (first : AnalysisState) (now : CapturedView) (port : Port) → IsSoFar first now [] [] → Seen json first (between port port) now []
 unfolding events_of
-seen_none json first now port s = record { found = []; so_far = s; written = Appends-nil port.bytes; clean = refl }
+seen_none json first now port s = record { found = []; so_far = s; written = Appends-nil port.bytes; clean = refl; calm = none_calm first }
 
 -- The lines of one more piece were written.
 pub seen_then : (json : Bool) (first : AnalysisState) (before now : CapturedView) (begin middle end : Port) (text piece : List ℕ) →
+    is_crowded before.parts.view ≡ false → length piece ≤ longest_piece →
     ((bytes : List ℕ) (found : List Part) → IsSoFar first before bytes found → Shows json first now (bytes ++ piece) found text) →
     Appends middle.bytes end.bytes text → end.failed ≡ middle.failed → (bytes : List ℕ) →
-    length bytes % 188 ≡ 0 → Seen json first (between begin middle) before bytes → Seen json first (between begin end) now (bytes ++ piece)
-seen_then json first before now begin middle end text piece shows written clean bytes whole s =
+    length bytes % longest_piece ≡ 0 → Seen json first (between begin middle) before bytes → Seen json first (between begin end) now (bytes ++ piece)
+seen_then json first before now begin middle end text piece calm most shows written clean bytes whole s =
     let m : Shows json first now (bytes ++ piece) s.found text = shows bytes s.found s.so_far in
     record {
       found = s.found ++ m.more;
@@ -53,9 +84,10 @@ seen_then json first before now begin middle end text piece shows written clean 
           (Appends-trans begin.bytes middle.bytes end.bytes (lines_all json first s.found) (lines_all json (after_parts first s.found) m.more) s.written
           (subst (Appends middle.bytes end.bytes) m.text_is written));
       clean = clean ∙ s.clean;
+      calm = calm_then first bytes piece s.calm (calm_so_far first before bytes s.found s.so_far calm) whole most;
     }
 
--- 3. A view that ends early
+-- 4. A view that ends early
 
 after_more : (old mid new : Port) (bytes piece : List ℕ) (n : ℕ) → IsAfter old mid bytes →
     ((xs : List ℕ) → mid.bytes ≡ Some xs → (n ≡ min (length piece) (length xs)) × IsFront xs new.bytes piece n) → BeginsWith old.bytes (bytes ++ take n piece)
@@ -72,31 +104,33 @@ begins old mid bytes after xs e = let h = after xs e in (h.0, h.1)
 
 -- The reader failed.
 pub read_failed : (json : Bool) (first : AnalysisState) (before : CapturedView) (old mid new : Port) (output : Device) (size : ℕ) →
-    TakesFront (Seen json first output before) 188 old mid size →
+    TakesFront (Seen json first output before) longest_piece old mid size →
     Failed mid.failed new.failed → Breaks json first (between old new) output Read
 read_failed json first before old mid new output size f failed = record {
   bytes = f.bytes;
   front = begins old mid f.bytes f.known;
   found = f.taken.found;
   are = settled_by first before f.bytes f.taken.found f.taken.so_far;
+  calm = f.taken.calm;
   at = (f.taken.written, inl (subst (λ (n : ℕ). Failed n new.failed) f.clean failed));
 }
 
 -- There was no memory for the lines of a piece.
 pub no_memory : (json : Bool) (first : AnalysisState) (before : CapturedView) (old mid new : Port) (output : Device) (size : ℕ) →
-    TakesFront (Seen json first output before) 188 old mid size →
+    TakesFront (Seen json first output before) longest_piece old mid size →
     new.failed ≡ mid.failed → Breaks json first (between old new) output Memory
 no_memory json first before old mid new output size f clean = record {
   bytes = f.bytes;
   front = begins old mid f.bytes f.known;
   found = f.taken.found;
   are = settled_by first before f.bytes f.taken.found f.taken.so_far;
+  calm = f.taken.calm;
   at = (f.taken.written, clean ∙ f.clean);
 }
 
 -- No next piece was viewed.
 pub next_stopped : (json : Bool) (first : AnalysisState) (before : CapturedView) (old mid new : Port) (output : Device) (size : ℕ) (halt : Halt) →
-    TakesFront (Seen json first output before) 188 old mid size → StopsNext (between mid new) halt → Breaks json first (between old new) output halt
+    TakesFront (Seen json first output before) longest_piece old mid size → StopsNext (between mid new) halt → Breaks json first (between old new) output halt
 next_stopped json first before old mid new output size Read f failed = read_failed json first before old mid new output size f failed
 next_stopped json first before old mid new output size Write f never = absurd never
 next_stopped json first before old mid new output size Memory f clean = no_memory json first before old mid new output size f clean
@@ -111,13 +145,14 @@ long_if (Some xs) bytes s h =
     omega (arith, all, s)
 
 pub too_long : (json : Bool) (first : AnalysisState) (before : CapturedView) (old mid : Port) (output : Device) (size : ℕ) →
-    TakesFront (Seen json first output before) 188 old mid size → longest_input < size →
+    TakesFront (Seen json first output before) longest_piece old mid size → longest_input < size →
     Breaks json first (between old mid) output Read
 too_long json first before old mid output size f long = record {
   bytes = f.bytes;
   front = begins old mid f.bytes f.known;
   found = f.taken.found;
   are = settled_by first before f.bytes f.taken.found f.taken.so_far;
+  calm = f.taken.calm;
   at = (f.taken.written, inr (long_if old.bytes f.bytes (subst (λ (n : ℕ). longest_input < n) f.size_is long) (begins old mid f.bytes f.known)));
 }
 
@@ -130,6 +165,7 @@ too_long_then json first now old mid new output bytes piece n known r s why = re
   front = after_more old mid new bytes piece n known r.known;
   found = s.found;
   are = settled_by first now (bytes ++ take n piece) s.found s.so_far;
+  calm = s.calm;
   at = (s.written, why);
 }
 
@@ -142,11 +178,12 @@ take_past (x ∷ xs) ys n =
 
 pub write_failed : (json : Bool) (first : AnalysisState) (before now : CapturedView) (old mid new : Port) (begin middle end : Port) (size n : ℕ)
     (text piece : List ℕ) →
-    TakesFront (Seen json first (between begin middle) before) 188 old mid size → ReadsFront (between mid new) piece n →
+    is_crowded before.parts.view ≡ false → length (take n piece) ≤ longest_piece →
+    TakesFront (Seen json first (between begin middle) before) longest_piece old mid size → ReadsFront (between mid new) piece n →
     ((bytes : List ℕ) (found : List Part) → IsSoFar first before bytes found → Shows json first now (bytes ++ take n piece) found text) →
     Stopped text (between middle end) → Failed middle.failed end.failed →
     Breaks json first (between old new) (between begin end) Write
-write_failed json first before now old mid new begin middle end size n text piece f r shows stopped failed =
+write_failed json first before now old mid new begin middle end size n text piece calm most f r shows stopped failed =
     let bytes = f.bytes ++ take n piece in
     let m : Shows json first now bytes f.taken.found text = shows f.bytes f.taken.found f.taken.so_far in
     let a = lines_all json first f.taken.found in
@@ -159,6 +196,7 @@ write_failed json first before now old mid new begin middle end size n text piec
       front = after_more old mid new f.bytes piece n f.known r.known;
       found = f.taken.found ++ m.more;
       are = settled_by first now bytes (f.taken.found ++ m.more) m.so_far;
+      calm = calm_then first f.bytes (take n piece) f.taken.calm (calm_so_far first before f.bytes f.taken.found f.taken.so_far calm) f.whole most;
       at = (
         record {
           taken = length a + stopped.taken;
@@ -171,15 +209,16 @@ write_failed json first before now old mid new begin middle end size n text piec
 
 pub write_stopped : (V : Type 0) (json : Bool) (first : AnalysisState) (before now : CapturedView) (old mid new begin middle end : Port) (size n : ℕ)
     (text piece : List ℕ) (halt : Halt) →
-    TakesFront (Seen json first (between begin middle) before) 188 old mid size → ReadsFront (between mid new) piece n →
+    is_crowded before.parts.view ≡ false → length (take n piece) ≤ longest_piece →
+    TakesFront (Seen json first (between begin middle) before) longest_piece old mid size → ReadsFront (between mid new) piece n →
     ((bytes : List ℕ) (found : List Part) → IsSoFar first before bytes found → Shows json first now (bytes ++ take n piece) found text) →
     WritesLine {V = V} text (between middle end) (Err halt) → Breaks json first (between old new) (between begin end) halt
-write_stopped V json first before now old mid new begin middle end size n text piece Read f r shows w = absurd w
-write_stopped V json first before now old mid new begin middle end size n text piece Write f r shows w =
-    write_failed json first before now old mid new begin middle end size n text piece f r shows w.0 w.1
-write_stopped V json first before now old mid new begin middle end size n text piece Memory f r shows w = absurd w
+write_stopped V json first before now old mid new begin middle end size n text piece Read calm most f r shows w = absurd w
+write_stopped V json first before now old mid new begin middle end size n text piece Write calm most f r shows w =
+    write_failed json first before now old mid new begin middle end size n text piece calm most f r shows w.0 w.1
+write_stopped V json first before now old mid new begin middle end size n text piece Memory calm most f r shows w = absurd w
 
--- 4. The end of the input
+-- 5. The end of the input
 
 pub if_ok : (HasTaken : List ℕ → Type 0) (input : Device) (r : Result ℕ Halt) → TakesInput HasTaken input r →
     IfOk r (λ size. TakesInput HasTaken input (Ok size))
@@ -188,8 +227,8 @@ if_ok HasTaken input (Err halt) t = tt
 
 pub if_err : (HasTaken : List ℕ → Type 0) (json : Bool) (first : AnalysisState) (now : CapturedView) (old mid new : Port) (output : Device) (size n : ℕ)
     (piece : List ℕ) (before : CapturedView) (middle : Device) (r : Result ℕ Halt) →
-    TakesFront (Seen json first middle before) 188 old mid size → ReadsFront (between mid new) piece n →
-    ((bytes : List ℕ) → length bytes % 188 ≡ 0 → Seen json first middle before bytes → Seen json first output now (bytes ++ take n piece)) →
+    TakesFront (Seen json first middle before) longest_piece old mid size → ReadsFront (between mid new) piece n →
+    ((bytes : List ℕ) → length bytes % longest_piece ≡ 0 → Seen json first middle before bytes → Seen json first output now (bytes ++ take n piece)) →
     IfErr r (λ halt. (halt ≡ Read) × (longest_input < size + n)) → TakesInput HasTaken (between old new) r →
     IfErr r (Breaks json first (between old new) output)
 if_err HasTaken json first now old mid new output size n piece before middle (Ok whole) f r t e takes = tt
@@ -198,7 +237,7 @@ if_err HasTaken json first now old mid new output size n piece before middle (Er
     (too_long_then json first now old mid new output f.bytes piece n f.known r (t f.bytes f.whole f.taken)
     (subst (λ (h : Halt). ReadsInput (between old new) (Err h)) e.0 takes))
 
--- 5. The whole input, or a front of it that ends because too many units of a stream wait
+-- 6. The whole input, or a front of it that ends because too many units of a stream wait
 
 pub if_whole : (json : Bool) (first : AnalysisState) (input output : Device) (now : CapturedView) (r : Result ℕ Halt) →
     IfOk r (λ size. TakesInput (Seen json first output now) input (Ok size)) →
@@ -207,7 +246,7 @@ if_whole json first input output now (Ok size) t = inl t
 if_whole json first input output now (Err halt) t = tt
 
 pub crowds : (json : Bool) (first : AnalysisState) (now : CapturedView) (old new : Port) (output : Device) (size : ℕ) →
-    TakesFront (Seen json first output now) 188 old new size → is_crowded now.parts.view ≡ true →
+    TakesFront (Seen json first output now) longest_piece old new size → is_crowded now.parts.view ≡ true →
     Reaches json first (between old new) output now size
 crowds json first now old new output size f crowded =
     inr (record { bytes = f.bytes; size_is = f.size_is; front = begins old new f.bytes f.known; seen = f.taken; clean = f.clean; crowded = crowded })

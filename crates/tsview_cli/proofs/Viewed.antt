@@ -18,7 +18,7 @@ use Rattle.devices.specs.WholeInput.{IsWhole, TakesAll}
 use Rattle.devices.specs.declared.halt.Halt.{Halt}
 use Rattle.devices.specs.declared.halt.Halt.TheVariants.{Read, Write, Memory}
 use Rattle.devices.proofs.Performances.{reports_none}
-use Rattle.tsview_cli.proofs.Pieces.{lines_both, settled_by, take_past}
+use Rattle.tsview_cli.proofs.Pieces.{calm_so_far, lines_both, none_calm, settled_by, take_past}
 use Rattle.tsview_cli.specs.CapturedStreams.{IsSoFar, after_parts, events_last, events_of, is_good_input, is_whole, last_events, left_in, parts_in, rate_in}
 use Rattle.tsview_cli.specs.declared.captured.CapturedView.{CapturedView}
 use Rattle.tsview_cli.specs.declared.viewing.Viewed.{Viewed}
@@ -39,6 +39,7 @@ none_seen request json input output halt is = subst (BreaksOff request json (bet
   front = λ xs e. (xs, refl);
   text = [];
   text_is = inl ([], none_settled, refl);
+  calm = none_calm (start request);
   at = (Appends-nil output.bytes, refl);
 })
 
@@ -50,6 +51,7 @@ broken request json input output halt b = record {
   front = b.front;
   text = settled request json b.found;
   text_is = inl (b.found, b.are, refl);
+  calm = b.calm;
   at = b.at;
 }
 
@@ -93,6 +95,7 @@ no_end request json input output now size halt is t =
       front = r.front;
       text = settled request json r.seen.found;
       text_is = inl (r.seen.found, settled_by (start request) now r.bytes r.seen.found r.seen.so_far, refl);
+      calm = r.seen.calm;
       at = (r.seen.written, r.clean);
     })
 
@@ -133,6 +136,7 @@ not_ended V request json input begin mid end now size text Write rate good same 
       front = r.front;
       text = all_lines request json r.bytes;
       text_is = inr (refl, r.all e.more e.parts_are);
+      calm = r.seen.calm;
       at = (
         record {
           taken = length a + stopped.taken;
@@ -161,16 +165,17 @@ good_is request json bytes found text rate good same e =
     e.good_is ∙ ap (λ (r : Option ℕ). is_whole r (capture_of bytes).form (after_parts (start request) (parts_in bytes)) (left_in bytes)) same
 
 all_seen : (request : RequestView) (json : Bool) (input : Device) (begin mid end : Port) (now : CapturedView) (size : ℕ) (text : List ℕ) (rate : Option ℕ)
-    (good : Bool) → rate ≡ rate_in request →
+    (good : Bool) → rate ≡ rate_in request → is_crowded now.parts.view ≡ false →
     TakesAll (Seen json (start request) (between begin mid) now) input size → EndsWith rate json now text good → Appends mid.bytes end.bytes text →
     end.failed ≡ mid.failed → SeesAll request json input (between begin end) good
-all_seen request json input begin mid end now size text rate good same t is written clean =
+all_seen request json input begin mid end now size text rate good same calm t is written clean =
     let e : EndShows rate json (start request) t.bytes t.taken.found text good = is (start request) t.bytes t.taken.found t.taken.so_far in
     record {
       bytes = t.bytes;
       read = t.read;
       written = all_written request json begin mid end now text t.bytes rate good same t.taken e written;
       clean = clean ∙ t.taken.clean;
+      calm = record { before = t.taken.calm; after = calm_so_far (start request) now t.bytes t.taken.found t.taken.so_far calm };
       good_is = good_is request json t.bytes t.taken.found text rate good same e;
     }
 
@@ -190,12 +195,13 @@ viewed_so request json input begin mid end now size text rate true good same so 
       bytes = r.bytes;
       front = r.front;
       read = r.clean;
+      calm = r.seen.calm;
       crowded = record { found = r.seen.found; later = e.more; parts_are = e.parts_are; now = now.parts.view; kept = r.seen.so_far.view; crowded = sym so };
       written = all_written request json begin mid end now text r.bytes rate good same r.seen e written;
       clean = clean ∙ r.seen.clean;
     }
 viewed_so request json input begin mid end now size text rate false good same so (inl t) is written clean =
-    all_seen request json input begin mid end now size text rate good same t is written clean
+    all_seen request json input begin mid end now size text rate good same (sym so) t is written clean
 viewed_so request json input begin mid end now size text rate false good same so (inr c) is written clean =
     absurd (not_both (is_crowded now.parts.view) c.crowded (sym so))
 
@@ -204,7 +210,7 @@ ended : (request : RequestView) (json : Bool) (input output faults : Device) (go
     Views request json input output faults status
 ended request json input output faults good status s untouched is = inl (record {
   outcome = viewed request json s.bytes;
-  leads = record { bytes = s.bytes; read = s.read; is = refl };
+  leads = record { bytes = s.bytes; read = s.read; is = record { is = refl; calm = s.calm } };
   written = s.written;
   clean = s.clean;
   reports = reports_none faults untouched;

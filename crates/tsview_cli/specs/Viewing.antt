@@ -1,5 +1,6 @@
 -- A stream that is viewed as it comes: the lines of the events that each piece settles are written before the next piece is read.
-use Rattle.std.specs.Prelude.{◌≡◌, ◌⊎◌, ◌<◌, ℕ, ◌%◌, ◌*◌, Bool, true, if◌then◌else◌, List, [], ◌++◌, codes, length, Option, Some, Result, Ok, Err}
+use Rattle.std.specs.Prelude.{◌≡◌, ◌⊎◌, ◌<◌, ℕ, ◌%◌, ◌*◌, Bool, true, false, if◌then◌else◌, List, [], ◌++◌, codes, length, take, Option, Some, Result}
+use Rattle.std.specs.Prelude.{Ok, Err}
 use Rattle.capture.specs.Captures.{Part, capture_of, with_parts}
 use Rattle.capture.specs.Reading.{ReaderView, capture_left}
 use Rattle.ts_watch.specs.Choices.{RequestView}
@@ -35,9 +36,6 @@ all_lines request json bytes = settled request json (parts_in bytes) ++ lines_of
 abbrev pub viewed : RequestView → Bool → List ℕ → Outcome
 viewed request json bytes = printed (all_lines request json bytes) (if is_good_input request bytes then 0 else 1)
 
-abbrev pub Leads : RequestView → Bool → List ℕ → Outcome → Type 0
-Leads request json bytes outcome = outcome ≡ viewed request json bytes
-
 -- a view of the first parts of these bytes is crowded: too many units of a stream wait
 pub record IsCrowdedAfter (request : RequestView) (bytes : List ℕ) : Type 0 where
   pub found : List Part
@@ -47,11 +45,39 @@ pub record IsCrowdedAfter (request : RequestView) (bytes : List ℕ) : Type 0 wh
   pub kept : IsAnalysed now (after_parts (start request) found)
   pub crowded : is_crowded now ≡ true
 
--- 2. As far as it came
+-- these parts of the first bytes of an input are settled, except parts within less than 1,128 bytes, whatever bytes follow
+pub record AreSettled (bytes : List ℕ) (found : List Part) : Type 0 where
+  pub reader : ReaderView
+  pub left : (more : List ℕ) → capture_of (bytes ++ more) ≡ with_parts found (capture_left reader more)
+  pub few : length reader.kept < 1128
+
+-- after the parts that these bytes settle, the view is not crowded
+pub record IsCalmAfter (first : AnalysisState) (bytes : List ℕ) : Type 0 where
+  pub found : List Part
+  pub are : AreSettled bytes found
+  pub now : Analyser
+  pub kept : IsAnalysed now (after_parts first found)
+  pub calm : is_crowded now ≡ false
 
 -- the most bytes that are read before the lines that they settle are written: 349 packets, somewhat more than 64 KiB
 abbrev pub longest_piece : ℕ
 longest_piece = 349 * 188
+
+-- the view was crowded at the end of no piece before the last: only then is a next piece read
+abbrev pub WasCalm : AnalysisState → List ℕ → Type 0
+WasCalm first bytes = (n : ℕ) → n % longest_piece ≡ 0 → n < length bytes → IsCalmAfter first (take n bytes)
+
+-- nor after the last piece
+pub record StaysCalm (first : AnalysisState) (bytes : List ℕ) : Type 0 where
+  pub before : WasCalm first bytes
+  pub after : IsCalmAfter first bytes
+
+-- all lines, of an input whose view is crowded after no piece
+pub record Leads (request : RequestView) (json : Bool) (bytes : List ℕ) (outcome : Outcome) : Type 0 where
+  pub is : outcome ≡ viewed request json bytes
+  pub calm : StaysCalm (start request) bytes
+
+-- 2. As far as it came
 
 -- why a next piece is not viewed: a call of the reader failed, or there was no memory
 abbrev pub StopsNext : Device → Halt → Type 0
@@ -63,18 +89,13 @@ StopsNext input Memory = IsClean input
 abbrev pub BeginsWith : Option (List ℕ) → List ℕ → Type 0
 BeginsWith known bytes = (xs : List ℕ) → known ≡ Some xs → (rest : List ℕ) × (xs ≡ bytes ++ rest)
 
--- these parts of the first bytes of an input are settled, except parts within less than 1,128 bytes, whatever bytes follow
-pub record AreSettled (bytes : List ℕ) (found : List Part) : Type 0 where
-  pub reader : ReaderView
-  pub left : (more : List ℕ) → capture_of (bytes ++ more) ≡ with_parts found (capture_left reader more)
-  pub few : length reader.kept < 1128
-
--- these bytes were viewed, and the lines that they settle were written
+-- these bytes were viewed, piece by piece, and the lines that they settle were written
 pub record Seen (json : Bool) (first : AnalysisState) (output : Device) (now : CapturedView) (bytes : List ℕ) : Type 0 where
   pub found : List Part
   pub so_far : IsSoFar first now bytes found
   pub written : Takes output (lines_all json first found)
   pub clean : IsClean output
+  pub calm : WasCalm first bytes
 
 -- the lines of the further parts that these bytes settle
 pub record Shows (json : Bool) (first : AnalysisState) (now : CapturedView) (bytes : List ℕ) (found : List Part) (text : List ℕ) : Type 0 where
@@ -120,6 +141,7 @@ pub record Breaks (json : Bool) (first : AnalysisState) (input output : Device) 
   pub front : BeginsWith input.before.bytes bytes
   pub found : List Part
   pub are : AreSettled bytes found
+  pub calm : WasCalm first bytes
   pub at : BreaksAt (lines_all json first found) input output halt
 
 -- these bytes are the whole input, or too many units of a stream wait after them: no more is viewed
@@ -139,16 +161,18 @@ pub record BreaksOff (request : RequestView) (json : Bool) (input output : Devic
   pub front : BeginsWith input.before.bytes bytes
   pub text : List ℕ
   pub text_is : IsText request json input bytes text
+  pub calm : WasCalm (start request) bytes
   pub at : BreaksAt text input output halt
 
 -- 3. A run
 
--- all lines are written
+-- all lines are written, and too many units of a stream waited at the end of no piece
 pub record SeesAll (request : RequestView) (json : Bool) (input output : Device) (good : Bool) : Type 0 where
   pub bytes : List ℕ
   pub read : ReadsInput input (Ok bytes)
   pub written : Takes output (all_lines request json bytes)
   pub clean : IsClean output
+  pub calm : StaysCalm (start request) bytes
   pub good_is : good ≡ is_good_input request bytes
 
 -- or the lines of the first bytes of the input, after which too many units of a stream wait, with the lines at the end; no more is viewed
@@ -156,6 +180,7 @@ pub record SeesFront (request : RequestView) (json : Bool) (input output : Devic
   pub bytes : List ℕ
   pub front : BeginsWith input.before.bytes bytes
   pub read : IsClean input
+  pub calm : WasCalm (start request) bytes
   pub crowded : IsCrowdedAfter request bytes
   pub written : Takes output (all_lines request json bytes)
   pub clean : IsClean output

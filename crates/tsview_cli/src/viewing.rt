@@ -1,5 +1,5 @@
 //! The input, read piece by piece, and the lines of the events that each piece settles.
-ghost use Rattle.std.specs.Prelude.{◌≡◌, ◌%◌, ◌<◌, ◌≤◌, ◌++◌, ℕ, List, [], IfOk, IfErr, OnOk, Ok, false, length, take};
+ghost use Rattle.std.specs.Prelude.{◌≡◌, ◌≤◌, ◌++◌, ℕ, List, [], IfOk, IfErr, OnOk, Ok, false, length, take};
 ghost use Rattle.std.specs.Prelude.{string_bytes};
 ghost use Rattle.capture.specs.Captures.{Part};
 ghost use Rattle.analysis.specs.Analysis.{AnalysisState, start};
@@ -113,9 +113,7 @@ fn view_pieces<R: Source, W: Sink>(
     stream: &mut CapturedView,
     text: &mut String,
 ) -> Result<usize, Halt>
-    requires some { 0 < length piece.old }
-    requires bound { length piece.old ≤ longest_piece }
-    requires whole { length piece.old % 188 ≡ 0 }
+    requires size { length piece.old ≡ longest_piece }
     requires text { string_bytes text.old ≡ [] }
     requires calm { is_crowded stream.old.parts.view ≡ false }
     ensures ok { (s : AnalysisState) → IsSoFar s stream.old [] [] →
@@ -203,9 +201,7 @@ fn view_whole<R: Source, W: Sink>(
     stream: &mut CapturedView,
     text: &mut String,
 ) -> Result<Viewed, Halt>
-    requires some { 0 < length piece.old }
-    requires bound { length piece.old ≤ longest_piece }
-    requires whole { length piece.old % 188 ≡ 0 }
+    requires size { length piece.old ≡ longest_piece }
     requires text { string_bytes text.old ≡ [] }
     requires calm { is_crowded stream.old.parts.view ≡ false }
     ensures { (r : RequestView) → IsSoFar (start r) stream.old [] [] → rate ≡ rate_in r →

@@ -115,7 +115,7 @@ fn least_rate(description: &Description) -> Option<u64>
     rate_search::least_rate(&DescribedLoad { description }, from)
 }
 
-/// Returns whether the items ask for more slots than there are.
+/// Returns a reason if the items ask for more slots than there are.
 pub fn load_reason(description: &Description) -> Option<Reason>
     ensures { option_to_list result ≡ load_reason description.now }
 {

@@ -1,6 +1,6 @@
 use Rattle.std.proofs.Common.{◌<◌, ◌≤◌, ◌^◌, ◌∙◌, length, refl, sym, arith}
 use Rattle.devices.specs.Devices.{Port}
-use Rattle.es_records.proofs.PassedStreams.{fed_piece, none_read}
+use Rattle.es_records.proofs.PassedStreams.{fed_piece, none_read, piece_lost}
 use Rattle.es_records.proofs.passing.feed_piece.Goals as goal
 
 pub returns-in-Ok-eq0 : goal.returns-in-Ok-eq0
@@ -13,6 +13,14 @@ returns-in-Ok-eq0 g c =
       c.in-Ok-eq0.ensures.bytes.1 c.in-Ok-eq0.field-0-test some,
       refl,
     )
+
+pub returns-then-is_err : goal.returns-then-is_err
+returns-then-is_err g c =
+    let i1 : Port = record { bytes = g.R.Read.remaining c.args.input.now; failed = g.R.Source.fault_count c.args.input.now } in
+    let i2 : Port = record { bytes = g.R.Read.remaining c.read_some.new.self; failed = g.R.Source.fault_count c.read_some.new.self } in
+    let most : length c.read_some.new.part ≤ 2 ^ 16 = omega (arith, c.requires.most, c.read_some.auto.part) in
+    piece_lost c.args.stream.now c.push.new.self i1 i2 c.read_some.new.part c.in-Ok.n c.push.new.fed.items most c.in-Ok.ensures.bound.0
+    c.in-Ok.ensures.bytes.0 c.in-Ok.ensures.counts
 
 pub returns : goal.returns
 returns g c =

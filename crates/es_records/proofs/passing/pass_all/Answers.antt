@@ -1,5 +1,5 @@
 use Rattle.devices.specs.Devices.{Port, between}
-use Rattle.es_records.proofs.PassedStreams.{end_fails, no_piece, pieces_fail, stream_ends}
+use Rattle.es_records.proofs.EndedStreams.{end_fails, no_piece, pieces_fail, stream_ends}
 use Rattle.es_records.proofs.passing.pass_all.Goals as goal
 
 pub returns-in_default : goal.returns-in_default
@@ -33,7 +33,7 @@ returns-in-Ok-pass_last g c =
     (record { bytes = g.E.Write.contents c.args.faults.now; failed = g.E.Sink.fault_count c.args.faults.now })
     (record { bytes = g.E.Write.contents c.pass_pieces.new.faults; failed = g.E.Sink.fault_count c.pass_pieces.new.faults })
     (record { bytes = g.E.Write.contents c.pass_last.new.faults; failed = g.E.Sink.fault_count c.pass_last.new.faults })
-    c.in-Ok-pass_pieces.early c.in-Ok-pass_last.late c.is_faulty_pass.result c.pass_pieces.new.stream m pieces.1
+    c.in-Ok-pass_pieces.early c.in-Ok-pass_last.late c.is_faulty_pass.result c.pass_pieces.new.stream m pieces.1 pieces.2
     (c.in-Ok-pass_last.ensures c.args.feed m.came m.fed m.by) c.is_faulty_pass.ensures
 
 pub returns : goal.returns
@@ -49,5 +49,5 @@ returns g c =
     (record { bytes = g.E.Write.contents c.args.faults.now; failed = g.E.Sink.fault_count c.args.faults.now })
     (record { bytes = g.E.Write.contents c.pass_pieces.new.faults; failed = g.E.Sink.fault_count c.pass_pieces.new.faults })
     (record { bytes = g.E.Write.contents c.pass_last.new.faults; failed = g.E.Sink.fault_count c.pass_last.new.faults })
-    c.in-Ok-pass_pieces.early c.pass_pieces.new.stream c.in-Err-pass_last.halt m
+    c.in-Ok-pass_pieces.early c.pass_pieces.new.stream c.in-Err-pass_last.halt m pieces.2
     (c.in-Err-pass_last.ensures c.args.feed m.came m.fed m.by)

@@ -1,6 +1,6 @@
 use Rattle.std.proofs.Common.{◌∙◌, sym}
 use Rattle.devices.specs.Devices.{Device, between}
-use Rattle.es_records.proofs.PassedStreams.{last_out}
+use Rattle.es_records.proofs.EndedStreams.{last_out}
 use Rattle.es_records.proofs.passing.pass_last.Goals as goal
 
 pub returns : goal.returns

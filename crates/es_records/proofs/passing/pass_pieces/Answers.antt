@@ -1,4 +1,4 @@
-use Rattle.std.proofs.Common.{◌≡◌, ◌∙◌, ◌||◌, true, List, ap, arith, sym}
+use Rattle.std.proofs.Common.{◌≡◌, ◌∙◌, ◌||◌, true, false, List, ap, arith, sym}
 use Rattle.devices.specs.Devices.{Port, between}
 use Rattle.es_records.proofs.PassedStreams.{feed_ends, feed_fails, feeds_none, feeds_some, long_enough, long_first, long_more, long_refused, piece_fails}
 use Rattle.es_records.proofs.ReportedLines.{joined_false, joined_true}
@@ -28,7 +28,7 @@ returns-in-Err g c = λ first is.
     let f1 : Port = record { bytes = g.E.Write.contents c.loop.faults; failed = g.E.Sink.fault_count c.loop.faults } in
     feed_fails first c.args.pids.now i0 i1 i2 (between o0 o1) (between f0 f1) c.loop.faulty c.loop.stream c.feed_piece.new.stream c.feed_piece.new.fed.items
     c.in-Err.halt
-    (c.loop.invariant.came first is).midway c.in-Err.ensures
+    (c.loop.invariant.came first is).midway (c.loop.invariant.came first is).unrefused c.in-Err.ensures
 
 pub returns-then-not-more : goal.returns-then-not-more
 returns-then-not-more g c = λ first is.
@@ -40,7 +40,7 @@ returns-then-not-more g c = λ first is.
     let f0 : Port = record { bytes = g.E.Write.contents c.args.faults.now; failed = g.E.Sink.fault_count c.args.faults.now } in
     let f1 : Port = record { bytes = g.E.Write.contents c.loop.faults; failed = g.E.Sink.fault_count c.loop.faults } in
     feed_ends first c.args.pids.now i0 i1 i2 (between o0 o1) (between f0 f1) c.loop.faulty c.loop.stream c.feed_piece.new.stream c.feed_piece.new.fed.items
-    (c.loop.invariant.came first is).midway
+    (c.loop.invariant.came first is).midway (c.loop.invariant.came first is).unrefused
     (feeds_none c.loop.stream c.feed_piece.new.stream (between i1 i2) c.feed_piece.new.fed.items c.in-Ok.more c.if-not-more.true c.in-Ok.ensures)
 
 pub returns-in-Err-let_out : goal.returns-in-Err-let_out
@@ -56,7 +56,7 @@ returns-in-Err-let_out g c = λ first is.
     let f2 : Port = record { bytes = g.E.Write.contents c.let_out.new.faults; failed = g.E.Sink.fault_count c.let_out.new.faults } in
     piece_fails first c.args.pids.now i0 i1 i2 o0 o1 o2 f0 f1 f2 c.loop.faulty c.loop.stream c.feed_piece.new.stream c.feed_piece.new.fed.items
     c.in-Err-let_out.halt
-    (c.loop.invariant.came first is).midway
+    (c.loop.invariant.came first is).midway (c.loop.invariant.came first is).unrefused
     (feeds_some c.loop.stream c.feed_piece.new.stream (between i1 i2) c.feed_piece.new.fed.items c.in-Ok.more c.if-not-more.false c.in-Ok.ensures)
     c.in-Err-let_out.ensures.goes
 
@@ -77,11 +77,13 @@ loop-preserved g c = record {
         | then-found w ↦ joined_true c.loop.faulty c.in-Ok-let_out.found c.if-found.faulty w.if-found.true w.faulty-is
         | else-found w ↦ joined_false c.loop.faulty c.in-Ok-let_out.found c.if-found.faulty w.if-found.false w.faulty-is
       ] in
+      let none : have_refusal c.feed_piece.new.fed.items ≡ false =
+      ap (λ (fed : List Fed). have_refusal fed) (sym c.deref.ensures.value) ∙ sym c.have_refusal-refused.ensures ∙ c.if-refused.false in
       long_more first c.args.pids.now i0 i1 i2 o0 o1 o2 f0 f1 f2 c.loop.faulty c.in-Ok-let_out.found c.if-found.faulty c.loop.stream c.feed_piece.new.stream
       c.feed_piece.new.fed.items c.loop.counter
       (c.loop.invariant.came first is)
       (feeds_some c.loop.stream c.feed_piece.new.stream (between i1 i2) c.feed_piece.new.fed.items c.in-Ok.more c.if-not-more.false c.in-Ok.ensures)
-      c.in-Ok-let_out.ensures.goes all;
+      c.in-Ok-let_out.ensures.goes all none;
 }
 
 pub returns-then-refused : goal.returns-then-refused

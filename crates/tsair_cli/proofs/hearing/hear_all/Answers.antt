@@ -1,4 +1,4 @@
-use Rattle.std.proofs.Common.{ℕ, Ok, Err, refl, subst, ◌∙◌}
+use Rattle.std.proofs.Common.{ℕ, Ok, Err, refl, subst, sym, ◌∙◌}
 use Rattle.counted_io.specs.Device.{Failed}
 use Rattle.devices.specs.Devices.{Device, Port, between}
 use Rattle.on_air.specs.declared.answers.Heard.TheVariants.{Ended}
@@ -10,6 +10,7 @@ pub records-init : goal.records-init
 records-init g c = record {
   reads = refl;
   writes = refl;
+  stops = λ on. refl;
   known = λ run start h.
       first run (g.R.Read.remaining c.args.input.now) start (g.W.Write.contents c.args.output.now)
       (record { bytes = g.E.Write.contents c.args.faults.now; failed = g.E.Sink.fault_count c.args.faults.now }) c.args.on_air.now h;
@@ -21,6 +22,7 @@ records-preserved-else-stop g c =
     record {
       reads = clean.0 ∙ c.records.invariant.reads;
       writes = c.in-Ok.ensures.clean ∙ clean.1 ∙ c.records.invariant.writes;
+      stops = λ on. sym on ∙ c.if-stop.false;
       known = λ run start h.
           let m = c.records.invariant.known run start h in
           next run (g.R.Read.remaining c.args.input.now) (g.R.Read.remaining c.records.input) (g.R.Read.remaining c.hear_on.new.input) start
@@ -46,15 +48,14 @@ returns-then-stop g c = λ run start h.
     (record { bytes = g.W.Write.contents c.follow.new.to; failed = g.W.Sink.fault_count c.follow.new.to }) in
     let before : Port = record { bytes = g.E.Write.contents c.args.faults.now; failed = g.E.Sink.fault_count c.args.faults.now } in
     let after : Port = record { bytes = g.E.Write.contents c.report_refused.new.faults; failed = g.E.Sink.fault_count c.report_refused.new.faults } in
-    stops run c.args.stop start input output (between before after) c.follow.new.self c.if-stop.true
-    (next run (g.R.Read.remaining c.args.input.now) (g.R.Read.remaining c.records.input) (g.R.Read.remaining c.hear_on.new.input) start
-    (g.W.Write.contents c.records.output) (g.W.Write.contents c.hear_on.new.to) (g.W.Write.contents c.follow.new.to) before
+    stops run c.args.stop (g.R.Read.remaining c.records.input) start (g.W.Write.contents c.records.output) (g.W.Write.contents c.hear_on.new.to) input output
+    before
     (record { bytes = g.E.Write.contents c.records.faults; failed = g.E.Sink.fault_count c.records.faults }) after
     c.records.has_refused c.records.on_air c.hear_on.new.self c.follow.new.self c.in-Ok-Refused.index c.in-Ok-Refused.cause m
     (rw c.in-Ok-Refused.field-0-is at
     (c.in-Ok-Refused.ensures.heard run m.airs.heard_is.count m.airs.came (g.R.Read.remaining c.args.input.now) start m.state m.airs.heard_is.heard_is))
     (λ a on. c.in-Ok.ensures.ok run a start on)
-    c.report_refused.ensures)
+    c.report_refused.ensures c.if-stop.true c.records.invariant.stops
     (clean.0 ∙ c.records.invariant.reads) (c.in-Ok.ensures.clean ∙ clean.1 ∙ c.records.invariant.writes)
 
 pub returns-in-Err-follow : goal.returns-in-Err-follow
@@ -67,13 +68,14 @@ returns-in-Err-follow g c = λ run start h.
     (record { bytes = g.W.Write.contents c.follow.new.to; failed = g.W.Sink.fault_count c.follow.new.to }) in
     let before : Port = record { bytes = g.E.Write.contents c.args.faults.now; failed = g.E.Sink.fault_count c.args.faults.now } in
     let after : Port = record { bytes = g.E.Write.contents c.report_refused.new.faults; failed = g.E.Sink.fault_count c.report_refused.new.faults } in
-    follow_fails run (g.R.Read.remaining c.records.input) start (g.W.Write.contents c.records.output) (g.W.Write.contents c.hear_on.new.to) input output before
+    follow_fails run c.args.stop (g.R.Read.remaining c.records.input) start (g.W.Write.contents c.records.output) (g.W.Write.contents c.hear_on.new.to)
+    input output before
     (record { bytes = g.E.Write.contents c.records.faults; failed = g.E.Sink.fault_count c.records.faults }) after
     c.records.has_refused c.records.on_air c.hear_on.new.self c.in-Ok-Refused.index c.in-Ok-Refused.cause c.in-Err-follow.fault.sent m
     (rw c.in-Ok-Refused.field-0-is at
     (c.in-Ok-Refused.ensures.heard run m.airs.heard_is.count m.airs.came (g.R.Read.remaining c.args.input.now) start m.state m.airs.heard_is.heard_is))
     (λ a on. c.in-Err-follow.ensures.err run a start on)
-    c.report_refused.ensures
+    c.report_refused.ensures c.records.invariant.stops
     (clean.0 ∙ c.records.invariant.reads)
     (subst (λ (n : ℕ). Failed n (g.W.Sink.fault_count c.follow.new.to)) (clean.1 ∙ c.records.invariant.writes) c.in-Err-follow.ensures.fault)
 
@@ -93,6 +95,7 @@ returns-in-Ok-Ended g c = λ run start h.
     (c.in-Ok-Ended.ensures.heard run m.airs.heard_is.count m.airs.came (g.R.Read.remaining c.args.input.now) start m.state m.airs.heard_is.heard_is))
     (names_same (Ok (Ended c.in-Ok-Ended.why)) _ _ _ _ _ _ c.records.invariant.reads c.records.invariant.writes
     (rw c.in-Ok-Ended.field-0-is at c.in-Ok-Ended.ensures.fault))
+    c.records.invariant.stops
 
 pub returns-in-Err : goal.returns-in-Err
 returns-in-Err g c = λ run start h.
@@ -103,7 +106,8 @@ returns-in-Err g c = λ run start h.
     (record { bytes = g.W.Write.contents c.hear_on.new.to; failed = g.W.Sink.fault_count c.hear_on.new.to }) in
     let faults : Device = between (record { bytes = g.E.Write.contents c.args.faults.now; failed = g.E.Sink.fault_count c.args.faults.now })
     (record { bytes = g.E.Write.contents c.records.faults; failed = g.E.Sink.fault_count c.records.faults }) in
-    fails run (g.R.Read.remaining c.records.input) start (g.W.Write.contents c.records.output) input output faults c.records.has_refused c.records.on_air
-    c.hear_on.new.self c.in-Err.fault m
+    fails run c.args.stop (g.R.Read.remaining c.records.input) start (g.W.Write.contents c.records.output) input output faults c.records.has_refused
+    c.records.on_air c.hear_on.new.self c.in-Err.fault m
     (c.in-Err.ensures.heard run m.airs.heard_is.count m.airs.came (g.R.Read.remaining c.args.input.now) start m.state m.airs.heard_is.heard_is)
     (names_same (Err c.in-Err.fault) _ _ _ _ _ _ c.records.invariant.reads c.records.invariant.writes c.in-Err.ensures.fault)
+    c.records.invariant.stops

@@ -1,4 +1,4 @@
-use Rattle.std.proofs.Common.{◌≡◌, ◌-◌, ◌^◌, List, ℕ, Option}
+use Rattle.std.proofs.Common.{◌≡◌, ◌-◌, ◌^◌, List, ℕ, Option, true, false}
 use Rattle.devices.specs.Devices.{between}
 use Rattle.on_air.specs.Airing.{Run, silence}
 use Rattle.on_air.specs.AirStates.{IsOnAir}
@@ -9,6 +9,7 @@ abbrev pub invariant-records : goal.invariant-records
 invariant-records g l = record {
   reads : g.R.Source.fault_count l.input ≡ g.R.Source.fault_count l.fn.input;
   writes : g.W.Sink.fault_count l.output ≡ g.W.Sink.fault_count l.fn.output;
+  stops : l.fn.stop ≡ true → l.has_refused ≡ false;
   known : (run : Run) (start : Option (List ℕ)) → IsOnAir run silence start (g.W.Write.contents l.fn.output) l.fn.on_air →
       Midway run (g.R.Read.remaining l.fn.input) (g.R.Read.remaining l.input) start (g.W.Write.contents l.output)
       (between (record { bytes = g.E.Write.contents l.fn.faults; failed = g.E.Sink.fault_count l.fn.faults })

@@ -4,7 +4,7 @@ use Rattle.devices.proofs.TakenInput.{TakesFront}
 use Rattle.analysis.specs.Analysis.{AnalysisState}
 use Rattle.analysis.specs.Analysis.{is_crowded}
 use Rattle.tsview_cli.specs.CapturedStreams.{IsSoFar}
-use Rattle.tsview_cli.specs.Viewing.{Seen}
+use Rattle.tsview_cli.specs.Viewing.{Seen, longest_piece}
 use Rattle.tsview_cli.proofs.viewing.view_pieces.Given as goal
 
 abbrev pub invariant-loop-size : goal.invariant-loop-size
@@ -14,7 +14,7 @@ invariant-loop-size g l = record {
   calm : is_crowded l.stream.parts.view ≡ false;
   front : (s : AnalysisState) → IsSoFar s l.fn.stream [] [] → TakesFront
       (Seen l.json s (between (record { bytes = g.W.Write.contents l.fn.output; failed = g.W.Sink.fault_count l.fn.output })
-      (record { bytes = g.W.Write.contents l.output; failed = g.W.Sink.fault_count l.output })) l.stream) 188
+      (record { bytes = g.W.Write.contents l.output; failed = g.W.Sink.fault_count l.output })) l.stream) longest_piece
       (record { bytes = g.R.Read.remaining l.fn.input; failed = g.R.Source.fault_count l.fn.input })
       (record { bytes = g.R.Read.remaining l.input; failed = g.R.Source.fault_count l.input }) l.size;
 }
