@@ -1,9 +1,9 @@
 -- Products that are limited to a greatest number.
-use Rattle.std.proofs.Common.{◌≡◌, ℕ, zero, suc, ◌+◌, ◌*◌, ◌<◌, ◌≤◌, min, List, [], ◌∷◌, length, drop, get_or, refl, ap, sym, ◌∙◌, inl, inr, arith}
+use Rattle.std.proofs.Common.{◌≡◌, ℕ, zero, suc, ◌+◌, ◌*◌, ◌<◌, ◌≤◌, min, List, length, drop, get_or, refl, ap, sym, ◌∙◌, inl, inr, arith}
 use Rattle.std.proofs.Math.Nat.{mul_assoc}
 use Rattle.std.proofs.lemmas.Bool.{cases_lt}
 use Rattle.std.proofs.lemmas.List.{at_drop_more, at_drop_all}
-use Rattle.plan_maker.specs.Bounded.{whole_product, product, most_wide}
+use Rattle.plan_maker.specs.Bounded.{whole_product, most_wide}
 
 -- Limiting a factor does not change the limited product.
 pub stopped : (m a q : ℕ) → min (min a m * q) m ≡ min (a * q) m

@@ -1,5 +1,5 @@
 -- Demands, one after another.
-use Rattle.std.proofs.Common.{◌≡◌, ℕ, ◌||◌, Bool, List, [], ◌∷◌, ◌++◌, length, map, refl, ap, sym, ◌∙◌}
+use Rattle.std.proofs.Common.{◌≡◌, ℕ, ◌||◌, Bool, List, [], ◌∷◌, ◌++◌, length, map, refl, ap, ◌∙◌}
 use Rattle.std.specs.Prelude.{nat_lt}
 use Rattle.std.specs.List.{list_any}
 use Rattle.std.proofs.lemmas.List.{map-append}
@@ -8,7 +8,8 @@ use Rattle.description_parts.specs.Tables.{table_kinds, table_limit, round_packe
 use Rattle.slot_plan.specs.declared.slot.Slot.TheVariants.{Stream, Pcr, Table}
 use Rattle.plan_maker.specs.Recurrences.{recurrence_of}
 use Rattle.plan_maker.specs.StreamNeeds.{StreamView, stream_at}
-use Rattle.plan_maker.specs.Demands.{StreamNeed, RecurringNeed, DemandView, demand_view, demand_of, stream_demand, pcr_demand, table_demand, is_over}
+use Rattle.plan_maker.specs.Demands.{StreamNeed, RecurringNeed, DemandView, demand_view, demand_of, stream_demand, pcr_demand, table_demand}
+use Rattle.plan_maker.specs.Demands.{distance_of, is_over}
 use Rattle.plan_maker.specs.declared.search.recurrence.Recurrence.{Recurrence}
 use Rattle.plan_maker.specs.declared.search.demand.Demand.{Demand}
 
@@ -26,10 +27,11 @@ module _ (d : Described) (period i : ℕ) (shown : DemandView) (rate kind : ℕ)
   stream_demand_is x v is need rates kinds = is ∙ rw (need, rates, kinds) refl
 
   pub pcr_demand_is : (x : DescribedProgram) (limit : ℕ) (r : Recurrence) → shown ≡ demand_of (Pcr i) (RecurringNeed r) i kind period →
-      r ≡ recurrence_of limit rate 1 → limit ≡ x.pcr_limit → rate ≡ d.rate → kind ≡ length d.programs → shown ≡ pcr_demand d period i x
+      r ≡ recurrence_of limit rate 1 0 → limit ≡ x.pcr_limit → rate ≡ d.rate → kind ≡ length d.programs → shown ≡ pcr_demand d period i x
   pcr_demand_is x limit r is need limits rates kinds = is ∙ rw (need, limits, rates, kinds) refl
 
-  pub table_demand_is : (limit packets : ℕ) (r : Recurrence) → shown ≡ demand_of (Table i) (RecurringNeed r) i kind period →
-      r ≡ recurrence_of limit rate packets → limit ≡ table_limit d i → packets ≡ round_packets d i → rate ≡ d.rate → kind ≡ length (table_kinds d) →
-      shown ≡ table_demand d period i
-  table_demand_is limit packets r is need limits rounds rates kinds = is ∙ rw (need, limits, rounds, rates, kinds) refl
+  pub table_demand_is : (distance limit packets apart : ℕ) (r : Recurrence) → shown ≡ demand_of (Table i) (RecurringNeed r) i kind period →
+      r ≡ recurrence_of limit rate packets apart → limit ≡ table_limit d i → packets ≡ round_packets d i → apart ≡ distance_of d distance i →
+      rate ≡ d.rate → kind ≡ length (table_kinds d) → shown ≡ table_demand d distance period i
+  table_demand_is distance limit packets apart r is need limits rounds distances rates kinds =
+      is ∙ rw (need, limits, rounds, distances, rates, kinds) refl

@@ -12,3 +12,5 @@ pub mod BoundedProducts
 pub mod JoinedNumbers
 pub mod PlacedSlots
 pub mod DemandLists
+pub mod SearchedSlots
+pub mod TriedPlans

@@ -1,16 +1,14 @@
 -- Slots that are placed one after another.
-use Rattle.std.proofs.Common.{◌≡◌, ℕ, zero, suc, ◌+◌, ◌-◌, ◌<◌, ◌≤◌, Option, Some, None, List, [], ◌∷◌, ◌++◌, length, get_or, refl, ap, sym, subst, ◌∙◌, arith}
+use Rattle.std.proofs.Common.{◌≡◌, ℕ, zero, suc, ◌+◌, ◌-◌, ◌<◌, Option, Some, None, List, [], ◌∷◌, ◌++◌, length, get_or, refl, ap, sym, ◌∙◌, arith}
 use Rattle.std.proofs.Common.{add-one, append_assoc}
-use Rattle.std.specs.Prelude.{nat_lt, if◌then◌else◌, Bool, true, false, IfSome, Ok, Err, min, slice_get, slice_set}
+use Rattle.std.specs.Prelude.{nat_lt, if◌then◌else◌, Bool, true, false, IfSome, Ok, Err, slice_get, slice_set}
 use Rattle.std.proofs.lemmas.Option.{slice_get-get_or}
 use Rattle.std.proofs.lemmas.List.{append-nil}
 use Rattle.own_slots.specs.Extremes.{least}
-use Rattle.own_slots.proofs.Extremes.{least_more}
 use Rattle.plan_maker.specs.Bounded.{most_long}
 use Rattle.plan_maker.specs.declared.search.placement.PlacementTask.{PlacementTask}
 use Rattle.slot_plan.specs.declared.slot.Slot.{Slot}
 use Rattle.plan_maker.specs.Placements.{due_at, due_of, due_number, first_least, Placed, placed_in, advanced, own_slot, next_slot, joined, followed, outcome}
-use Rattle.plan_maker.specs.Placements.{missing_of}
 
 -- The first of the least numbers
 

@@ -1,8 +1,9 @@
 -- What each item of a description demands of a period: its streams, the PCRs of its programs, its tables, each by number.
-use Rattle.std.specs.Prelude.{ℕ, ◌+◌, ◌-◌, min, Bool, true, false, List, [], ◌∷◌, ◌++◌, length, Option, Some, None, nat_lt, if◌then◌else◌}
+use Rattle.std.specs.Prelude.{ℕ, ◌+◌, ◌-◌, min, Bool, true, false, ◌&&◌, List, [], ◌∷◌, ◌++◌, length, Option, Some, None}
+use Rattle.std.specs.Prelude.{nat_le, nat_lt, if◌then◌else◌}
 use Rattle.std.specs.List.{sum_by, list_any}
 use Rattle.description_parts.specs.Described.{Described, DescribedProgram, DescribedStream}
-use Rattle.description_parts.specs.Tables.{table_kinds, table_limit, round_packets}
+use Rattle.description_parts.specs.Tables.{table_kinds, table_pid, table_limit, round_packets}
 use Rattle.slot_plan.specs.declared.slot.Slot.{Slot}
 use Rattle.slot_plan.specs.declared.slot.Slot.TheVariants.{Stream, Pcr, Table}
 use Rattle.slot_plan.specs.Numbered.{numbered}
@@ -69,11 +70,22 @@ abbrev pub stream_demand : Described → ℕ → ℕ → DescribedStream → Dem
 stream_demand d period i s = demand_of (Stream i) (StreamNeed (stream_at s d.rate)) i (length d.streams) period
 
 abbrev pub pcr_demand : Described → ℕ → ℕ → DescribedProgram → DemandView
-pcr_demand d period i p = demand_of (Pcr i) (RecurringNeed (recurrence_of p.pcr_limit d.rate 1)) i (length d.programs) period
+pcr_demand d period i p = demand_of (Pcr i) (RecurringNeed (recurrence_of p.pcr_limit d.rate 1 0)) i (length d.programs) period
 
-abbrev pub table_demand : Described → ℕ → ℕ → DemandView
-table_demand d period t =
-    demand_of (Table t) (RecurringNeed (recurrence_of (table_limit d t) d.rate (round_packets d t))) t (length (table_kinds d)) period
+-- service information is on the PIDs 0x10 to 0x14 (EN 300 468, 5.1.3)
+abbrev pub is_service_information : ℕ → Bool
+is_service_information pid = nat_le 0x10 pid && nat_le pid 0x14
+
+-- the distance in ms between two packets of a table: asked for in service information alone (EN 300 468, 5.1.4)
+abbrev pub distance_of : Described → ℕ → ℕ → ℕ
+distance_of d distance t = if is_service_information (table_pid d t) then distance else 0
+
+abbrev pub table_recurrence : Described → ℕ → ℕ → Recurrence
+table_recurrence d distance t = recurrence_of (table_limit d t) d.rate (round_packets d t) (distance_of d distance t)
+
+abbrev pub table_demand : Described → ℕ → ℕ → ℕ → DemandView
+table_demand d distance period t =
+    demand_of (Table t) (RecurringNeed (table_recurrence d distance t)) t (length (table_kinds d)) period
 
 abbrev pub stream_demands : Described → ℕ → List DemandView
 stream_demands d period = numbered (λ i s. stream_demand d period i s ∷ []) 0 d.streams
@@ -81,18 +93,19 @@ stream_demands d period = numbered (λ i s. stream_demand d period i s ∷ []) 0
 abbrev pub pcr_demands : Described → ℕ → List DemandView
 pcr_demands d period = numbered (λ i p. pcr_demand d period i p ∷ []) 0 d.programs
 
-abbrev pub table_demands : Described → ℕ → List DemandView
-table_demands d period = numbered (λ t _. table_demand d period t ∷ []) 0 (table_kinds d)
+abbrev pub table_demands : Described → ℕ → ℕ → List DemandView
+table_demands d distance period = numbered (λ t _. table_demand d distance period t ∷ []) 0 (table_kinds d)
 
-abbrev pub all_demands : Described → ℕ → List DemandView
-all_demands d period = stream_demands d period ++ (pcr_demands d period ++ table_demands d period)
+abbrev pub all_demands : Described → ℕ → ℕ → List DemandView
+all_demands d distance period = stream_demands d period ++ (pcr_demands d period ++ table_demands d distance period)
 
 -- one item alone needs more slots than the period has
 abbrev pub is_over : ℕ → DemandView → Bool
 is_over period d = nat_lt period d.count
 
-abbrev pub demands_of : Described → ℕ → Option (List DemandView)
-demands_of d period = if list_any (is_over period) (all_demands d period) then None else Some (all_demands d period)
+abbrev pub demands_of : Described → ℕ → ℕ → Option (List DemandView)
+demands_of d distance period =
+    if list_any (is_over period) (all_demands d distance period) then None else Some (all_demands d distance period)
 
 -- the own slots of all items together, or the greatest number of 64 bits if they are more
 abbrev pub total_count : List Demand → ℕ

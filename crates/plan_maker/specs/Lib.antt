@@ -12,3 +12,4 @@ pub mod Recurrences
 pub mod StreamNeeds
 pub mod Demands
 pub mod Placements
+pub mod Searches

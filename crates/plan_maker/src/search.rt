@@ -1,6 +1,5 @@
 //! The search for a plan of a period: each item with the least own slots that its conditions ask for, placed by the
-//! earliest deadline first. Of what it finds only the period and the certificate are promised; the plan checker
-//! decides.
+//! earliest deadline first (`specs/Searches`). The plan checker decides whether what it finds serves.
 
 pub mod demand;
 pub mod numbers;
@@ -8,8 +7,12 @@ pub mod placement;
 pub mod recurrence;
 pub mod stream_rate;
 
-ghost use Rattle.std.specs.Prelude.{◌≡◌, ◌≤◌, OnOk, IfOk, IfSome, length};
+ghost use Rattle.std.specs.Prelude.{◌≡◌, ◌≤◌, ◌<◌, OnOk, IfOk, IfSome, length, map, option_map};
+ghost use Rattle.std.specs.Prelude.{Some, None, if◌then◌else◌};
+ghost use Rattle.std.specs.Result.{result_map_both};
 ghost use Rattle.plan_maker.specs.Certificates.{certificate_of};
+ghost use Rattle.plan_maker.specs.Demands.{demand_view};
+ghost use Rattle.plan_maker.specs.Searches as spec;
 
 use crate::certificates::certificate_of;
 use demand::{Demand, demands, total};
@@ -27,10 +30,12 @@ fn tasks_of<A: Allocator>(
     period: u64,
 ) -> Result<Result<Vec<PlacementTask, A>, usize>, AllocError>
     requires { period ≤ 65536 }
+    ensures { IfOk result (λ found. result_map_both (λ tasks. tasks.items) (λ i. i) found
+        ≡ spec.tasks_from period 0 (map demand_view demands.now)) }
 {
     let mut tasks = Vec::new(alloc);
-    for (i, demand) in demands.iter().enumerate() {
-        match PlacementTask::new(demand, period) {
+    for i in 0..demands.len() {
+        match PlacementTask::new(&demands[i], period) {
             Some(task) => tasks.push(task)?,
             None => return Ok(Err(i)),
         }
@@ -47,7 +52,9 @@ fn attempt<A: Allocator + Clone>(
     period: u64,
 ) -> Result<Option<usize>, AllocError>
     requires { period ≤ 65536 }
-    ensures { OnOk result (length slots.new.items ≤ period) }
+    ensures missing { IfOk result (λ missing. missing ≡ spec.missing_in period (map demand_view demands.now)) }
+    ensures slots { OnOk result (slots.new.items ≡ spec.slots_in period (map demand_view demands.now)) }
+    ensures length { OnOk result (length slots.new.items ≤ period) }
 {
     slots.clear();
     match tasks_of(alloc, demands, period)? {
@@ -59,43 +66,53 @@ fn attempt<A: Allocator + Clone>(
     }
 }
 
-/// Adds own slots to an item that missed one; whether that may help.
-fn add_slots(demands: &mut [Demand<'_>], missed: usize, period: u64) -> bool {
-    let Some(demand) = demands.get_mut(missed) else {
+/// Returns the demand with one own slot more, and a sixty-fourth of them.
+fn with_more(demand: Demand<'_>) -> Demand<'_>
+    ensures { demand_view result ≡ spec.with_more (demand_view demand.entry) }
+{
+    let more = demand.count / 64;
+    Demand {
+        count: demand.count.saturating_add(1).saturating_add(more),
+        ..demand
+    }
+}
+
+/// Adds own slots to an item that missed one, and returns whether that may help.
+fn add_slots(demands: &mut [Demand<'_>], missed: usize, period: u64) -> bool
+    ensures { (if result then Some (map demand_view demands.new) else None)
+        ≡ spec.added period (map demand_view demands.old) missed }
+{
+    if demands.len() <= missed {
         return false;
-    };
+    }
+    let demand = demands[missed];
     if demand.need.is_full(period, demand.count) {
         return false;
     }
-    demand.count = demand
-        .count
-        .saturating_add(1)
-        .saturating_add(demand.count / 64);
+    demands[missed] = with_more(demand);
     true
 }
 
-/// Returns the slots of a period of that length, if they are found.
-fn period_slots<A: Allocator + Clone>(
+/// Returns the slots of a period of that length for these demands, if a few tries find them.
+fn tried_slots<A: Allocator + Clone>(
     alloc: A,
-    description: &Description,
+    demands: &mut [Demand<'_>],
     period: u64,
 ) -> Result<Option<Vec<Slot, A>>, AllocError>
     requires { period ≤ 65536 }
-    ensures { IfOk result (λ slots. IfSome slots (λ s. length s.items ≤ period)) }
+    ensures slots { IfOk result (λ slots. option_map (λ s. s.items) slots
+        ≡ spec.found_in 12 period (map demand_view demands.old)) }
+    ensures length { IfOk result (λ slots. IfSome slots (λ s. length s.items ≤ period)) }
 {
-    let Some(demands) = demands(alloc.clone()?, description, period)? else {
-        return Ok(None);
-    };
-    let mut demands = demands;
     let mut slots = Vec::new(alloc.clone()?);
     for _ in 0..TRIES {
-        if total(&demands) > period {
+        if total(demands) > period {
             return Ok(None);
         }
-        match attempt(alloc.clone()?, &mut slots, &demands, period)? {
+        match attempt(alloc.clone()?, &mut slots, demands, period)? {
             None => return Ok(Some(slots)),
             Some(missed) => {
-                if !add_slots(&mut demands, missed, period) {
+                if !add_slots(demands, missed, period) {
                     return Ok(None);
                 }
             }
@@ -104,19 +121,41 @@ fn period_slots<A: Allocator + Clone>(
     Ok(None)
 }
 
-/// Returns a plan of a period of at most `period` slots, if one is found; its certificate is the least that its slots
-/// can claim. Whether it serves the description is for the plan checker to say.
+/// Returns the slots of a period of that length, if they are found.
+fn period_slots<A: Allocator + Clone>(
+    alloc: A,
+    description: &Description,
+    period: u64,
+    distance: u64,
+) -> Result<Option<Vec<Slot, A>>, AllocError>
+    requires { period ≤ 65536 }
+    ensures slots { IfOk result (λ slots. option_map (λ s. s.items) slots
+        ≡ spec.period_slots description.now distance period) }
+    ensures length { IfOk result (λ slots. IfSome slots (λ s. length s.items ≤ period)) }
+{
+    let Some(demands) = demands(alloc.clone()?, description, period, distance)? else {
+        return Ok(None);
+    };
+    let mut demands = demands;
+    tried_slots(alloc, &mut demands, period)
+}
+
+/// Returns a plan of a period of at most `period` slots, if one is found, with `distance` ms between packets of service
+/// information if even spacing gives that; its certificate is the least that its slots can claim. Whether it serves the
+/// description is for the plan checker to say.
 pub fn period_plan<A: Allocator + Clone>(
     alloc: &A,
     description: &Description,
     period: u64,
+    distance: u64,
 ) -> Result<Option<Plan<A>>, AllocError>
     requires { period ≤ 65536 }
     ensures period { IfOk result (λ found. IfSome found (λ plan. length plan.slots ≤ period)) }
+    ensures found { IfOk result (λ found. found ≡ spec.period_plan description.now distance period) }
     ensures certificate { IfOk result (λ found. IfSome found (λ plan. plan.certificate
         ≡ certificate_of description.now plan.slots)) }
 {
-    let Some(slots) = period_slots(alloc.clone()?, description, period)? else {
+    let Some(slots) = period_slots(alloc.clone()?, description, period, distance)? else {
         return Ok(None);
     };
     let certificate = certificate_of(alloc.clone()?, description, &slots)?;

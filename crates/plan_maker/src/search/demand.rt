@@ -1,7 +1,8 @@
 //! What each item of a description demands of a period.
 
-ghost use Rattle.std.specs.Prelude.{◌≡◌, ◌≤◌, ◌++◌, OnOk, IfOk, map, nat_lt, option_map};
+ghost use Rattle.std.specs.Prelude.{◌≡◌, ◌≤◌, ◌<◌, ◌++◌, OnOk, IfOk, map, nat_lt, option_map};
 ghost use Rattle.std.specs.List.{list_any};
+ghost use Rattle.description_parts.specs.Tables.{table_count};
 ghost use Rattle.plan_maker.specs.Demands as spec;
 ghost use Rattle.plan_maker.specs.Demands.{need_view, demand_view};
 
@@ -72,20 +73,21 @@ pub struct Demand<'a> {
 }
 
 /// Returns the demands of a description in a period of `period` slots: streams, PCRs, tables, each by number. `None` if
-/// the period can't serve them all.
+/// the period can't serve them all. `distance` ms are asked for between packets of service information.
 pub fn demands<'a, A: Allocator>(
     alloc: A,
     description: &'a Description,
     period: u64,
+    distance: u64,
 ) -> Result<Option<Vec<Demand<'a>, A>>, AllocError>
     requires { period ≤ 65536 }
     ensures { IfOk result (λ found. option_map (λ ds. map demand_view ds.items) found
-        ≡ spec.demands_of description.now period) }
+        ≡ spec.demands_of description.now distance period) }
 {
     let mut demands = Vec::new(alloc);
     push_streams(&mut demands, description, period)?;
     push_pcrs(&mut demands, description, period)?;
-    push_tables(&mut demands, description, period)?;
+    push_tables(&mut demands, description, period, distance)?;
     if any_over(&demands, period) {
         return Ok(None);
     }
@@ -162,10 +164,29 @@ fn push_pcrs<'a, A: Allocator>(
     let kind = description.programs().len();
     let rate = description.rate().bits_per_second();
     for (i, program) in description.programs().iter().enumerate() {
-        let need = Need::Recurring(Recurrence::within(program.pcr_limit() as u64, rate, 1));
+        let need = Need::Recurring(Recurrence::within(program.pcr_limit() as u64, rate, 1, 0));
         demands.push(demand_of(Slot::Pcr(i as u8), need, i, kind, period))?;
     }
     Ok(())
+}
+
+/// Returns whether a PID is one of service information (EN 300 468, 5.1.3).
+fn is_service_information(pid: u16) -> bool
+    ensures { result ≡ spec.is_service_information pid }
+{
+    0x10 <= pid && pid <= 0x14
+}
+
+/// Returns the distance in ms that is asked for between two packets of a table: 0 if it is no service information.
+fn distance_of(description: &Description, table: usize, distance: u64) -> u64
+    requires { table < table_count description.now }
+    ensures { result ≡ spec.distance_of description.now distance table }
+{
+    if is_service_information(description.table_pid(table)) {
+        distance
+    } else {
+        0
+    }
 }
 
 /// Appends the demands of the tables.
@@ -173,10 +194,11 @@ fn push_tables<'a, A: Allocator>(
     demands: &mut Vec<Demand<'a>, A>,
     description: &'a Description,
     period: u64,
+    distance: u64,
 ) -> Result<(), AllocError>
     requires { period ≤ 65536 }
     ensures { OnOk result (map demand_view demands.new.items
-        ≡ map demand_view demands.old.items ++ spec.table_demands description.now period) }
+        ≡ map demand_view demands.old.items ++ spec.table_demands description.now distance period) }
 {
     description.keeps_ranges();
     let kind = description.tables();
@@ -184,7 +206,8 @@ fn push_tables<'a, A: Allocator>(
     for t in 0..kind {
         let limit = description.table_limit(t) as u64;
         let packets = description.round_packets(t) as u64;
-        let need = Need::Recurring(Recurrence::within(limit, rate, packets));
+        let apart = distance_of(description, t, distance);
+        let need = Need::Recurring(Recurrence::within(limit, rate, packets, apart));
         demands.push(demand_of(Slot::Table(t as u8), need, t, kind, period))?;
     }
     Ok(())

@@ -1,4 +1,4 @@
-use Rattle.std.proofs.Common.{◌≡◌, ◌<◌, ◌≤◌, length, map, arith, rules, ap, ◌∙◌}
+use Rattle.std.proofs.Common.{◌≡◌, ◌<◌, ◌≤◌, length, map, arith, rules, ◌∙◌}
 use Rattle.description_parts.specs.Tables.{table_kinds}
 use Rattle.plan_checker.proofs.Counts.{few_tables}
 use Rattle.plan_maker.specs.Demands.{demand_view, table_demand}
@@ -13,19 +13,20 @@ pub loop-t-preserved : goal.loop-t-preserved
 loop-t-preserved g c =
     let d = c.args.description.now in
     let p = c.args.period in
+    let e = c.args.distance in
     let t = c.loop-t.t in
     let below : t < length (table_kinds d) = search rules in
     let kind : c.tables-kind.result ≡ length (table_kinds d) = search rules in
-    let here : demand_view c.demand_of.result ≡ table_demand d p t =
-    table_demand_is d p t _ c.bits_per_second-rate.result c.tables-kind.result c.table_limit-limit.result c.round_packets-packets.result c.within.result
-    c.demand_of.ensures c.within.ensures c.table_limit-limit.ensures c.round_packets-packets.ensures (c.bits_per_second-rate.ensures.value ∙ c.rate.ensures)
-    kind in
+    let here : demand_view c.demand_of.result ≡ table_demand d e p t =
+    table_demand_is d p t _ c.bits_per_second-rate.result c.tables-kind.result e c.table_limit-limit.result c.round_packets-packets.result
+    c.distance_of-apart.result c.within.result c.demand_of.ensures c.within.ensures c.table_limit-limit.ensures c.round_packets-packets.ensures
+    c.distance_of-apart.ensures (c.bits_per_second-rate.ensures.value ∙ c.rate.ensures) kind in
     rw c.in_ok-push.ensures.items
     (view_pushed c.loop-t.demands.items c.demand_of.result _ here
-    ∙ numbers_pushed (table_demand d p) (table_kinds d) _ (map demand_view c.loop-t.demands.items) t below c.loop-t.invariant)
+    ∙ numbers_pushed (table_demand d e p) (table_kinds d) _ (map demand_view c.loop-t.demands.items) t below c.loop-t.invariant)
 
 pub returns : goal.returns
 returns g c =
     let d = c.args.description.now in
     let over : length (table_kinds d) ≤ c.loop-t.t = search rules in
-    all_pushed (λ t _. table_demand d c.args.period t) (table_kinds d) _ (map demand_view c.loop-t.demands.items) c.loop-t.t over c.loop-t.invariant
+    all_pushed (λ t _. table_demand d c.args.distance c.args.period t) (table_kinds d) _ (map demand_view c.loop-t.demands.items) c.loop-t.t over c.loop-t.invariant

@@ -6,4 +6,4 @@ use Rattle.plan_maker.proofs.search.demand.push_tables.Given as goal
 
 abbrev pub invariant-loop-t : goal.invariant-loop-t
 invariant-loop-t g l = map demand_view l.demands.items
-    ≡ map demand_view l.initial.demands.items ++ numbered (λ t _. table_demand l.description l.period t ∷ []) 0 (take l.t (table_kinds l.description))
+    ≡ map demand_view l.initial.demands.items ++ numbered (λ t _. table_demand l.description l.distance l.period t ∷ []) 0 (take l.t (table_kinds l.description))

@@ -1,4 +1,4 @@
-use Rattle.std.proofs.Common.{arith, sym}
+use Rattle.std.proofs.Common.{arith}
 use Rattle.plan_maker.specs.Bounded.{product}
 use Rattle.plan_maker.proofs.BoundedProducts.{next_factor, all_factors}
 use Rattle.plan_maker.proofs.search.numbers.product.Goals as goal

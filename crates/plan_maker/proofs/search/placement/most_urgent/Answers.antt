@@ -1,9 +1,8 @@
-use Rattle.std.proofs.Common.{◌≡◌, ◌+◌, ℕ, Option, length, arith, ap, ap₂, sym, subst, ◌∙◌}
+use Rattle.std.proofs.Common.{◌≡◌, ℕ, Option, length, arith, ap, ap₂, sym, subst, ◌∙◌}
 use Rattle.std.specs.Prelude.{min, IfSome, ◌<◌}
-use Rattle.own_slots.specs.Extremes.{least}
 use Rattle.own_slots.proofs.Extremes.{least_none, least_more}
 use Rattle.plan_maker.specs.Bounded.{most_long}
-use Rattle.plan_maker.specs.Placements.{due_at, due_number, first_least}
+use Rattle.plan_maker.specs.Placements.{due_number, first_least}
 use Rattle.plan_maker.proofs.PlacedSlots.{first_least_none, first_least_more, first_least_below, due_is}
 use Rattle.plan_maker.proofs.search.placement.most_urgent.Goals as goal
 

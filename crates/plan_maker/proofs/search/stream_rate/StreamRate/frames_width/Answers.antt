@@ -1,4 +1,4 @@
-use Rattle.std.proofs.Common.{◌≡◌, ◌+◌, ◌-◌, ℕ, Option, arith, ap, ap₂, sym, ◌∙◌}
+use Rattle.std.proofs.Common.{◌≡◌, ◌+◌, ◌-◌, ℕ, arith, ap, ap₂, sym, ◌∙◌}
 use Rattle.plan_maker.specs.Joined.{lesser, least_of}
 use Rattle.plan_maker.specs.StreamNeeds.{stream_view, frame_width}
 use Rattle.plan_maker.proofs.JoinedNumbers.{least_of_none, least_of_more}

@@ -1,4 +1,4 @@
-use Rattle.std.proofs.Common.{◌≡◌, ◌+◌, ℕ, Option, arith, ap, ap₂, sym, ◌∙◌}
+use Rattle.std.proofs.Common.{◌≡◌, ◌+◌, ℕ, arith, ap, ap₂, sym, ◌∙◌}
 use Rattle.unit_timing.specs.Allowances.{allowance_rows}
 use Rattle.plan_maker.specs.Joined.{greater, greatest_of}
 use Rattle.plan_maker.specs.StreamNeeds.{stream_view, steady_count, row_count}

@@ -1,4 +1,4 @@
-use Rattle.std.proofs.Common.{◌≡◌, ◌+◌, ℕ, Option, arith, ap, ap₂, sym, ◌∙◌}
+use Rattle.std.proofs.Common.{◌≡◌, ◌+◌, ℕ, arith, ap, ap₂, sym, ◌∙◌}
 use Rattle.unit_timing.specs.Allowances.{allowance_rows}
 use Rattle.plan_maker.specs.Bounded.{all_narrowed}
 use Rattle.plan_maker.specs.Joined.{lesser, least_of}
