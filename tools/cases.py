@@ -60,10 +60,10 @@ def rows(case, program=None):
     for line in path.read_text().splitlines() if path.exists() else []:
         if line and line[0] != "#":
             answer, *parts = line.split(" | ")
-            status, where, text = answer.split(" ", 2)
-            if where not in ("output", "begins", "fault"):
-                raise ValueError(f"a row's answer is on output, begins it, or is a fault, not {where}")
-            told = lines(text).encode() + b"\n"
+            status, where, *text = answer.split(" ", 2)
+            if where not in ("output", "begins", "fault", "nothing"):
+                raise ValueError(f"a row's answer is on output, begins it, is a fault, or nothing, not {where}")
+            told = b"" if where == "nothing" else lines(*text).encode() + b"\n"
             data = b"".join(part(case, *one.split(" ", 1), program) for one in parts)
             yield data, int(status), b"" if where == "fault" else told, told if where == "fault" else b"", where == "begins"
 
