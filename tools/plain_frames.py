@@ -83,6 +83,19 @@ def framing(header, units):
     return {"frames": most, "frame": time, "frame_size": largest}
 
 
+def crosses(header, units):
+    """Whether a frame begins in the first of two units and ends in the second, before another frame that ends there too, and a third."""
+    one, more = units if len(units) == 2 else (b"", b"")
+    whole = one + more
+    for at in range(max(0, len(one) - 8194), len(one)):
+        places = [at]
+        while len(places) < 4 and (found := header(whole[places[-1]:])) and found[0] >= 7:
+            places.append(places[-1] + found[0])
+        if len(places) > 2 and places[1] > len(one) and places[2] < len(whole):
+            return True
+    return False
+
+
 class Walk:
     """The frames of units whose bytes come one by one: where each begins, and how long after the first of its unit it is due."""
 

@@ -160,6 +160,17 @@ def other_packets(data):
     return "packets of 204 bytes: take the 16 bytes after each of 188 away" if row(0, 204) else None
 
 
+def lacks_packets(data):
+    """Whether 4 MiB are there, and have no five sync bytes 188 bytes apart."""
+    front, at = data[:1 << 22], -1
+    if len(front) < 1 << 22:
+        return False
+    while (at := front.find(b"\x47", at + 1)) >= 0:
+        if front[at: at + 753: 188] == b"\x47" * 5:
+            return False
+    return True
+
+
 class Stream:
     """The findings of a stream by PID, and its packets that can't be told a PID."""
 

@@ -21,7 +21,7 @@ same_number a b e = grind (arith, nat_tests)
 
 -- 1. One unit after another
 
-next_unit : (i : ℕ) (us : List CarriedUnit) (u : CarriedUnit) → i < length us → u ≡ get_or us i u → drop i us ≡ u ∷ drop (i + 1) us
+pub next_unit : (i : ℕ) (us : List CarriedUnit) (u : CarriedUnit) → i < length us → u ≡ get_or us i u → drop i us ≡ u ∷ drop (i + 1) us
 next_unit i us u below here = rw (drop-cons us i u below, add-one i, sym here) refl
 
 -- In a data stream a unit is due at the same moment as the next unit if their DTS are equal.
@@ -70,7 +70,7 @@ same_none i us over = rw (drop_all i us over) refl
 
 -- 3. Only the DTS changes
 
-length_apart : (place : ℕ) (us : List CarriedUnit) → length (apart_dts place us) ≡ length us
+pub length_apart : (place : ℕ) (us : List CarriedUnit) → length (apart_dts place us) ≡ length us
 unfolding apart_dts
 length_apart place [] = refl
 length_apart place (u ∷ us) = ap suc (length_apart (next_place (is_same_next u us) place) us)

@@ -10,4 +10,5 @@ pub mod SameIds
 pub mod TimeOrder
 pub mod MadeDts
 pub mod ApartUnits
+pub mod RisingDts
 pub mod UnitMoments

@@ -5,6 +5,7 @@ pub mod Stamps
 pub mod StampErrors
 pub mod MadeDts
 pub mod ApartUnits
+pub mod RisingDts
 pub mod DtsErrors
 pub mod Declaration
 pub mod UnitRuns

@@ -11,8 +11,8 @@ use std::alloc::{AllocError, Allocator};
 /// Private_stream_1 (ISO/IEC 13818-1, table 2-22).
 pub const PRIVATE_STREAM_1: u8 = 0xbd;
 
-// Returns the DTS of a unit.
-fn dts_of<A: Allocator>(unit: &FoundUnit<'_, A>) -> u64
+/// Returns the DTS of a unit.
+pub(crate) fn dts_of<A: Allocator>(unit: &FoundUnit<'_, A>) -> u64
     ensures { result ≡ unit.now.unit.dts }
 {
     unit.dts
@@ -25,9 +25,13 @@ fn is_same<A: Allocator>(unit: &FoundUnit<'_, A>, next: &FoundUnit<'_, A>) -> bo
     unit.stream_id == PRIVATE_STREAM_1 && next.dts == unit.dts
 }
 
-// Returns whether a unit is due at the same moment as the unit at a place, if there is one.
+/// Returns whether a unit is due at the same moment as the unit at a place, if there is one.
 #[tactic(auto, using(crate::proofs::ApartUnits::same_end))]
-fn is_same_at<A: Allocator>(at: usize, unit: &FoundUnit<'_, A>, found: &[FoundUnit<'_, A>]) -> bool
+pub(crate) fn is_same_at<A: Allocator>(
+    at: usize,
+    unit: &FoundUnit<'_, A>,
+    found: &[FoundUnit<'_, A>],
+) -> bool
     ensures { result ≡ spec.is_same_next unit.now (drop at found.now) }
 {
     match found.get(at) {

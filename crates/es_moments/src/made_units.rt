@@ -10,8 +10,11 @@ use crate::wire_unit::{FoundUnit, WireUnit};
 use std::alloc::{AllocError, Allocator};
 use std::collections::VecDeque;
 
-// Returns the PTS of units.
-fn all_pts<A: Allocator>(alloc: A, found: &[FoundUnit<'_, A>]) -> Result<Vec<u64, A>, AllocError>
+/// Returns the PTS of units.
+pub(crate) fn all_pts<A: Allocator>(
+    alloc: A,
+    found: &[FoundUnit<'_, A>],
+) -> Result<Vec<u64, A>, AllocError>
     ensures { IfOk result (λ stamps. stamps.items ≡ spec.pts_of found.now) }
 {
     found.iter().map(|unit| unit.pts).collect(alloc)

@@ -1,6 +1,7 @@
 //! Laws of the definitions. Each function does nothing: its contract is the law.
 
 ghost use Rattle.es_moments.specs.ApartUnits.{ApartKeep, ApartStay, RowRises, SoundStay};
+ghost use Rattle.es_moments.specs.RisingDts.{SoundKeep};
 ghost use Rattle.es_units.specs.Laws.{FindingsOfThePid, MovedInTurn};
 ghost use Rattle.es_units.specs.Laws.{NothingIsLost, TakenOneByOne, UnitsAreKept};
 ghost use Rattle.es_units.specs.UnitSteps.{GivenAreCarried, GivenInTurn, UncutAreCarried};
@@ -34,6 +35,11 @@ pub fn apart_by_one()
     ensures stay { ApartStay }
     ensures sound { SoundStay }
     ensures apart { RowRises }
+{}
+
+/// States that no DTS are made of units whose stamps can be moments.
+pub fn sound_dts_are_kept()
+    ensures { SoundKeep }
 {}
 
 /// States that the moments of a stream's units are their stamps less one constant: plus that, modulo 2^33, they are the

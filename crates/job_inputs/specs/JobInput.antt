@@ -1,11 +1,10 @@
 -- The input of a job: the programs and streams of a transport stream, and the declarations of their units.
-use Rattle.std.specs.Prelude.{ℕ, ◌==◌, ◌&&◌, not, Bool, true, false, if◌then◌else◌, List, [], ◌∷◌, ◌++◌, length, map, filter, flat_map, ok_or, Option, Some}
+use Rattle.std.specs.Prelude.{ℕ, ◌==◌, ◌||◌, Bool, true, false, if◌then◌else◌, List, [], ◌∷◌, ◌++◌, length, map, filter, flat_map, ok_or, Option, Some}
 use Rattle.std.specs.Prelude.{None, Result, Ok, ◌≤◌, All}
 use Rattle.std.specs.List.{list_any}
 use Rattle.std.specs.Option.{option_or}
 use Rattle.psi_tables.specs.declared.pat.programs.Program.{Program}
 use Rattle.pid_findings.specs.Views.{FindingView}
-use Rattle.es_units.specs.Damage.{is_scrambled}
 use Rattle.program_tables.specs.Association.{AssociationView, association}
 use Rattle.stream_programs.specs.PidAssignment.{assigned_pids}
 use Rattle.stream_programs.specs.Programs.{FoundProgramsView, programs_of}
@@ -123,22 +122,20 @@ with_moved options information base programs tables all_warnings streams =
       warnings = all_warnings ++ buffer_warnings options.buffers (all_measured streams) all chosen;
     }) streams))
 
--- why a stream is not carried: the first warning of a stream_id that can't be written, or of a stream that is left out for a reason; and
--- if no stream is carried, of scrambled packets
-unfoldable pub why_nothing : Bool → Warning → Option JobRefusal
-why_nothing some (warnings.StreamId program pid packet id) = Some (refusals.StreamId packet pid id)
-why_nothing some (warnings.LeftOut pid why) = Some why
-why_nothing some (warnings.Units pid warning) = if not some && is_scrambled warning.cause then Some refusals.Scrambled else None
-why_nothing some _ = None
+-- why a stream is not carried: the first warning of a stream_id that can't be written, or of a stream that is left out for a reason
+unfoldable pub why_nothing : Warning → Option JobRefusal
+why_nothing (warnings.StreamId program pid packet id) = Some (refusals.StreamId packet pid id)
+why_nothing (warnings.LeftOut pid why) = Some why
+why_nothing _ = None
 
-unfoldable pub first_why : Bool → List Warning → Option JobRefusal
-first_why some [] = None
-first_why some (w ∷ ws) = option_or (why_nothing some w) (first_why some ws)
+unfoldable pub first_why : List Warning → Option JobRefusal
+first_why [] = None
+first_why (w ∷ ws) = option_or (why_nothing w) (first_why ws)
 
 -- the refusal if no stream is carried; if that is asked for, also if one is not carried
 unfoldable pub nothing_carried : Bool → List Warning → List WireStreamView → Option JobRefusal
 nothing_carried strict all_warnings streams =
-    if length streams == 0 then first_why false all_warnings else (if strict then first_why true all_warnings else None)
+    if length streams == 0 || strict then first_why all_warnings else None
 
 -- streams with their units as on the wire
 unfoldable pub with_streams : JobOptionsView → List FindingView → ℕ → List JobProgramView → List JobTableView → List Warning → List WireStreamView →

@@ -5,10 +5,10 @@ ghost use Rattle.job_inputs.specs.JobInput as spec;
 
 use job_programs::{JobRefusal, Warning, WireStream};
 
-// Returns the refusal for a warning, if there is one; `some` if streams are carried.
+// Returns the refusal for a warning that a stream is not carried.
 #[tactic(auto, unfolding(crate::specs::JobInput::why_nothing))]
-fn why_nothing(some: bool, warning: Warning) -> Option<JobRefusal>
-    ensures { result ≡ spec.why_nothing some warning }
+fn why_nothing(warning: Warning) -> Option<JobRefusal>
+    ensures { result ≡ spec.why_nothing warning }
 {
     match warning {
         Warning::StreamId {
@@ -18,23 +18,16 @@ fn why_nothing(some: bool, warning: Warning) -> Option<JobRefusal>
             ..
         } => Some(JobRefusal::StreamId { packet, pid, id }),
         Warning::LeftOut { why, .. } => Some(why),
-        Warning::Units { warning, .. } => {
-            if !some && warning.cause.is_scrambled() {
-                Some(JobRefusal::Scrambled)
-            } else {
-                None
-            }
-        }
         _ => None,
     }
 }
 
 // Returns the refusal for the first warning that has one.
-fn first_why(some: bool, warnings: &[Warning]) -> Option<JobRefusal>
-    ensures { result ≡ spec.first_why some warnings.now }
+fn first_why(warnings: &[Warning]) -> Option<JobRefusal>
+    ensures { result ≡ spec.first_why warnings.now }
 {
     for warning in warnings {
-        if let Some(refusal) = why_nothing(some, *warning) {
+        if let Some(refusal) = why_nothing(*warning) {
             return Some(refusal);
         }
     }
@@ -51,10 +44,8 @@ pub(crate) fn nothing_carried(
 ) -> Option<JobRefusal>
     ensures { result ≡ spec.nothing_carried strict warnings.now streams.now }
 {
-    if streams.is_empty() {
-        first_why(false, warnings)
-    } else if strict {
-        first_why(true, warnings)
+    if streams.is_empty() || strict {
+        first_why(warnings)
     } else {
         None
     }

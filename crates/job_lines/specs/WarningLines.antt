@@ -111,9 +111,17 @@ unfoldable pub leak_line : ℕ → ℕ → ℕ → List ℕ
 leak_line pid rate leak = codes "pid " ++ decimal pid ++ codes " asks for " ++ decimal rate ++ codes " bits/s and its leak gives " ++ decimal leak
     ++ codes ": declared without rbx and mb\n"
 
--- access units that a main buffer does not hold one by one
-unfoldable pub frames_line : ℕ → ℕ → List ℕ
-frames_line pid frames = codes "pid " ++ decimal pid ++ codes " has units of up to " ++ decimal frames ++ codes " frames: declared without frames\n"
+-- a main buffer holds whole PES packets; by the standard each frame of sound leaves it at its own time (ISO/IEC 13818-1, 2.4.2.3)
+unfoldable pub by_packets : ℕ → List ℕ
+by_packets main = codes ": main of " ++ decimal main ++ codes " bytes holds whole packets, but may be over by the standard, which counts frames\n"
+
+-- frames of sound that a main buffer is not known to hold one by one
+unfoldable pub frames_line : ℕ → ℕ → ℕ → List ℕ
+frames_line pid frames main = codes "pid " ++ decimal pid ++ codes ": up to " ++ decimal frames ++ codes " frames of sound a PES packet" ++ by_packets main
+
+-- frames of sound that cross PES packets
+unfoldable pub crossing_line : ℕ → ℕ → List ℕ
+crossing_line pid main = codes "pid " ++ decimal pid ++ codes ": frames of sound cross PES packets" ++ by_packets main
 
 -- the lines for a stream that is left out: the line of the refusal that it would be, in a recording with streams whose clocks go back, and a line that says
 -- so
@@ -138,7 +146,9 @@ warning_line falling (warning.MapMoved program from to) = codes "PMT of program 
 warning_line falling (warning.HeaderBuffer pid said unit counted) = header_line pid said unit counted
 warning_line falling (warning.Leak pid rate leak) = leak_line pid rate leak
 warning_line falling (warning.LeftOut pid why) = left_out_line falling pid why
-warning_line falling (warning.Frames pid frames) = frames_line pid frames
+warning_line falling (warning.Frames pid frames main) = frames_line pid frames main
+warning_line falling (warning.CrossingFrames pid main) = crossing_line pid main
+warning_line falling (warning.MadeDts pid) = codes "pid " ++ decimal pid ++ codes " has no DTS that rise: made from its PTS\n"
 
 -- 2. All of them
 
@@ -151,12 +161,12 @@ abbrev pub is_open_ended : Warning → Bool
 is_open_ended (warning.Units pid left_out) = is_unknown_end left_out.cause
 is_open_ended _ = false
 
--- nothing is lost, but a receiver's buffers may hold more than the job declares: the units do not fit the buffer that the headers declare, MB leaks too
--- slowly to be declared, or the main buffer has no room for frames
+-- nothing is lost, but a receiver's buffers may hold more than the job declares: the units do not fit the buffer that the headers declare, or MB leaks too
+-- slowly to be declared; or the DTS of a stream are made
 abbrev pub is_note : Warning → Bool
 is_note (warning.HeaderBuffer pid said unit counted) = true
 is_note (warning.Leak pid rate leak) = true
-is_note (warning.Frames pid frames) = true
+is_note (warning.MadeDts pid) = true
 is_note _ = false
 
 -- whether a warning is reported: an open end only if the input is not declared whole; a warning that is neither a loss nor a note only if all

@@ -3,7 +3,9 @@
 ghost use Rattle.std.specs.Prelude.{◌≡◌, ◌++◌, OnOk, string_bytes};
 ghost use Rattle.job_lines.specs.SlipLines as spec;
 
-use packet_sync::{OtherPackets, Slip};
+use crate::refusal_line::write_refusal;
+use job_programs::JobRefusal;
+use packet_sync::{OtherPackets, Slip, WrongPackets};
 use std::alloc::AllocError;
 use std::fmt::Write;
 
@@ -26,9 +28,9 @@ pub fn write_slips(slips: &[Slip], text: &mut String) -> Result<(), AllocError>
     Ok(())
 }
 
-/// Appends the line for a stream whose packets have not 188 bytes.
+// Appends the line for a stream whose packets have not 188 bytes.
 #[tactic(auto, unfolding(crate::specs::SlipLines::packets_line))]
-pub fn write_packets(packets: OtherPackets, text: &mut String) -> Result<(), AllocError>
+fn write_packets(packets: OtherPackets, text: &mut String) -> Result<(), AllocError>
     ensures { OnOk result (string_bytes text.new ≡ string_bytes text.old ++ spec.packets_line packets) }
 {
     match packets {
@@ -38,5 +40,16 @@ pub fn write_packets(packets: OtherPackets, text: &mut String) -> Result<(), All
         OtherPackets::Corrected => text.push_str(
             "packets of 204 bytes: take the 16 bytes after each of 188 away\n",
         ),
+    }
+}
+
+/// Appends the line for an input that is no stream of packets of 188 bytes.
+#[tactic(auto, unfolding(crate::specs::SlipLines::wrong_line))]
+pub fn write_wrong_packets(wrong: WrongPackets, text: &mut String) -> Result<(), AllocError>
+    ensures { OnOk result (string_bytes text.new ≡ string_bytes text.old ++ spec.wrong_line wrong) }
+{
+    match wrong {
+        WrongPackets::Other(packets) => write_packets(packets, text),
+        WrongPackets::NoPackets => write_refusal(JobRefusal::NoPackets, text),
     }
 }

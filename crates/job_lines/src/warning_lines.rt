@@ -246,15 +246,36 @@ fn write_leak(pid: u16, rate: u64, leak: u32, text: &mut String) -> Result<(), A
     )
 }
 
-// Appends the line for access units that a main buffer does not hold one by one.
-#[tactic(auto, unfolding(crate::specs::WarningLines::frames_line))]
-fn write_frames(pid: u16, frames: u8, text: &mut String) -> Result<(), AllocError>
-    ensures { OnOk result (string_bytes text.new ≡ string_bytes text.old ++ spec.frames_line pid frames) }
+// Appends that a main buffer holds whole PES packets, and may be over if frames of sound are counted.
+#[tactic(auto, unfolding(crate::specs::WarningLines::by_packets))]
+fn write_by_packets(main: u32, text: &mut String) -> Result<(), AllocError>
+    ensures { OnOk result (string_bytes text.new ≡ string_bytes text.old ++ spec.by_packets main) }
 {
     write!(
         text,
-        "pid {pid} has units of up to {frames} frames: declared without frames\n"
+        ": main of {main} bytes holds whole packets, but may be over by the standard, which counts frames\n"
     )
+}
+
+// Appends the line for frames of sound that a main buffer is not known to hold one by one.
+#[tactic(auto, unfolding(crate::specs::WarningLines::frames_line))]
+fn write_frames(pid: u16, frames: u8, main: u32, text: &mut String) -> Result<(), AllocError>
+    ensures { OnOk result (string_bytes text.new ≡ string_bytes text.old ++ spec.frames_line pid frames main) }
+{
+    write!(
+        text,
+        "pid {pid}: up to {frames} frames of sound a PES packet"
+    )?;
+    write_by_packets(main, text)
+}
+
+// Appends the line for frames of sound that cross PES packets.
+#[tactic(auto, unfolding(crate::specs::WarningLines::crossing_line))]
+fn write_crossing(pid: u16, main: u32, text: &mut String) -> Result<(), AllocError>
+    ensures { OnOk result (string_bytes text.new ≡ string_bytes text.old ++ spec.crossing_line pid main) }
+{
+    write!(text, "pid {pid}: frames of sound cross PES packets")?;
+    write_by_packets(main, text)
 }
 
 // Appends the lines for a stream that is left out.
@@ -319,7 +340,12 @@ fn write_warning(falling: &[u16], warning: Warning, text: &mut String) -> Result
         } => write_header_buffer(pid, said, unit, counted, text),
         Warning::Leak { pid, rate, leak } => write_leak(pid, rate, leak, text),
         Warning::LeftOut { pid, why } => write_left_out(falling, pid, why, text),
-        Warning::Frames { pid, frames } => write_frames(pid, frames, text),
+        Warning::Frames { pid, frames, main } => write_frames(pid, frames, main, text),
+        Warning::CrossingFrames { pid, main } => write_crossing(pid, main, text),
+        Warning::MadeDts { pid } => write!(
+            text,
+            "pid {pid} has no DTS that rise: made from its PTS\n"
+        ),
     }
 }
 
@@ -342,12 +368,12 @@ fn is_open_ended(warning: &Warning) -> bool
     }
 }
 
-// Returns whether a warning says that a receiver's buffers may hold more than the job declares.
+// Returns whether a warning says that a receiver's buffers may hold more than the job declares, or that DTS are made.
 fn is_note(warning: &Warning) -> bool
     ensures { result ≡ spec.is_note warning.now }
 {
     match warning {
-        Warning::HeaderBuffer { .. } | Warning::Leak { .. } | Warning::Frames { .. } => true,
+        Warning::HeaderBuffer { .. } | Warning::Leak { .. } | Warning::MadeDts { .. } => true,
         _ => false,
     }
 }

@@ -4,3 +4,4 @@ mod MapWarnings
 pub mod Each
 pub mod FrameSums
 pub mod Steps
+pub mod KeptDts

@@ -2,9 +2,9 @@
 use Rattle.std.specs.Prelude.{◌≡◌, ◌≤◌, ◌<◌, ℕ, ◌^◌, Bool, true, false, None, List, map, length}
 use Rattle.pes_packet.specs.AccessUnits.{AccessUnit}
 use Rattle.pid_findings.specs.Views.{FindingView}
-use Rattle.es_moments.specs.ApartUnits.{apart_units}
 use Rattle.es_units.specs.CarriedUnits.{carried_units}
 use Rattle.es_moments.specs.MadeDts.{made_units}
+use Rattle.es_moments.specs.RisingDts.{dts_are_made, rising_units}
 use Rattle.es_moments.specs.Declaration.{min_interval, max_unit_size, max_pts_after, AllowsUnits}
 use Rattle.es_units.specs.Laws.{FirstDue}
 use Rattle.es_moments.specs.Stamps.{moved, first_fault}
@@ -20,11 +20,15 @@ pub record AreMoved (wire : List AccessUnit) (base : ℕ) (us : List AccessUnit)
   pub sound : first_fault limit base None 0 wire ≡ None
   pub are : us ≡ moved base None wire
 
--- the units that are found of a PID, each of a data stream with a DTS of its own; or with DTS that are made from their PTS where that is
--- asked for
+-- the units that are found of a PID, with DTS that rise if their stamps allow it; or with DTS that are made from their PTS where that is asked
+-- for
 unfoldable pub source_of : Bool → ℕ → List FindingView → List CarriedUnit
-source_of false pid findings = apart_units (carried_units pid findings)
+source_of false pid findings = rising_units (carried_units pid findings)
 source_of true pid findings = made_units (carried_units pid findings)
+
+-- the units that are found of a PID keep their DTS, except that units of a data stream that are due at one moment get distinct DTS: none are made
+abbrev pub KeepDts : ℕ → List FindingView → Type 0
+KeepDts pid findings = dts_are_made (carried_units pid findings) ≡ false
 
 -- these at moments by one constant
 pub record AreFound (made : Bool) (findings : List FindingView) (pid : ℕ) (us : List AccessUnit) : Type 0 where

@@ -37,8 +37,8 @@ pub enum JobRefusal {
     NoProgram(NamedNumbers),
     /// No stream can be carried.
     NoStream,
-    /// No stream can be carried, since packets are scrambled.
-    Scrambled,
+    /// The packets of a PID are scrambled, so that no unit of it can be read.
+    Scrambled(u16),
     /// No stream can be carried, since the units of a PID have a stream_id that no unit may have.
     StreamId {
         packet: u64,

@@ -117,11 +117,22 @@ pub enum Warning {
         pid: u16,
         why: JobRefusal,
     },
-    /// The units of a stream have up to this number of access units, which its main buffer does not hold one by one: a
-    /// unit leaves it whole.
+    /// The units of a stream have up to this number of frames of sound, which its main buffer of this size is not known
+    /// to hold if they leave it one by one: a unit leaves it whole.
     Frames {
         pid: u16,
         frames: u8,
+        main: u32,
+    },
+    /// Frames of sound begin in one unit of a stream and end in the next: a unit leaves its main buffer of this size
+    /// whole.
+    CrossingFrames {
+        pid: u16,
+        main: u32,
+    },
+    /// The DTS of a stream do not rise: they are made from its PTS.
+    MadeDts {
+        pid: u16,
     },
 }
 
@@ -153,7 +164,8 @@ impl ProgramWarning {
 }
 
 impl Warning {
-    /// Returns whether it reports a loss: the stream is damaged, or a part of it or of the selection is left out.
+    /// Returns whether it reports a loss: the stream is damaged, a part of it or of the selection is left out, or a
+    /// receiver's buffer may be over its size.
     #[tactic(auto, unfolding(crate::specs::Warnings::is_damage))]
     pub fn is_damage(self) -> bool
         ensures { result ≡ spec.is_damage self }
@@ -175,7 +187,9 @@ impl Warning {
             Warning::HeaderBuffer { .. } => false,
             Warning::Leak { .. } => false,
             Warning::LeftOut { .. } => true,
-            Warning::Frames { .. } => false,
+            Warning::Frames { .. } => true,
+            Warning::CrossingFrames { .. } => true,
+            Warning::MadeDts { .. } => false,
         }
     }
 }

@@ -32,10 +32,10 @@ use Rattle.devices.proofs.Performances.{no_room, performed, unwritten}
 use Rattle.job_run.specs.declared.job_arguments.Subcommand.{Subcommand}
 use Rattle.job_run.specs.declared.job_arguments.Subcommand.TheVariants.{Whole, Describe, Units, Why}
 use Rattle.job_run.specs.JobArguments.{JobArgumentsView}
-use Rattle.packet_sync.specs.OtherPackets.{other_packets}
 use Rattle.packet_sync.specs.Slips.{carried}
-use Rattle.packet_sync.specs.declared.packet_sizes.OtherPackets.{OtherPackets}
-use Rattle.job_lines.specs.SlipLines.{packets_line}
+use Rattle.packet_sync.specs.WrongPackets.{wrong_packets}
+use Rattle.packet_sync.specs.declared.packet_search.WrongPackets.{WrongPackets}
+use Rattle.job_lines.specs.SlipLines.{wrong_line}
 use Rattle.job_run.specs.Outcomes.{BytesLead, FindingsLead, Gives, GivesJob, GivesReasons, GivesUnits, IsFound, IsReasonOutput, IsWritten, Leads, InputLeads}
 use Rattle.job_run.specs.Outcomes.{ReportsRefusal, ReportsWhy, Withholds, found_line}
 use Rattle.std.specs.Int.{bytes_high_first}
@@ -226,13 +226,13 @@ carried_lead arguments bytes notes said references size at_times marked findings
     (subst (λ (x : List FindingView). FindingsLead arguments said (length (carried bytes) / 188) x o) all
     (subst (λ (n : ℕ). FindingsLead arguments said (n / 188) at_times o) t.size_is l))
 
-pub none_lead : (arguments : JobArgumentsView) (bytes : List ℕ) (o : Outcome) → None ≡ other_packets bytes → BytesLead arguments bytes None o →
+pub none_lead : (arguments : JobArgumentsView) (bytes : List ℕ) (o : Outcome) → None ≡ wrong_packets bytes → BytesLead arguments bytes None o →
     Leads arguments bytes o
-none_lead arguments bytes o e l = subst (λ (x : Option OtherPackets). BytesLead arguments bytes x o) e l
+none_lead arguments bytes o e l = subst (λ (x : Option WrongPackets). BytesLead arguments bytes x o) e l
 
-pub other_lead : (arguments : JobArgumentsView) (bytes : List ℕ) (packets : OtherPackets) (o : Outcome) → Some packets ≡ other_packets bytes →
-    o ≡ reported (packets_line packets) → Leads arguments bytes o
-other_lead arguments bytes packets o e l = subst (λ (x : Option OtherPackets). BytesLead arguments bytes x o) e l
+pub wrong_lead : (arguments : JobArgumentsView) (bytes : List ℕ) (wrong : WrongPackets) (o : Outcome) → Some wrong ≡ wrong_packets bytes →
+    o ≡ reported (wrong_line wrong) → Leads arguments bytes o
+wrong_lead arguments bytes wrong o e l = subst (λ (x : Option WrongPackets). BytesLead arguments bytes x o) e l
 
 pub outcome_written : (arguments : JobArgumentsView) (r : ReadingView) (o : Outcome) (input output faults : Device) (status : ℕ) →
     IsReadAs input (λ bytes. IsRead bytes r) →

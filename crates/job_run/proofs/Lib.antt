@@ -1,6 +1,6 @@
 pub mod Carrying
 pub mod JobFindings
 pub mod JobOutcomes
-pub mod Fronts
+pub mod Readings
 mod StreamFiles
 mod Reported

@@ -20,12 +20,12 @@ use Rattle.devices.specs.WholeInput.{IsReadAs, IsWhole, ReadsInput}
 use Rattle.devices.specs.declared.halt.Halt.{Halt}
 use Rattle.devices.specs.declared.halt.Halt.TheVariants as Halted
 use Rattle.devices.proofs.NamedReaders.{is_unread}
-use Rattle.packet_sync.specs.OtherPackets.{other_packets}
 use Rattle.packet_sync.specs.Slips.{carried}
-use Rattle.packet_sync.specs.declared.packet_sizes.OtherPackets.{OtherPackets}
+use Rattle.packet_sync.specs.WrongPackets.{wrong_packets}
+use Rattle.packet_sync.specs.declared.packet_search.WrongPackets.{WrongPackets}
 use Rattle.job_lines.specs.InputLines.{are_lost, input_line, name_of, note_lines}
 use Rattle.job_lines.specs.RefusalLine.{refusal_in}
-use Rattle.job_lines.specs.SlipLines.{packets_line}
+use Rattle.job_lines.specs.SlipLines.{wrong_line}
 use Rattle.job_programs.specs.Answers.{Answers, Refuses}
 use Rattle.data_times.specs.References.{references_in}
 use Rattle.packet_pcr.specs.declared.pcr_reading.FoundPcr.{FoundPcr}
@@ -70,10 +70,10 @@ is_refusal_of a notes count findings Memory o is outcome_is = absurd outcome_is
 is_refusal_of a notes count findings (Refused refusal) o is outcome_is = record { refusal = refusal; refused = is; is = outcome_is }
 
 -- A stream of packets of 188 bytes
-plain_input : (a : JobArgumentsView) (bytes : List ℕ) (x : Result JobInputView JobRefusal) → other_packets bytes ≡ None →
+plain_input : (a : JobArgumentsView) (bytes : List ℕ) (x : Result JobInputView JobRefusal) → wrong_packets bytes ≡ None →
     job_input a.options (length (carried bytes) / 188) (findings_for a.options bytes) ≡ x → stream_input a.options bytes ≡ input_or_line (notes_for a.options bytes).falling x
 unfolding packets_input
-plain_input a bytes x none is = ap (λ (p : Option OtherPackets). packets_input a.options bytes p) none
+plain_input a bytes x none is = ap (λ (p : Option WrongPackets). packets_input a.options bytes p) none
     ∙ ap (λ (r : Result JobInputView JobRefusal). input_or_line (notes_for a.options bytes).falling r) is
 
 of_value : (falling : List ℕ) (m : JobInputView) → input_or_line falling (Ok m) ≡ Ok m
@@ -84,7 +84,7 @@ of_refusal : (falling : List ℕ) (refusal : JobRefusal) → input_or_line falli
 unfolding input_or_line
 of_refusal falling refusal = refl
 
-of_bytes : (a : JobArgumentsView) (bytes : List ℕ) (r : Result TakenView Outcome) → other_packets bytes ≡ None →
+of_bytes : (a : JobArgumentsView) (bytes : List ℕ) (r : Result TakenView Outcome) → wrong_packets bytes ≡ None →
     IsInputOf a (notes_for a.options bytes) (length (carried bytes) / 188) (findings_for a.options bytes) r → IsInput a bytes r
 of_bytes a bytes (Ok t) none is = record {
   input_is = plain_input a bytes (Ok t.input) none is.input_is ∙ of_value (notes_for a.options bytes).falling t.input;
@@ -100,7 +100,7 @@ of_bytes a bytes (Err o) none is = record {
 
 pub carried_is_input : (a : JobArgumentsView) (bytes : List ℕ) (notes said : PacketNotesView) (references : List FoundPcr) (size : ℕ)
     (at_times marked findings found : List FindingView) (w : JobOptionsView) (r : Result TakenView Outcome) →
-    IsOfStream bytes notes references found size → findings ≡ found → other_packets bytes ≡ None → w ≡ a.options → marked ≡ as_asked w findings →
+    IsOfStream bytes notes references found size → findings ≡ found → wrong_packets bytes ≡ None → w ≡ a.options → marked ≡ as_asked w findings →
     said ≡ notes_by w.joined references marked notes → at_times ≡ findings_by w.joined references marked → IsInputOf a said (size / 188) at_times r →
     IsInput a bytes r
 carried_is_input a bytes notes said references size at_times marked findings found w r of same none asked marks outcome_is times is =
@@ -118,13 +118,13 @@ carried_is_input a bytes notes said references size at_times marked findings fou
     (subst (λ (x : List FindingView). IsInputOf a said (length (carried bytes) / 188) x r) all
     (subst (λ (n : ℕ). IsInputOf a said (n / 188) at_times r) of.size_is is)))
 
--- A stream of packets of another size
-pub other_is_input : (a : JobArgumentsView) (bytes : List ℕ) (packets : OtherPackets) (o : Outcome) → Some packets ≡ other_packets bytes →
-    o ≡ reported (packets_line packets) → IsInput a bytes (Err o)
+-- No stream of packets of 188 bytes
+pub wrong_is_input : (a : JobArgumentsView) (bytes : List ℕ) (wrong : WrongPackets) (o : Outcome) → Some wrong ≡ wrong_packets bytes →
+    o ≡ reported (wrong_line wrong) → IsInput a bytes (Err o)
 unfolding packets_input
-other_is_input a bytes packets o is outcome_is = record {
-  line = packets_line packets;
-  refused = ap (λ (p : Option OtherPackets). packets_input a.options bytes p) (sym is);
+wrong_is_input a bytes wrong o is outcome_is = record {
+  line = wrong_line wrong;
+  refused = ap (λ (p : Option WrongPackets). packets_input a.options bytes p) (sym is);
   is = outcome_is;
 }
 

@@ -17,10 +17,10 @@ use Rattle.other_tables.specs.OtherTables.{other_tables}
 use Rattle.other_tables.specs.TableKinds.{is_loss}
 use Rattle.other_tables.specs.declared.tables.OtherTable.{OtherTable}
 use Rattle.packet_sync.specs.Fields.{is_loss as is_field_loss}
-use Rattle.packet_sync.specs.OtherPackets.{other_packets}
 use Rattle.packet_sync.specs.Slips.{carried}
 use Rattle.packet_sync.specs.declared.left_out.FieldLeftOut.{FieldLeftOut}
-use Rattle.packet_sync.specs.declared.packet_sizes.OtherPackets.{OtherPackets}
+use Rattle.packet_sync.specs.WrongPackets.{wrong_packets}
+use Rattle.packet_sync.specs.declared.packet_search.WrongPackets.{WrongPackets}
 use Rattle.packet_sync.specs.declared.slip.Slip.{Slip}
 use Rattle.job_programs.specs.Warnings.{are_damaged}
 use Rattle.job_programs.specs.declared.warning.Warning.{Warning}
@@ -41,7 +41,7 @@ use Rattle.job_run.specs.JobArguments.{JobArgumentsView}
 use Rattle.job_lines.specs.FieldLines.{field_lines, reported_fields}
 use Rattle.es_records.specs.Records.{records_of, written}
 use Rattle.job_lines.specs.RefusalLine.{refusal_in, refusal_line}
-use Rattle.job_lines.specs.SlipLines.{packets_line, slip_lines}
+use Rattle.job_lines.specs.SlipLines.{slip_lines, wrong_line}
 use Rattle.job_run.specs.JumpLines.{any_jump, jump_lines}
 use Rattle.job_run.specs.RecodingLines.{recodings_text}
 use Rattle.job_run.specs.Streams.{PacketNotesView, findings_for, notes_for}
@@ -175,14 +175,14 @@ InputLeads arguments notes findings (Err refusal) o = o ≡ reported (refusal_in
 abbrev pub FindingsLead : JobArgumentsView → PacketNotesView → ℕ → List FindingView → Outcome → Type 0
 FindingsLead arguments notes count findings o = InputLeads arguments notes findings (job_input arguments.options count findings) o
 
--- for the bytes of a stream that are in no slip; a stream of packets of another size is refused
-abbrev pub BytesLead : JobArgumentsView → List ℕ → Option OtherPackets → Outcome → Type 0
-BytesLead arguments bytes (Some packets) o = o ≡ reported (packets_line packets)
+-- for the bytes of a stream that are in no slip; bytes that are no stream of packets of 188 bytes are refused
+abbrev pub BytesLead : JobArgumentsView → List ℕ → Option WrongPackets → Outcome → Type 0
+BytesLead arguments bytes (Some wrong) o = o ≡ reported (wrong_line wrong)
 BytesLead arguments bytes None o =
     FindingsLead arguments (notes_for arguments.options bytes) (length (carried bytes) / 188) (findings_for arguments.options bytes) o
 
 abbrev pub Leads : JobArgumentsView → List ℕ → Outcome → Type 0
-Leads arguments bytes o = BytesLead arguments bytes (other_packets bytes) o
+Leads arguments bytes o = BytesLead arguments bytes (wrong_packets bytes) o
 
 -- the line of the refusal, unless the error is out of memory
 abbrev pub ReportsWhy : JobError → Outcome → Type 0

@@ -8,9 +8,9 @@ use Rattle.description_parts.specs.Described.{Described}
 use Rattle.slot_plan.specs.Conditions.{IsServing}
 use Rattle.slot_plan.specs.Planned.{Planned, plan_error}
 use Rattle.slot_plan.specs.Text.{plan_text}
-use Rattle.packet_sync.specs.OtherPackets.{other_packets}
 use Rattle.packet_sync.specs.Slips.{carried}
-use Rattle.packet_sync.specs.declared.packet_sizes.OtherPackets.{OtherPackets}
+use Rattle.packet_sync.specs.WrongPackets.{wrong_packets}
+use Rattle.packet_sync.specs.declared.packet_search.WrongPackets.{WrongPackets}
 use Rattle.stream_jobs.specs.Jobs.{AllAgree, IsDescription, IsJob}
 use Rattle.job_inputs.specs.JobInput.{JobInputView, job_input}
 use Rattle.job_programs.specs.JobOptions.{JobOptionsView}
@@ -21,7 +21,7 @@ use Rattle.job_programs.specs.declared.refusal.JobRefusal.TheVariants.{NoStream}
 use Rattle.devices.specs.Outcomes.{Outcome, reported}
 use Rattle.job_lines.specs.InputLines.{are_lost, input_line, note_lines}
 use Rattle.job_lines.specs.RefusalLine.{refusal_in, refusal_line}
-use Rattle.job_lines.specs.SlipLines.{packets_line}
+use Rattle.job_lines.specs.SlipLines.{wrong_line}
 use Rattle.es_records.specs.Records.{written}
 use Rattle.job_run.specs.declared.job_arguments.Subcommand.{Subcommand}
 use Rattle.job_run.specs.declared.job_arguments.Subcommand.TheVariants.{Whole, Describe, Units, Why}
@@ -47,13 +47,13 @@ unfoldable pub input_or_line : List ℕ → Result JobInputView JobRefusal → R
 input_or_line falling (Ok m) = Ok m
 input_or_line falling (Err refusal) = Err (refusal_in falling refusal)
 
-unfoldable pub packets_input : JobOptionsView → List ℕ → Option OtherPackets → Result JobInputView (List ℕ)
-packets_input options bytes (Some packets) = Err (packets_line packets)
+unfoldable pub packets_input : JobOptionsView → List ℕ → Option WrongPackets → Result JobInputView (List ℕ)
+packets_input options bytes (Some wrong) = Err (wrong_line wrong)
 packets_input options bytes None =
     input_or_line (notes_for options bytes).falling (job_input options (length (carried bytes) / 188) (findings_for options bytes))
 
 abbrev pub stream_input : JobOptionsView → List ℕ → Result JobInputView (List ℕ)
-stream_input options bytes = packets_input options bytes (other_packets bytes)
+stream_input options bytes = packets_input options bytes (wrong_packets bytes)
 
 -- one input before the others; a line comes below the number and the name of its input
 unfoldable pub with_first : ℕ → List ℕ → Result JobInputView (List ℕ) → Result (List JobInputView) (List ℕ) → Result (List JobInputView) (List ℕ)

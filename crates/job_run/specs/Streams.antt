@@ -1,5 +1,5 @@
 -- A transport stream through a demultiplexer, piece by piece.
-use Rattle.std.specs.Prelude.{◌≡◌, ◌≤◌, ℕ, ◌+◌, ◌&&◌, not, Bool, true, false, List, [], ◌++◌, length, take, filter, is_some, Result, Ok, Err}
+use Rattle.std.specs.Prelude.{◌≡◌, ℕ, ◌+◌, ◌&&◌, not, Bool, true, false, List, [], ◌++◌, length, filter, is_some, Result, Ok, Err}
 use Rattle.devices.specs.Devices.{Device}
 use Rattle.devices.specs.WholeInput.{IsReadAs, ReadsInput}
 use Rattle.devices.specs.declared.halt.Halt.{Halt}
@@ -19,9 +19,10 @@ use Rattle.packet_sync.specs.FieldsLeftOut.{fields_left_out}
 use Rattle.packet_sync.specs.declared.field.Field.{Field}
 use Rattle.packet_sync.specs.declared.field.Field.TheVariants.{Alignment, Flags, LongHeader}
 use Rattle.packet_sync.specs.Notes.{NotesView, SayAlike, no_notes}
-use Rattle.packet_sync.specs.OtherPackets.{other_packets}
+use Rattle.packet_sync.specs.PacketSearch.{IsSearched, SearchView}
 use Rattle.packet_sync.specs.Slips.{carried, slips}
 use Rattle.packet_sync.specs.declared.left_out.FieldLeftOut.{FieldLeftOut}
+use Rattle.packet_sync.specs.WrongPackets.{wrong_packets}
 use Rattle.packet_sync.specs.declared.slip.Slip.{Slip}
 use Rattle.job_inputs.specs.AskedMarks.{as_asked}
 use Rattle.job_programs.specs.JobOptions.{JobOptionsView}
@@ -139,17 +140,17 @@ pub record IsCarriedTo (bytes : List ℕ) (ended : Bool) (s : CarriedView) : Typ
   pub demux_is : s.packets.demux ≡ pushed start gone
   pub size_is : s.packets.size ≡ length gone
 
--- the first bytes, whether they are known to be of packets of another size, and the state if they are not
+-- the search for packets, whether the bytes are known to be no stream, and the state if they are not
 pub record ReadingView : Type 0 where
-  pub front : List ℕ
-  pub other : Bool
+  pub search : SearchView
+  pub refused : Bool
   pub stream : CarriedView
 
 -- these bytes came
 pub record IsRead (bytes : List ℕ) (r : ReadingView) : Type 0 where
-  pub front_is : r.front ≡ take 409 bytes
-  pub refused : r.other ≡ true → (409 ≤ length r.front) × (is_some (other_packets r.front) ≡ true)
-  pub so_far : r.other ≡ false → IsCarriedTo bytes false r.stream
+  pub searched : IsSearched bytes r.search
+  pub settled : r.refused ≡ true → (more : List ℕ) → is_some (wrong_packets (bytes ++ more)) ≡ true
+  pub so_far : r.refused ≡ false → IsCarriedTo bytes false r.stream
 
 -- the whole input was read; or a call of the reader failed, or the input is too long; or there was no memory for it
 abbrev pub ReadsStream : Device → Result ReadingView Halt → Type 0

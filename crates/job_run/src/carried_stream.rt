@@ -208,7 +208,7 @@ impl CarriedStream {
             size,
         } = packets;
         end_stream(&mut demux)?;
-        let StreamNotes { slips, fields, .. } = notes;
+        let (slips, fields) = notes.into_parts();
         let recodings = Vec::new(alloc);
         let jumps = Vec::new(alloc);
         let falling = Vec::new(alloc);

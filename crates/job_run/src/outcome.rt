@@ -5,7 +5,7 @@ ghost use Rattle.std.specs.Prelude.{string_bytes};
 ghost use Rattle.pid_findings.specs.Shown.{finding_view};
 ghost use Rattle.pid_findings.specs.Views.{FindingView};
 ghost use Rattle.other_tables.specs.OtherTables as found;
-ghost use Rattle.packet_sync.specs.OtherPackets.{other_packets};
+ghost use Rattle.packet_sync.specs.WrongPackets.{wrong_packets};
 ghost use Rattle.slot_plan.specs.Planned.{plan_error};
 ghost use Rattle.slot_plan.specs.Text.{plan_text};
 ghost use Rattle.stream_jobs.specs.Jobs.{IsDescription};
@@ -18,7 +18,7 @@ ghost use Rattle.job_run.specs.RecodingLines.{recodings_text};
 ghost use Rattle.job_run.specs.SeveralInputs.{GivesIn, GivesJobIn};
 ghost use Rattle.job_run.specs.Streams.{IsRead};
 ghost use Rattle.devices.specs.Outcomes.{reported};
-ghost use Rattle.job_lines.specs.SlipLines.{packets_line};
+ghost use Rattle.job_lines.specs.SlipLines.{wrong_line};
 ghost use Rattle.job_inputs.specs.JobInput.{AreStreams};
 
 use crate::carried_stream::{PacketNotes, ReadStream};
@@ -31,12 +31,12 @@ use crate::timed_text::job_findings;
 use job_inputs::{JobInput, job_input, mark_as_asked};
 use job_lines::{
     Reporting, are_missed, are_needed, is_damaged, reported_fields, reported_tables,
-    reported_warnings, write_fields, write_other_tables, write_packets, write_refusal,
-    write_refusal_in, write_slips, write_warnings,
+    reported_warnings, write_fields, write_other_tables, write_refusal, write_refusal_in,
+    write_slips, write_warnings, write_wrong_packets,
 };
 use job_programs::{JobError, JobOptions, Warning};
 use other_tables::{OtherTable, other_tables};
-use packet_sync::{FieldLeftOut, OtherPackets, Slip};
+use packet_sync::{FieldLeftOut, Slip, WrongPackets};
 use pes_packet::Unit;
 use pid_findings::Finding;
 use slot_plan::Plan;
@@ -382,15 +382,12 @@ fn findings_outcome(
     }
 }
 
-// Returns the outcome for a stream whose packets do not have 188 bytes.
-pub(crate) fn packets_outcome(
-    alloc: Global,
-    packets: OtherPackets,
-) -> Result<JobOutcome, AllocError>
-    ensures { IfOk result (λ a. a ≡ reported (packets_line packets)) }
+// Returns the outcome for an input that is no stream of packets of 188 bytes.
+pub(crate) fn wrong_outcome(alloc: Global, wrong: WrongPackets) -> Result<JobOutcome, AllocError>
+    ensures { IfOk result (λ a. a ≡ reported (wrong_line wrong)) }
 {
     let mut report = String::new(alloc);
-    write_packets(packets, &mut report)?;
+    write_wrong_packets(wrong, &mut report)?;
     Ok(without_output(alloc, report))
 }
 
@@ -401,7 +398,7 @@ fn carried_outcome(
     arguments: &JobArguments<'_>,
     stream: StreamReading,
 ) -> Result<JobOutcome, AllocError>
-    ensures { (bytes : List ℕ) → IsRead bytes stream → other_packets bytes ≡ None →
+    ensures { (bytes : List ℕ) → IsRead bytes stream → wrong_packets bytes ≡ None →
         IfOk result (λ a. spec.BytesLead arguments.now bytes None a) }
 {
     let ReadStream {
@@ -419,7 +416,7 @@ fn carried_outcome(
 }
 
 /// Returns the outcome for a stream that was read.
-#[tactic(auto, using(crate::proofs::JobOutcomes::none_lead, crate::proofs::JobOutcomes::other_lead))]
+#[tactic(auto, using(crate::proofs::JobOutcomes::none_lead, crate::proofs::JobOutcomes::wrong_lead))]
 pub(crate) fn stream_outcome(
     alloc: Global,
     arguments: &JobArguments<'_>,
@@ -427,11 +424,11 @@ pub(crate) fn stream_outcome(
 ) -> Result<JobOutcome, AllocError>
     ensures { (bytes : List ℕ) → IsRead bytes stream → IfOk result (λ a. spec.Leads arguments.now bytes a) }
 {
-    match stream.other_packets() {
-        Some(packets) => {
+    match stream.wrong_packets() {
+        Some(wrong) => {
             // By a call: at the end of a function the drop of each part would be a step of its proof.
             drop(stream);
-            Ok(packets_outcome(alloc, packets)?)
+            Ok(wrong_outcome(alloc, wrong)?)
         }
         None => Ok(carried_outcome(alloc, arguments, stream)?),
     }

@@ -1,52 +1,34 @@
 //! A transport stream, read piece by piece.
-ghost use Rattle.std.specs.Prelude.{◌≡◌, ◌≤◌, ◌++◌, [], IfErr, IfOk, List, None, OnOk, ℕ, true, is_some, length, take};
+ghost use Rattle.std.specs.Prelude.{◌≡◌, ◌++◌, [], IfErr, IfOk, List, None, OnOk, ℕ};
 ghost use Rattle.devices.specs.Devices.{reads};
-ghost use Rattle.packet_sync.specs.OtherPackets.{other_packets};
+ghost use Rattle.packet_sync.specs.WrongPackets.{wrong_packets};
 ghost use Rattle.job_run.specs.Streams as spec;
 
 use crate::carried_stream::{CarriedStream, ReadStream};
 use counted_io::Source;
 use devices::{Halt, PieceTaker, take_input};
-use packet_sync::{FRONT, OtherPackets, other_packets};
+use packet_sync::{PacketSearch, WrongPackets};
 use std::alloc::{AllocError, Global};
 use std::marker::Model;
 
 /// The size of a piece of the input in bytes.
 const PIECE: usize = 1 << 18;
 
-/// A stream that is being read. If its packets do not have 188 bytes, only its first bytes are kept.
+/// A stream that is being read. Once its bytes are known to be no stream of packets of 188 bytes, no more are kept.
 #[derive(Drop)]
 pub(crate) struct StreamReading {
-    front: Vec<u8>,
-    other: bool,
+    search: PacketSearch,
+    refused: bool,
     stream: CarriedStream,
 }
 
-// A contract sees the first bytes as a list.
+// A contract sees its parts.
 impl Model for StreamReading {
     ghost use Rattle.job_run.specs.Streams.{ReadingView};
 
     ghost Value = { ReadingView };
 
-    ghost view = { λ r. record { front = r.front.items; other = r.other; stream = r.stream } };
-}
-
-// Appends bytes to the first ones, as far as these go.
-fn lengthen_front(front: &mut Vec<u8>, piece: &[u8]) -> Result<(), AllocError>
-    ensures { (stream : List ℕ) → front.old.items ≡ take 409 stream →
-        OnOk result (front.new.items ≡ take 409 (stream ++ piece.now)) }
-{
-    let missing = FRONT.saturating_sub(front.len());
-    let (next, _) = piece.split_at(missing.min(piece.len()));
-    front.extend_from_slice(next)?;
-    Ok(())
-}
-
-// Returns whether the first bytes are known to be of packets of another size.
-fn is_other(front: &[u8]) -> bool
-    ensures known { result ≡ true → (409 ≤ length front.now) × (is_some (other_packets front.now) ≡ true) }
-{
-    front.len() >= FRONT && other_packets(front).is_some()
+    ghost view = { λ r. record { search = r.search; refused = r.refused; stream = r.stream } };
 }
 
 impl StreamReading {
@@ -55,8 +37,8 @@ impl StreamReading {
         ensures { (stream : List ℕ) → stream ≡ [] → spec.IsRead stream result }
     {
         StreamReading {
-            front: Vec::new(alloc),
-            other: false,
+            search: PacketSearch::new(alloc),
+            refused: false,
             stream: CarriedStream::new(alloc),
         }
     }
@@ -66,28 +48,28 @@ impl StreamReading {
         ensures { (bytes : List ℕ) → spec.IsRead bytes self.old →
             OnOk result (spec.IsRead (bytes ++ piece.now) self.new) }
     {
-        lengthen_front(&mut self.front, piece)?;
-        if self.other {
+        self.search.take(piece)?;
+        if self.refused {
             return Ok(());
         }
-        if is_other(&self.front) {
-            self.other = true;
+        if self.search.is_settled() {
+            self.refused = true;
             return Ok(());
         }
         self.stream.take(piece)?;
         Ok(())
     }
 
-    /// Returns the packet size of the stream, if its packets do not have 188 bytes.
-    pub(crate) fn other_packets(&self) -> Option<OtherPackets>
-        ensures { (bytes : List ℕ) → spec.IsRead bytes self.now → result ≡ other_packets bytes }
+    /// Returns why the bytes are no stream of packets of 188 bytes, if they are none.
+    pub(crate) fn wrong_packets(&self) -> Option<WrongPackets>
+        ensures { (bytes : List ℕ) → spec.IsRead bytes self.now → result ≡ wrong_packets bytes }
     {
-        other_packets(&self.front)
+        self.search.wrong_packets()
     }
 
-    /// Ends the stream, which has no other packets.
+    /// Ends the stream, which has packets of 188 bytes.
     pub(crate) fn end(self) -> Result<ReadStream, AllocError>
-        ensures { (bytes : List ℕ) → spec.IsRead bytes self → other_packets bytes ≡ None →
+        ensures { (bytes : List ℕ) → spec.IsRead bytes self → wrong_packets bytes ≡ None →
             IfOk result (λ r. spec.IsOfStream bytes r.notes r.references.items r.demux.found r.size) }
     {
         self.stream.end()

@@ -1,5 +1,5 @@
 -- Units at moments of their own.
-use Rattle.std.proofs.Common.{◌≡◌, ◌∙◌, ◌||◌, ℕ, Bool, Option, List, [], ◌∷◌, None, Some, is_some, map, refl, sym, ap}
+use Rattle.std.proofs.Common.{◌≡◌, ◌∙◌, ◌||◌, ℕ, Bool, false, Option, List, [], ◌∷◌, None, Some, is_some, map, refl, sym, ap}
 use Rattle.std.specs.List.{list_any}
 use Rattle.pes_packet.specs.AccessUnits.{AccessUnit}
 use Rattle.es_moments.specs.CountedUnits.{CountedUnitsView, counted_units}
@@ -9,7 +9,7 @@ use Rattle.es_moments.specs.declared.unit_moments.UnitMoment.{UnitMoment}
 use Rattle.es_moments.proofs.UnitMoments.{at_own}
 use Rattle.sound_frames.specs.FrameHeaders.{frame_kind}
 use Rattle.unit_timing.specs.declared.framing.Framing.{Framing}
-use Rattle.job_units.specs.Declarations.{MeasuredView, first_bytes, framing_for, has_data, has_long, header_of, measured, most_header}
+use Rattle.job_units.specs.Declarations.{MeasuredView, crossing_for, first_bytes, framing_for, has_data, has_long, header_of, measured, most_header}
 use Rattle.job_programs.specs.JobStreams.{TimedStreamView, WireStreamView}
 use Rattle.job_units.specs.Moments.{wire_of, with_moments}
 use Rattle.job_units.specs.OddStreams.{alone, carried_header, carries_data, carries_long, first_carried, own_base}
@@ -57,6 +57,10 @@ no_framing : (t : TimedStreamView) → frame_kind t.stream_type t.descriptors �
 unfolding framing_for
 no_framing t none = rw (none, framing_for) refl
 
+no_crossing : (t : TimedStreamView) → frame_kind t.stream_type t.descriptors ≡ None → crossing_for t ≡ false
+unfolding crossing_for
+no_crossing t none = rw (none, crossing_for) refl
+
 -- The measures of a stream whose units are not frames of sound
 pub measured_alone : (w : WireStreamView) (units : CountedUnitsView) (header : ℕ) (first descriptors : List ℕ) →
     units ≡ counted_units (moved (own_base w) None (wire_of w)) →
@@ -69,6 +73,7 @@ pub measured_alone : (w : WireStreamView) (units : CountedUnitsView) (header : �
       descriptors = descriptors;
       first = first;
       framing = None;
+      crossing = false;
       header = header;
       units = units;
     })
@@ -82,6 +87,18 @@ measured_alone w units header first descriptors counted most bytes same frames =
       descriptors = w.descriptors;
       first = first_bytes (alone w).units;
       framing = framing;
+      crossing = false;
       header = header_of (alone w).units;
       units = counted_units (moved (own_base w) None (wire_of w));
-    } in m)) (sym (no_framing (alone w) frames)))
+    } in m)) (sym (no_framing (alone w) frames))
+    ∙ ap (λ (crossing : Bool). (let m : MeasuredView = record {
+      pid = w.pid;
+      stream_id = w.stream_id;
+      stream_type = w.stream_type;
+      descriptors = w.descriptors;
+      first = first_bytes (alone w).units;
+      framing = framing_for (alone w);
+      crossing = crossing;
+      header = header_of (alone w).units;
+      units = counted_units (moved (own_base w) None (wire_of w));
+    } in m)) (sym (no_crossing (alone w) frames)))

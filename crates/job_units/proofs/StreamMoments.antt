@@ -6,8 +6,8 @@ use Rattle.es_units.specs.CarriedUnits.{carried_units}
 use Rattle.es_moments.specs.Stamps.{first_fault, moved}
 use Rattle.es_moments.specs.UnitMoments.{moment_of, units_at}
 use Rattle.es_moments.specs.declared.unit_moments.UnitMoment.{UnitMoment}
-use Rattle.es_moments.proofs.ApartUnits.{apart_contents}
 use Rattle.es_moments.proofs.MadeDts.{made_contents}
+use Rattle.es_moments.proofs.RisingDts.{rising_contents}
 use Rattle.es_moments.proofs.UnitMoments.{at_own, contents}
 use Rattle.job_units.specs.declared.moved_streams.FirstDts.{FirstDts}
 use Rattle.job_programs.specs.declared.refusal.JobRefusal.{JobRefusal}
@@ -20,7 +20,7 @@ use Rattle.es_moments.specs.WireUnits.{CarriedUnit}
 
 source_contents : (made : Bool) (pid : ℕ) (findings : List FindingView) → contents (source_of made pid findings) ≡ contents (carried_units pid findings)
 unfolding source_of
-source_contents false pid findings = apart_contents (carried_units pid findings)
+source_contents false pid findings = rising_contents (carried_units pid findings)
 source_contents true pid findings = made_contents (carried_units pid findings)
 
 -- Units at these moments equal the moved units.

@@ -52,7 +52,8 @@ leak_warnings_of s = option_to_list (leak_warning s)
 abbrev pub leak_warnings : List MeasuredView → List UnitCountsView → List StreamChoice → List Warning
 leak_warnings streams all chosen = flat_map leak_warnings_of (zip streams (zip all chosen))
 
--- 3. Access units that a main buffer does not hold one by one, or that would be in the buffers for more than a second
+-- 3. Frames of sound that leave a main buffer in whole units, where the options do not give it: frames that it does not hold one by one, that would be in
+-- the buffers for more than a second, or that cross units
 
 -- how many a unit has at most, where it has several and the choice does not keep them: they are not declared (`kept_framing`)
 unfoldable pub unkept_frames : UnitCountsView → Choice → Option ℕ
@@ -61,17 +62,30 @@ unkept_frames c choice = elim c.framing [
   | Some f ↦ if keeps_framing c.needs f choice.lead choice.share then None else (if nat_lt 1 f.frames then Some f.frames else None)
 ]
 
-unfoldable pub frame_warning : MeasuredView × (UnitCountsView × StreamChoice) → Option Warning
-frame_warning s = option_map (warning.Frames s.0.pid) (unkept_frames s.1.0 s.1.1.choice)
+-- frames that cross units are not counted
+unfoldable pub crossing_warning : MeasuredView → UnitCountsView → Option Warning
+crossing_warning m c = elim c.framing [
+  | Some f ↦ None
+  | None ↦ if m.crossing then Some (warning.CrossingFrames m.pid c.needs.main) else None
+]
 
-unfoldable pub frame_warnings_of : MeasuredView × (UnitCountsView × StreamChoice) → List Warning
-frame_warnings_of s = option_to_list (frame_warning s)
+unfoldable pub whole_warning : MeasuredView × (UnitCountsView × StreamChoice) → Option Warning
+whole_warning s = elim (unkept_frames s.1.0 s.1.1.choice) [
+  | None ↦ crossing_warning s.0 s.1.0
+  | Some frames ↦ Some (warning.Frames s.0.pid frames s.1.0.needs.main)
+]
 
-abbrev pub frame_warnings : List MeasuredView → List UnitCountsView → List StreamChoice → List Warning
-frame_warnings streams all chosen = flat_map frame_warnings_of (zip streams (zip all chosen))
+unfoldable pub frame_warning : List PidBuffers → MeasuredView × (UnitCountsView × StreamChoice) → Option Warning
+frame_warning given s = if is_some (given_buffers given s.0.pid) then None else whole_warning s
+
+unfoldable pub frame_warnings_of : List PidBuffers → MeasuredView × (UnitCountsView × StreamChoice) → List Warning
+frame_warnings_of given s = option_to_list (frame_warning given s)
+
+abbrev pub frame_warnings : List PidBuffers → List MeasuredView → List UnitCountsView → List StreamChoice → List Warning
+frame_warnings given streams all chosen = flat_map (frame_warnings_of given) (zip streams (zip all chosen))
 
 -- 4. All of them
 
 abbrev pub buffer_warnings : List PidBuffers → List MeasuredView → List UnitCountsView → List StreamChoice → List Warning
 buffer_warnings given streams all chosen =
-    (header_warnings given streams ++ leak_warnings streams all chosen) ++ frame_warnings streams all chosen
+    (header_warnings given streams ++ leak_warnings streams all chosen) ++ frame_warnings given streams all chosen

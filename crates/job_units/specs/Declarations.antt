@@ -1,5 +1,5 @@
 -- What a description declares of the streams of a job.
-use Rattle.std.specs.Prelude.{ℕ, ◌+◌, ◌-◌, ◌*◌, ◌/◌, ◌^◌, ◌==◌, ◌&&◌, ◌||◌, min, max, nat_le, nat_lt, Bool, if◌then◌else◌, List, [], ◌∷◌, length, map, find}
+use Rattle.std.specs.Prelude.{ℕ, ◌+◌, ◌-◌, ◌*◌, ◌/◌, ◌^◌, ◌==◌, ◌&&◌, ◌||◌, min, max, nat_le, nat_lt, Bool, false, if◌then◌else◌, List, [], ◌∷◌, length, map, find}
 use Rattle.std.specs.Prelude.{zip, sum_by, unwrap_or, ok_or, Option, Some, None, is_some, option_map, option_and_then, Result, Ok}
 use Rattle.std.specs.List.{list_any, range_with_len}
 use Rattle.clock27.specs.Units.{slot_units_at_1bps}
@@ -37,6 +37,7 @@ use Rattle.given_values.specs.declared.declare_by.DeclareBy.{DeclareBy}
 use Rattle.given_values.specs.declared.declare_by.DeclareBy.TheVariants as by
 use Rattle.job_programs.specs.Answers.{unless, each}
 use Rattle.job_programs.specs.JobStreams.{TimedStreamView}
+use Rattle.job_units.specs.CrossingFrames.{do_cross}
 
 -- 1. What a description can't hold
 
@@ -56,8 +57,8 @@ units_refusal s = refusals.Units s.pid (length s.units)
 unfoldable pub too_long : List TimedStreamView → Option JobRefusal
 too_long streams = option_map units_refusal (find is_too_long streams)
 
--- 2. The measures of a stream: its entry in the program map, the bytes of its first unit, the access units of its units, the most bytes of a
--- PES packet header, and the counts of its units
+-- 2. The measures of a stream: its entry in the program map, the bytes of its first unit, the access units of its units, whether frames of sound cross its
+-- units, the most bytes of a PES packet header, and the counts of its units
 
 pub record MeasuredView : Type 0 where
   pub pid : ℕ
@@ -66,6 +67,7 @@ pub record MeasuredView : Type 0 where
   pub descriptors : List ℕ
   pub first : List ℕ
   pub framing : Option Framing
+  pub crossing : Bool
   pub header : ℕ
   pub units : CountedUnitsView
 
@@ -86,6 +88,10 @@ framing_for s = elim (frame_kind s.stream_type s.descriptors) [
   | None ↦ None
   | Some kind ↦ option_and_then framing_of (all_frames kind no_frames (map (λ u. u.bytes) s.units))
 ]
+
+-- whether frames of sound cross the units of a stream
+unfoldable pub crossing_for : TimedStreamView → Bool
+crossing_for s = elim (frame_kind s.stream_type s.descriptors) [ None ↦ false | Some kind ↦ do_cross kind s.units ]
 
 -- the most bytes of a PES packet header (`header_size`): 45 if a unit asks for so many, 17 more than 19 with PES_private_data
 unfoldable pub most_header : Bool → Bool → ℕ
@@ -108,6 +114,7 @@ measured s = record {
   descriptors = s.descriptors;
   first = first_bytes s.units;
   framing = framing_for s;
+  crossing = crossing_for s;
   header = header_of s.units;
   units = counted_units s.units;
 }

@@ -1,4 +1,5 @@
 pub mod Moments
+pub mod CrossingFrames
 pub mod Declarations
 pub mod OddStreams
 pub mod WireStreams

@@ -163,50 +163,87 @@ fn unkept_frames(unit_counts: &UnitCounts, choice: Choice) -> Option<u8>
     }
 }
 
-// Returns the warning about access units that a choice does not keep.
-#[tactic(auto, unfolding(crate::specs::BufferWarnings::frame_warning))]
-fn frame_warning(
+// Returns the warning about frames that cross the units of a stream.
+#[tactic(auto, unfolding(crate::specs::BufferWarnings::crossing_warning))]
+fn crossing_warning(stream: &StreamMeasures, unit_counts: &UnitCounts) -> Option<Warning>
+    ensures { result ≡ spec.crossing_warning stream.now unit_counts.now }
+{
+    match unit_counts.framing {
+        Some(_) => None,
+        None => if stream.crossing {
+            Some(Warning::CrossingFrames {
+                pid: stream.pid,
+                main: unit_counts.needs.main,
+            })
+        } else {
+            None
+        },
+    }
+}
+
+// Returns the warning about frames of sound that leave the main buffer in whole units.
+#[tactic(auto, unfolding(crate::specs::BufferWarnings::whole_warning))]
+fn whole_warning(
     stream: &StreamMeasures,
     unit_counts: &UnitCounts,
     choice: StreamChoice,
 ) -> Option<Warning>
-    ensures { result ≡ spec.frame_warning (stream.now, (unit_counts.now, choice)) }
+    ensures { result ≡ spec.whole_warning (stream.now, (unit_counts.now, choice)) }
 {
     match unkept_frames(unit_counts, choice.choice) {
-        None => None,
+        None => crossing_warning(stream, unit_counts),
         Some(frames) => Some(Warning::Frames {
             pid: stream.pid,
             frames,
+            main: unit_counts.needs.main,
         }),
     }
 }
 
-// Appends the warning about access units that a choice does not keep.
+// Returns the warning about frames of sound that leave the main buffer in whole units, unless the options give it.
+#[tactic(auto, unfolding(crate::specs::BufferWarnings::frame_warning))]
+fn frame_warning(
+    given: &[PidBuffers],
+    stream: &StreamMeasures,
+    unit_counts: &UnitCounts,
+    choice: StreamChoice,
+) -> Option<Warning>
+    ensures { result ≡ spec.frame_warning given.now (stream.now, (unit_counts.now, choice)) }
+{
+    if given_buffers(given, stream.pid).is_some() {
+        return None;
+    }
+    whole_warning(stream, unit_counts, choice)
+}
+
+// Appends the warning about frames of sound that leave the main buffer in whole units.
 #[tactic(auto, unfolding(crate::specs::BufferWarnings::frame_warnings_of))]
 fn push_frame_warning(
+    given: &[PidBuffers],
     stream: &StreamMeasures,
     unit_counts: &UnitCounts,
     choice: StreamChoice,
     warnings: &mut Vec<Warning>,
 ) -> Result<(), AllocError>
     ensures { OnOk result (warnings.new.items ≡ warnings.old.items
-        ++ spec.frame_warnings_of (stream.now, (unit_counts.now, choice))) }
+        ++ spec.frame_warnings_of given.now (stream.now, (unit_counts.now, choice))) }
 {
-    if let Some(warning) = frame_warning(stream, unit_counts, choice) {
+    if let Some(warning) = frame_warning(given, stream, unit_counts, choice) {
         warnings.push(warning)?;
     }
     Ok(())
 }
 
-// Appends the warnings about access units that no choice keeps.
+// Appends the warnings about frames of sound that leave main buffers in whole units.
 fn push_frame_warnings(
+    given: &[PidBuffers],
     streams: &[StreamMeasures],
     unit_counts: &[UnitCounts],
     choices: &[StreamChoice],
     warnings: &mut Vec<Warning>,
 ) -> Result<(), AllocError>
     ensures { OnOk result (warnings.new.items ≡ warnings.old.items
-        ++ spec.frame_warnings streams.now unit_counts.now choices.now) }
+        ++ spec.frame_warnings given.now streams.now unit_counts.now choices.now) }
 {
     let mut streams = streams;
     let mut unit_counts = unit_counts;
@@ -218,7 +255,7 @@ fn push_frame_warnings(
         let Some((choice, later_choices)) = choices.split_first() else {
             return Ok(());
         };
-        push_frame_warning(stream, count, *choice, warnings)?;
+        push_frame_warning(given, stream, count, *choice, warnings)?;
         streams = later_streams;
         unit_counts = later_counted;
         choices = later_choices;
@@ -227,7 +264,7 @@ fn push_frame_warnings(
 }
 
 /// Appends the warnings about the buffers of streams: first about the buffers that they say of themselves, then about
-/// multiplexing buffers that nothing keeps, then about access units that a main buffer does not hold one by one.
+/// multiplexing buffers that nothing keeps, then about frames of sound that leave main buffers in whole units.
 pub fn push_buffer_warnings(
     given: &[PidBuffers],
     streams: &[StreamMeasures],
@@ -240,5 +277,5 @@ pub fn push_buffer_warnings(
 {
     push_header_warnings(given, streams, warnings)?;
     push_leak_warnings(streams, unit_counts, choices, warnings)?;
-    push_frame_warnings(streams, unit_counts, choices, warnings)
+    push_frame_warnings(given, streams, unit_counts, choices, warnings)
 }

@@ -5,7 +5,7 @@
 //! `timed_streams::timed_streams` moves the bytes of the units out of the findings (`specs/TakenStreams`).
 //! `declarations::count_units` and `choices::choices` return what a description declares of them
 //! (`specs/Declarations`), `buffer_warnings::push_buffer_warnings` appends the warnings about their buffers
-//! (`specs/BufferWarnings`).
+//! (`specs/BufferWarnings`). `crossing_frames` finds frames of sound that cross units (`specs/CrossingFrames`).
 #![tactic(auto)]
 
 // Units as on the wire.
@@ -21,6 +21,7 @@ pub mod timed_streams;
 mod alike;
 pub mod buffer_warnings;
 pub mod choices;
+pub mod crossing_frames;
 pub mod declarations;
 mod greater_buffers;
 pub mod stream_measures;

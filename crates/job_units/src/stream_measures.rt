@@ -11,6 +11,7 @@ ghost use Rattle.job_units.specs.Moments.{wire_of};
 ghost use Rattle.job_units.specs.OddStreams as odd;
 ghost use Rattle.job_units.specs.OddStreams.{alone, first_carried, own_base};
 
+use crate::crossing_frames::do_cross;
 use es_moments::{CountedUnits, FoundUnit, UnitMoment};
 use job_programs::{TimedStream, WireStream};
 use pes_packet::Unit;
@@ -21,7 +22,8 @@ use stream_coding::{ProfileLevel, profile_level};
 use unit_timing::framing::Framing;
 
 /// The measures of a stream: its entry in the program map, the bytes of its first unit, the framing of its sound if
-/// each unit is whole frames, the most bytes of a PES packet header, and the counts of its units.
+/// each unit is whole frames, whether frames of sound cross its units, the most bytes of a PES packet header, and the
+/// counts of its units.
 #[derive(Drop)]
 pub struct StreamMeasures {
     pub pid: u16,
@@ -30,6 +32,7 @@ pub struct StreamMeasures {
     pub descriptors: Vec<u8>,
     pub first: Vec<u8>,
     pub framing: Option<Framing>,
+    pub crossing: bool,
     pub header: u32,
     pub units: CountedUnits,
 }
@@ -47,6 +50,7 @@ impl Model for StreamMeasures {
       descriptors = m.descriptors.items;
       first = m.first.items;
       framing = m.framing;
+      crossing = m.crossing;
       header = m.header;
       units = m.units;
     } };
@@ -89,6 +93,17 @@ fn framing_for(stream: &TimedStream) -> Option<Framing>
 {
     let kind = frame_kind(stream.stream_type, &stream.descriptors)?;
     framing_of(all_frames(kind, &stream.units)?)
+}
+
+// Returns whether frames of sound cross the units of a stream.
+#[tactic(auto, unfolding(crate::specs::Declarations::crossing_for))]
+fn crossing_for(alloc: Global, stream: &TimedStream) -> Result<bool, AllocError>
+    ensures { IfOk result (λ is. is ≡ spec.crossing_for stream.now) }
+{
+    match frame_kind(stream.stream_type, &stream.descriptors) {
+        None => Ok(false),
+        Some(kind) => do_cross(alloc, kind, &stream.units),
+    }
 }
 
 // Returns the bytes of the first unit.
@@ -166,6 +181,7 @@ pub(crate) fn measured(alloc: Global, stream: &TimedStream) -> Result<StreamMeas
     let units = CountedUnits::of_units(alloc, &stream.units)?;
     let descriptors = Vec::from_slice(alloc, &stream.descriptors)?;
     let first = Vec::from_slice(alloc, first_bytes(stream))?;
+    let crossing = crossing_for(alloc, stream)?;
     Ok(StreamMeasures {
         pid: stream.pid,
         stream_id: stream.stream_id,
@@ -173,6 +189,7 @@ pub(crate) fn measured(alloc: Global, stream: &TimedStream) -> Result<StreamMeas
         descriptors,
         first,
         framing: framing_for(stream),
+        crossing,
         header: header_of(&stream.units),
         units,
     })
@@ -260,6 +277,7 @@ pub(crate) fn found_measured(
         descriptors,
         first,
         framing: None,
+        crossing: false,
         header,
         units,
     })

@@ -12,7 +12,9 @@ ghost use Rattle.es_units.specs.CarriedUnits.{carried_units};
 ghost use Rattle.job_programs.specs.FoundUnits.{IsCarried};
 
 use crate::odd_streams::odd_stream;
-use es_moments::{DtsError, FoundUnit, apart_units, first_other, units_with_made_dts, written_id};
+use es_moments::{
+    DtsError, FoundUnit, apart_units, dts_are_made, first_other, units_with_made_dts, written_id,
+};
 use es_units::{PidLinks, UnitWarning, UnitWarningCause, found_units, unit_warnings};
 use job_programs::job_options::is_among;
 use job_programs::warnings::push_pid_warnings;
@@ -121,19 +123,31 @@ fn is_written(stream: &FoundStream, units: &[FoundUnit<'_>]) -> bool
     written_id(first.stream_id, is_ac3).is_some()
 }
 
-// Returns a stream with the units of its PID, if it can be carried.
-#[tactic(auto, unfolding(crate::specs::WireStreams::stream_if_any, crate::specs::WireStreams::can_carry, crate::specs::WireStreams::wire_stream, job_programs::specs::Answers::and_then, job_programs::specs::Answers::Answers, job_programs::specs::Answers::Refuses))]
+// Returns whether DTS of units are made without being asked for.
+#[tactic(auto, unfolding(crate::specs::WireStreams::makes_itself))]
+fn makes_itself(
+    alloc: Global,
+    options: &JobOptions<'_>,
+    units: &[FoundUnit<'_>],
+) -> Result<bool, AllocError>
+    ensures { IfOk result (λ made. made ≡ spec.makes_itself options.now units.now) }
+{
+    if options.make_dts || options.strict {
+        return Ok(false);
+    }
+    dts_are_made(alloc, units)
+}
+
+// Returns a stream with these units, if it can be carried.
+#[tactic(auto, unfolding(crate::specs::WireStreams::stream_if_any, job_programs::specs::Answers::and_then, job_programs::specs::Answers::Answers, job_programs::specs::Answers::Refuses))]
 fn stream_if_any<'f>(
     alloc: Global,
     make_dts: bool,
     stream: FoundStream,
-    findings: &'f [Finding<'_>],
-    links: &PidLinks<Global>,
+    units: Vec<FoundUnit<'f>>,
 ) -> Result<Option<WireStream<'f>>, JobError>
-    requires links { AreLinks links.now (pids_in (map finding_view findings.now)) }
-    ensures { Answers (spec.stream_if_any make_dts (map finding_view findings.now) stream) result }
+    ensures { Answers (spec.stream_if_any make_dts stream units.entry.items) result }
 {
-    let units = found_units(alloc, stream.pid, findings, links)?;
     if !is_written(&stream, &units) {
         return Ok(None);
     }
@@ -166,16 +180,35 @@ fn has_unstamped(found: &[UnitWarning]) -> bool
     found.iter().any(|warning| is_unstamped(warning))
 }
 
-// Returns the warning about a stream without a unit: it has no PES packet, or none with a PTS.
-#[tactic(auto, unfolding(crate::specs::WireStreams::no_unit_warning))]
+// Returns whether any warning is about a scrambled packet.
+fn has_scrambled(found: &[UnitWarning]) -> bool
+    ensures { result ≡ list_any spec.is_of_scrambled found.now }
+{
+    found.iter().any(|warning| warning.cause.is_scrambled())
+}
+
+// Returns why a stream without a unit is a loss: it has no PES packet with a PTS, or scrambled packets.
+#[tactic(auto, unfolding(crate::specs::WireStreams::why_no_unit))]
+fn why_no_unit(pid: u16, found: &[UnitWarning]) -> Option<JobRefusal>
+    ensures { result ≡ spec.why_no_unit pid found.now }
+{
+    if has_unstamped(found) {
+        Some(JobRefusal::NoStamps(pid))
+    } else if has_scrambled(found) {
+        Some(JobRefusal::Scrambled(pid))
+    } else {
+        None
+    }
+}
+
+// Returns the warning about a stream without a unit.
+#[tactic(auto, unfolding(crate::specs::WireStreams::without_unit))]
 fn no_unit_warning(program: u16, pid: u16, found: &[UnitWarning]) -> Warning
     ensures { result ≡ spec.no_unit_warning program pid found.now }
 {
-    if has_unstamped(found) {
-        let why = JobRefusal::NoStamps(pid);
-        Warning::LeftOut { pid, why }
-    } else {
-        Warning::NoUnit { program, pid }
+    match why_no_unit(pid, found) {
+        None => Warning::NoUnit { program, pid },
+        Some(why) => Warning::LeftOut { pid, why },
     }
 }
 
@@ -230,6 +263,17 @@ fn push_left_out(
     Ok(())
 }
 
+// Appends the warning about a stream whose DTS are made without being asked for.
+#[tactic(auto, unfolding(crate::specs::WireStreams::made_for))]
+fn push_made(pid: u16, made: bool, warnings: &mut Vec<Warning>) -> Result<(), AllocError>
+    ensures { OnOk result (warnings.new.items ≡ warnings.old.items ++ spec.made_for pid made) }
+{
+    if made {
+        warnings.push(Warning::MadeDts { pid })?;
+    }
+    Ok(())
+}
+
 // Appends a stream, unless it is left out for this reason.
 #[tactic(auto, unfolding(crate::specs::WireStreams::unless_odd))]
 fn push_unless<'f>(
@@ -268,7 +312,7 @@ fn push_unless_odd<'f>(
 }
 
 // Appends a stream with its units, or the warnings why it is left out.
-#[tactic(auto, unfolding(crate::specs::WireStreams::carried_stream, crate::specs::WireStreams::kept_stream, crate::specs::WireStreams::left_out_warnings, crate::specs::WireStreams::warnings_by, job_programs::specs::Answers::Answers, job_programs::specs::Answers::Refuses))]
+#[tactic(auto, unfolding(crate::specs::WireStreams::carried_stream, crate::specs::WireStreams::found_stream, crate::specs::WireStreams::makes_dts, crate::specs::WireStreams::kept_stream, crate::specs::WireStreams::left_out_warnings, crate::specs::WireStreams::warnings_by, job_programs::specs::Answers::Answers, job_programs::specs::Answers::Refuses))]
 fn push_stream<'f>(
     alloc: Global,
     options: &JobOptions<'_>,
@@ -286,8 +330,11 @@ fn push_stream<'f>(
         ++ spec.left_out_warnings options.now count (map finding_view findings.now) stream) }
 {
     let (program, pid) = (stream.program, stream.pid);
-    match stream_if_any(alloc, options.make_dts, stream, findings, links) {
+    let units = found_units(alloc, pid, findings, links)?;
+    let made = makes_itself(alloc, options, &units)?;
+    match stream_if_any(alloc, options.make_dts || made, stream, units) {
         Ok(Some(stream)) => {
+            push_made(pid, made, warnings)?;
             push_unless_odd(
                 alloc, options, pid, stream, findings, links, streams, warnings,
             )

@@ -19,10 +19,11 @@ use Rattle.mux_core.specs.WholeJobs.{or_cause, unit_refused, cause_after, first_
 use Rattle.mux_core.specs.declared.multiplexing.MuxError.{MuxError}
 use Rattle.mux_core.proofs.KnownRanges.{parameters_known}
 use Rattle.mux_core.proofs.UnitCounts.{own_units, units_append}
-use Rattle.es_moments.specs.ApartUnits.{apart_dts}
+use Rattle.es_moments.specs.ApartUnits.{apart_dts, apart_units}
 use Rattle.es_units.specs.CarriedUnits.{RoleView, Ignored, Start, Continuation, Interruption, role_of, continuation, is_cut, is_split, with_more}
 use Rattle.es_units.specs.CarriedUnits.{whole_unit, units_from, units_in, carried_units, wire_units}
-use Rattle.es_moments.specs.MadeDts.{made_dts, pts_of, with_dts}
+use Rattle.es_moments.specs.MadeDts.{made_dts, made_units, pts_of, with_dts}
+use Rattle.es_moments.specs.RisingDts.{dts_are_made, rising_units}
 use Rattle.es_units.specs.Laws.{UnitsAreKept, TakenOneByOne, Declares as LaneDeclares}
 use Rattle.stream_jobs.specs.Jobs.{AreUnits}
 use Rattle.job_programs.specs.FoundUnits.{AreFound, Declares, source_of}
@@ -72,9 +73,15 @@ still_have_bytes (d ∷ ds) (u ∷ us) all =
     All-cons HasBytes (unit_with u.packet u.stream_id d u.unit.pts u.unit.marks u.unit.bytes).unit (map (λ x. x.unit) (with_dts ds us))
     (All-head HasBytes u.unit (map (λ x. x.unit) us) all) (still_have_bytes ds us (All-tail HasBytes u.unit (map (λ x. x.unit) us) all))
 
+either_have_bytes : (made : Bool) (us : List CarriedUnit) → All HasBytes (map (λ x. x.unit) us) →
+    All HasBytes (map (λ x. x.unit) (if made then made_units us else apart_units us))
+either_have_bytes true us all = still_have_bytes (made_dts (pts_of us)) us all
+either_have_bytes false us all = still_have_bytes (apart_dts 0 us) us all
+
 sources_have_bytes : (made : Bool) (pid : ℕ) (findings : List FindingView) → All HasBytes (map (λ w. w.unit) (source_of made pid findings))
-unfolding source_of
-sources_have_bytes false pid findings = still_have_bytes (apart_dts 0 (carried_units pid findings)) (carried_units pid findings) (have_bytes pid findings)
+unfolding source_of rising_units
+sources_have_bytes false pid findings =
+    either_have_bytes (dts_are_made (carried_units pid findings)) (carried_units pid findings) (have_bytes pid findings)
 sources_have_bytes true pid findings = still_have_bytes (made_dts (pts_of (carried_units pid findings))) (carried_units pid findings) (have_bytes pid findings)
 
 -- 2. The units of a stream keep its declaration

@@ -2,7 +2,6 @@
 use Rattle.std.proofs.Common.{◌≡◌, ◌∙◌, ◌⊎◌, inl, inr, ℕ, zero, suc, ◌==◌, ◌++◌, Bool, true, false, cond, if◌then◌else◌, List, [], ◌∷◌, length, map, filter}
 use Rattle.std.proofs.Common.{flat_map, Option, Some, None, Result, Ok, Err, Contains, refl, sym, ap, subst, arith, eq-eqb, ⊎_elim}
 use Rattle.std.specs.Prelude.{ok_or, option_to_list, is_some}
-use Rattle.std.specs.List.{list_any}
 use Rattle.std.proofs.lemmas.List.Elements.{Contains-append_left, Contains-append_right}
 use Rattle.pid_findings.specs.Views.{WhatView, IsTruncated, IsBadPacket, IsErrored, FindingView}
 use Rattle.program_tables.specs.Association.{AssociationView, association}
@@ -34,9 +33,9 @@ use Rattle.job_units.specs.BufferWarnings.{buffer_warnings}
 use Rattle.job_units.specs.Declarations.{UnitCountsView, too_many, too_long, all_measured, all_unit_counts, choices}
 use Rattle.job_units.specs.Moments.{earliest, first_base, firsts, moved_by, moved_stream, moved_streams, with_moments}
 use Rattle.job_units.specs.OddStreams.{odd_stream}
-use Rattle.job_units.specs.WireStreams.{selected, wire_streams, carried_stream, carried_streams, kept_stream, unless_odd, stream_if_any, can_carry}
-use Rattle.job_units.specs.WireStreams.{stream_of, with_units, with_stamps, common_id, no_unit_warning, is_unstamped, why_not_carried}
-use Rattle.job_units.specs.WireStreams.{wire_stream, left_out_for, warnings_by, left_out_warnings, all_left_out_warnings}
+use Rattle.job_units.specs.WireStreams.{selected, wire_streams, carried_stream, carried_streams, found_stream, kept_stream, unless_odd, stream_if_any}
+use Rattle.job_units.specs.WireStreams.{is_written, made_for, makes_dts, makes_itself, stream_of, with_units, with_stamps, common_id, no_unit_warning}
+use Rattle.job_units.specs.WireStreams.{why_not_carried, left_out_for, warnings_by, left_out_warnings, all_left_out_warnings, why_no_unit, without_unit}
 use Rattle.job_inputs.specs.JobInput.{JobInputView, job_input, with_association, with_programs, with_pids, with_found, with_streams, with_moved}
 use Rattle.job_inputs.specs.JobInput.{with_unit_counts, change_warnings, table_warnings, stream_warnings, service_warnings, job_warnings}
 use Rattle.job_inputs.specs.JobInput.{named_of, nothing_carried, tables_of}
@@ -111,34 +110,33 @@ record IsKept (pid : ℕ) (ws : List WireStreamView) : Type 0 where
 named_first : (pid : ℕ) (line : Warning) (more : List Warning) → is_about pid line ≡ true → IsNamed pid (line ∷ more)
 named_first pid line more is = record { line = line; among = (zero, omega arith, refl); about = is }
 
-about_none : (pid program : ℕ) (some : Bool) → is_about pid (if some then warnings.LeftOut pid (refusals.NoStamps pid) else warnings.NoUnit program pid) ≡ true
-unfolding is_about
-about_none pid program true = eq-eqb pid pid refl
-about_none pid program false = eq-eqb pid pid refl
+about_none : (pid program : ℕ) (why : Option JobRefusal) → is_about pid (without_unit program pid why) ≡ true
+unfolding is_about without_unit
+about_none pid program None = eq-eqb pid pid refl
+about_none pid program (Some why) = eq-eqb pid pid refl
 
 why_named : (count : ℕ) (findings : List FindingView) (program pid : ℕ) (us : List CarriedUnit) → IsNamed pid (why_not_carried count findings program pid us)
-unfolding why_not_carried no_unit_warning is_about
+unfolding why_not_carried is_about
 why_named count findings program pid [] =
     named_first pid (no_unit_warning program pid (unit_warnings pid count findings)) (pid_warnings count findings pid)
-    (about_none pid program (list_any is_unstamped (unit_warnings pid count findings)))
+    (about_none pid program (why_no_unit pid (unit_warnings pid count findings)))
 why_named count findings program pid (u ∷ us) = named_first pid (warnings.StreamId program pid u.packet u.stream_id) [] (eq-eqb pid pid refl)
 
-wire_pid : (made : Bool) (findings : List FindingView) (s : FoundStreamView) (w : WireStreamView) → wire_stream made findings s ≡ Ok w → w.pid ≡ s.pid
-unfolding wire_stream stream_of with_units
-wire_pid made findings s w is =
-    let id = comes (λ id. and_then (λ us. Ok (with_units s id us)) (with_stamps made s.pid (carried_units s.pid findings)))
-    (common_id s.pid _ (carried_units s.pid findings)) w is in
-    let us = comes (λ us. Ok (with_units s id.value us)) (with_stamps made s.pid (carried_units s.pid findings)) w id.last_is in
+wire_pid : (made : Bool) (cs : List CarriedUnit) (s : FoundStreamView) (w : WireStreamView) → stream_of made s cs ≡ Ok w → w.pid ≡ s.pid
+unfolding stream_of with_units
+wire_pid made cs s w is =
+    let id = comes (λ id. and_then (λ us. Ok (with_units s id us)) (with_stamps made s.pid cs)) (common_id s.pid _ cs) w is in
+    let us = comes (λ us. Ok (with_units s id.value us)) (with_stamps made s.pid cs) w id.last_is in
     sym (ap (λ (x : WireStreamView). x.pid) (same_value (with_units s id.value us.value) w us.last_is))
 
-some_pid : (made : Bool) (findings : List FindingView) (s : FoundStreamView) (w : WireStreamView) (can : Bool) →
-    (if can then and_then (λ v. Ok (Some v)) (wire_stream made findings s) else Ok None) ≡ Ok (Some w) → w.pid ≡ s.pid
-some_pid made findings s w false is = absurd (cc)
-some_pid made findings s w true is =
-    let there = comes (λ v. Ok (Some v)) (wire_stream made findings s) (Some w) is in
+some_pid : (made : Bool) (cs : List CarriedUnit) (s : FoundStreamView) (w : WireStreamView) (can : Bool) →
+    (if can then and_then (λ v. Ok (Some v)) (stream_of made s cs) else Ok None) ≡ Ok (Some w) → w.pid ≡ s.pid
+some_pid made cs s w false is = absurd (cc)
+some_pid made cs s w true is =
+    let there = comes (λ v. Ok (Some v)) (stream_of made s cs) (Some w) is in
     let last : Some there.value ≡ Some w = same_value (Some there.value) (Some w) there.last_is in
     let same : there.value ≡ w = cc in
-    ap (λ (x : WireStreamView). x.pid) (sym same) ∙ wire_pid made findings s there.value there.first_is
+    ap (λ (x : WireStreamView). x.pid) (sym same) ∙ wire_pid made cs s there.value there.first_is
 
 by_odd : (pid : ℕ) (w : WireStreamView) (odd : Option JobRefusal) → w.pid ≡ pid →
     IsKept pid (option_to_list (unless_odd odd w)) ⊎ IsNamed pid (left_out_for pid odd)
@@ -146,21 +144,32 @@ unfolding unless_odd left_out_for is_about
 by_odd pid w None same = inl (record { stream = w; among = (zero, omega arith, refl); pid_is = same })
 by_odd pid w (Some why) same = inr (named_first pid (warnings.LeftOut pid why) [] (eq-eqb pid pid refl))
 
+after_made : (pid : ℕ) (made : Bool) (lines : List Warning) → IsNamed pid lines → IsNamed pid (made_for pid made ++ lines)
+unfolding made_for
+after_made pid made lines named = record {
+  line = named.line;
+  among = Contains-append_right (made_for pid made) lines named.line named.among;
+  about = named.about;
+}
+
 by_result : (options : JobOptionsView) (count : ℕ) (findings : List FindingView) (s : FoundStreamView) (r : Result (Option WireStreamView) JobRefusal) →
     ((w : WireStreamView) → r ≡ Ok (Some w) → w.pid ≡ s.pid) →
     IsKept s.pid (option_to_list (kept_stream options findings r)) ⊎ IsNamed s.pid (warnings_by options count findings s r)
 unfolding kept_stream warnings_by left_out_for is_about
 by_result options count findings s (Err why) keeps = inr (named_first s.pid (warnings.LeftOut s.pid why) [] (eq-eqb s.pid s.pid refl))
 by_result options count findings s (Ok None) keeps = inr (why_named count findings s.program s.pid (carried_units s.pid findings))
-by_result options count findings s (Ok (Some w)) keeps = by_odd s.pid w (odd_stream options findings w) (keeps w refl)
+by_result options count findings s (Ok (Some w)) keeps =
+    ⊎_elim (λ kept. inl kept)
+    (λ named. inr (after_made s.pid (makes_itself options (carried_units s.pid findings)) (left_out_for s.pid (odd_stream options findings w)) named))
+    (by_odd s.pid w (odd_stream options findings w) (keeps w refl))
 
 one_stream : (options : JobOptionsView) (count : ℕ) (findings : List FindingView) (s : FoundStreamView) →
     IsKept s.pid (carried_stream options findings s) ⊎ IsNamed s.pid (left_out_warnings options count findings s)
-unfolding carried_stream left_out_warnings stream_if_any
+unfolding carried_stream left_out_warnings found_stream stream_if_any
 one_stream options count findings s =
-    by_result options count findings s
-    (if can_carry findings s then and_then (λ v. Ok (Some v)) (wire_stream options.make_dts findings s) else Ok None)
-    (λ w is. some_pid options.make_dts findings s w (can_carry findings s) is)
+    let cs = carried_units s.pid findings in
+    by_result options count findings s (if is_written s cs then and_then (λ v. Ok (Some v)) (stream_of (makes_dts options cs) s cs) else Ok None)
+    (λ w is. some_pid (makes_dts options cs) cs s w (is_written s cs) is)
 
 each_stream : (options : JobOptionsView) (count : ℕ) (findings : List FindingView) (ss : List FoundStreamView) (s : FoundStreamView) → Contains ss s →
     Contains (map (λ w. w.pid) (carried_streams options findings ss)) s.pid ⊎ IsNamed s.pid (flat_map (left_out_warnings options count findings) ss)

@@ -1,5 +1,5 @@
 -- PES_private_data of found units has 16 bytes.
-use Rattle.std.proofs.Common.{◌≡◌, ◌==◌, ℕ, ◌&&◌, Bool, true, false, cond, List, [], ◌∷◌, ◌++◌, length, map, slice_get, Option, Some, None, All, sym, subst}
+use Rattle.std.proofs.Common.{◌≡◌, ◌==◌, ℕ, ◌&&◌, Bool, true, false, cond, if◌then◌else◌, List, [], ◌∷◌, ◌++◌, length, map, slice_get, Option, Some, None, All, sym, subst}
 use Rattle.std.proofs.lemmas.List.Elements.{All-nil, All-cons, All-head, All-tail}
 use Rattle.pes_packet.specs.AccessUnits.{AccessUnit}
 use Rattle.pes_packet.specs.HeaderMarks.{header_marks}
@@ -13,11 +13,12 @@ use Rattle.description_parts.specs.Described.{Described, DescribedStream}
 use Rattle.demux.specs.Laws.{has_pid}
 use Rattle.pid_findings.specs.Views.{FindingView, WhatView, IsDuplicate, BreaksCounter, IsScrambled, IsTruncated, IsSection, IsBadSection, IsPes, IsBadPes}
 use Rattle.pid_findings.specs.Views.{IsBadPacket, IsErrored, IsStray}
-use Rattle.es_moments.specs.ApartUnits.{apart_dts}
+use Rattle.es_moments.specs.ApartUnits.{apart_dts, apart_units}
 use Rattle.es_units.specs.CarriedUnits.{RoleView, carried_units, Ignored, Start, Continuation, Interruption, continuation, first_packet}
 use Rattle.es_units.specs.CarriedUnits.{is_access_point, is_cut, is_split, is_unstamped, pes_role, role_of, role_of_what, units_from, units_in}
 use Rattle.es_units.specs.CarriedUnits.{with_more}
-use Rattle.es_moments.specs.MadeDts.{made_dts, pts_of, with_dts}
+use Rattle.es_moments.specs.MadeDts.{made_dts, made_units, pts_of, with_dts}
+use Rattle.es_moments.specs.RisingDts.{dts_are_made, rising_units}
 use Rattle.es_moments.specs.Stamps.{dts_at, moved, unit_at}
 use Rattle.job_programs.specs.FoundUnits.{AreFound, source_of}
 use Rattle.stream_jobs.specs.Jobs.{AreUnits}
@@ -107,9 +108,13 @@ with_made (d ∷ ds) (u ∷ us) all =
     All-cons Carried (unit_with u.packet u.stream_id d u.unit.pts u.unit.marks u.unit.bytes) (with_dts ds us) (All-head Carried u us all)
     (with_made ds us (All-tail Carried u us all))
 
+either_source : (made : Bool) (us : List CarriedUnit) → All Carried us → All Carried (if made then made_units us else apart_units us)
+either_source true us all = with_made (made_dts (pts_of us)) us all
+either_source false us all = with_made (apart_dts 0 us) us all
+
 sources : (made : Bool) (pid : ℕ) (fs : List FindingView) → All Carried (source_of made pid fs)
-unfolding source_of
-sources false pid fs = with_made (apart_dts 0 (carried_units pid fs)) (carried_units pid fs) (all_units (is_split pid fs) pid fs)
+unfolding source_of rising_units
+sources false pid fs = either_source (dts_are_made (carried_units pid fs)) (carried_units pid fs) (all_units (is_split pid fs) pid fs)
 sources true pid fs = with_made (made_dts (pts_of (carried_units pid fs))) (carried_units pid fs) (all_units (is_split pid fs) pid fs)
 
 -- 3. The units at moments of a run

@@ -10,6 +10,7 @@ use Rattle.es_moments.specs.CountedUnits.{counted_units, max_row}
 use Rattle.es_moments.specs.Declaration.{counted_packets, interval_after, max_unit_size, min_interval}
 use Rattle.es_moments.specs.MadeDts.{fault_of_moments, first_late_pts, first_same_pts, in_order, is_first, max_ahead, moments_after, nearest, placed}
 use Rattle.es_moments.specs.MadeDts.{with_dts}
+use Rattle.es_moments.specs.RisingDts.{all_later, dts_are_made, is_later}
 use Rattle.es_moments.specs.Stamps.{distance, dts_at, dts_not_increasing, fault_or, first_fault, min_distance, moved, or_fault, unit_at}
 use Rattle.es_moments.specs.StreamIds.{first_other_at, written_id}
 use Rattle.es_moments.specs.UnitRuns.{greatest_over, steps_after, unit_runs}
@@ -38,19 +39,20 @@ use Rattle.job_programs.specs.Packets.{is_bad as packets_is_bad, no_packets}
 use Rattle.job_programs.specs.ProgramClocks.{clock_by, is_same_clock}
 use Rattle.job_programs.specs.Warnings.{buffer_warning, map_warnings, name_warning, network_warnings, option_warnings, packet_warning, packet_warning_of}
 use Rattle.job_programs.specs.Warnings.{pid_option_warning, pid_warnings, selection_warning, stray_warning, stray_warnings, unread_network}
-use Rattle.job_units.specs.BufferWarnings.{asked_rate, frame_warning, frame_warnings_of, header_warning, leak_warning, leak_warnings_of, unkept_frames}
-use Rattle.job_units.specs.BufferWarnings.{unkept_leak}
-use Rattle.job_units.specs.Declarations.{buffers_for, buffers_refusal, choices, chosen, coding_for, first_bytes, first_kept, framing_for, framing_of}
-use Rattle.job_units.specs.Declarations.{groups_of, header_of, is_countable, is_declared, is_too_long, length_refusal, max_group_packets, measured}
+use Rattle.job_units.specs.BufferWarnings.{asked_rate, crossing_warning, frame_warning, frame_warnings_of, header_warning, leak_warning, leak_warnings_of}
+use Rattle.job_units.specs.BufferWarnings.{unkept_frames, unkept_leak, whole_warning}
+use Rattle.job_units.specs.CrossingFrames.{begin_later, crosses, crosses_into, do_cross, has_cut, is_cut as crossing_frames_is_cut}
+use Rattle.job_units.specs.Declarations.{buffers_for, buffers_refusal, choices, chosen, coding_for, crossing_for, first_bytes, first_kept, framing_for}
+use Rattle.job_units.specs.Declarations.{framing_of, groups_of, header_of, is_countable, is_declared, is_too_long, length_refusal, max_group_packets, measured}
 use Rattle.job_units.specs.Declarations.{most_header, multiplexing_for, needs_of, packets_of_group, prompt_lead, share_of, shares_of, size_refusal}
 use Rattle.job_units.specs.Declarations.{too_long, too_many, unit_counts, units_refusal, way_out, with_buffers, without_header}
 use Rattle.job_units.specs.Moments.{base_for, base_of, base_of_first, earliest, entry_size, first_base, first_dts, first_dts_of, is_long_map, is_mended}
 use Rattle.job_units.specs.Moments.{is_on_clock, map_size, moved_by, moved_stream, moved_streams, packet_of, stamps_refusal, table_size, with_moments}
 use Rattle.job_units.specs.OddStreams.{alone, first_odd, odd_buffers, odd_bytes, odd_counts, odd_stamps, odd_stream, odd_units, own_base}
-use Rattle.job_units.specs.WireStreams.{can_carry, carried_stream, common_id, dts_refusal, id_of as wire_streams_id_of}
-use Rattle.job_units.specs.WireStreams.{is_unstamped as wire_streams_is_unstamped, is_unstamped_cause, is_written, kept_stream, left_out_for}
-use Rattle.job_units.specs.WireStreams.{left_out_warnings, no_unit_warning, other_id_refusal, stream_if_any, stream_of as wire_streams_stream_of, unless_odd}
-use Rattle.job_units.specs.WireStreams.{warnings_by, why_not_carried, wire_stream, with_stamps, with_units}
+use Rattle.job_units.specs.WireStreams.{carried_stream, common_id, dts_refusal, id_of as wire_streams_id_of, is_unstamped as wire_streams_is_unstamped}
+use Rattle.job_units.specs.WireStreams.{is_unstamped_cause, is_written, kept_stream, left_out_for, left_out_warnings, other_id_refusal, stream_if_any}
+use Rattle.job_units.specs.WireStreams.{stream_of as wire_streams_stream_of, unless_odd, found_stream, made_for, makes_dts, makes_itself, warnings_by}
+use Rattle.job_units.specs.WireStreams.{why_not_carried, with_stamps, with_units, why_no_unit, without_unit}
 use Rattle.other_tables.specs.SteadySections.{are_steady, begun_by, comes_again, distance_from, distinct_sections, extension_of, greatest_gap, is_known}
 use Rattle.other_tables.specs.SteadySections.{is_same_section, is_splice_command, is_timed, none_changes, number_of, section_by, section_of}
 use Rattle.other_tables.specs.SteadySections.{section_on as steady_sections_section_on, sections_on, steady_if, steady_sections, widest_gap, with_new}
@@ -91,6 +93,7 @@ use Rattle.sound_frames.specs.FrameHeaders.{aac_frequency, ac3_frame, ac3_freque
 use Rattle.sound_frames.specs.FrameHeaders.{enhanced_frequency, first_layer_rate, frame_header, frame_kind, layer_frame, layer_frequency, layer_header}
 use Rattle.sound_frames.specs.FrameHeaders.{layer_rate, layer_samples, layer_size, loas_config, loas_frame, low_first_layer_rate, low_layer_rate, plain_ac3}
 use Rattle.sound_frames.specs.FrameHeaders.{second_layer_rate, sounding, third_layer_rate}
+use Rattle.sound_frames.specs.FrameWalks.{by_header, count_by, count_passed, header_read, headed, parts_from, passed, passed_by, walked_from}
 use Rattle.sound_frames.specs.Frames.{all_frames, next_frame, walked, with_frame}
 use Rattle.stream_choice.specs.Choices.{best}
 use Rattle.stream_choice.specs.Frames.{framed_bytes, frames_hold, is_framing}
@@ -121,55 +124,59 @@ use Rattle.laws_job.specs.WorkedJob.{WorkedJob, stream_findings, worked_input, w
 use Rattle.laws_job.proofs.WorkedFindings.{worked_found}
 
 input : job_input worked_options 4 stream_findings ≡ Ok worked_input
-unfolding descriptors_from descriptors_in first_descriptor has_ca has_of_multiplex has_tag is_by_hevc_hrd is_by_hrd is_by_vbv_delay is_ca is_of_multiplex
-    is_tagged kept_bytes kept_descriptors aac_buffers buffers_of coding_holding given_buffers j2k_buffers multiplexing without_size video_buffers has_bit
-    is_later_video is_mpeg_video longest_stay names_stills apart_by apart_dts is_same_next next_place counted_units max_row counted_packets interval_after
-    max_unit_size min_interval fault_of_moments first_late_pts first_same_pts in_order is_first max_ahead moments_after nearest placed with_dts distance
-    dts_at dts_not_increasing fault_or first_fault min_distance moved or_fault unit_at first_other_at written_id greatest_over steps_after unit_runs
-    continuation continued_by end_of first_id carried_units_first_packet is_access_point is_cut is_part is_split carried_units_is_unstamped more_bytes
-    pes_role role_of role_of_what start_id units_from units_in cause_of cause_of_what current_after first_cause unit_warnings_id_of pes_cause unstamped_cause
-    warning_list warnings_from change_warnings first_why job_input job_warnings nothing_carried service_warnings stream_warnings table_warnings tables_of
-    why_nothing with_association with_found with_moved with_pids job_input_with_programs job_input_with_streams with_unit_counts and_then each unless base0_of
-    lasts event_part first_start job_events start_found start_of name_given original_given has_service has_services information_of named_service
-    information_network_found network_of network_or original_of renamed service_with job_options_is_among is_selected_program is_selected_stream clock_if
-    clock_in job_programs_has_stream is_unread numbers_named program_warnings program_with_pids text_warning job_streams_is_stream_of can_take has_table
-    is_left_out is_reported job_tables packet_at packet_span span_if table_if table_of tables_on packets_is_bad no_packets clock_by is_same_clock
-    buffer_warning map_warnings name_warning network_warnings option_warnings packet_warning packet_warning_of pid_option_warning pid_warnings
-    selection_warning stray_warning stray_warnings unread_network asked_rate frame_warning frame_warnings_of header_warning leak_warning leak_warnings_of
-    unkept_frames unkept_leak buffers_for buffers_refusal choices chosen coding_for first_bytes first_kept framing_for framing_of groups_of header_of
-    is_countable is_declared is_too_long length_refusal max_group_packets measured most_header multiplexing_for needs_of packets_of_group prompt_lead share_of
-    shares_of size_refusal too_long too_many unit_counts units_refusal way_out with_buffers without_header base_for base_of base_of_first earliest entry_size
-    first_base first_dts first_dts_of is_long_map is_mended is_on_clock map_size moved_by moved_stream moved_streams packet_of stamps_refusal table_size
-    with_moments alone first_odd odd_buffers odd_bytes odd_counts odd_stamps odd_stream odd_units own_base can_carry carried_stream common_id dts_refusal
-    wire_streams_id_of wire_streams_is_unstamped is_unstamped_cause is_written kept_stream left_out_for left_out_warnings no_unit_warning other_id_refusal
-    stream_if_any wire_streams_stream_of unless_odd warnings_by why_not_carried wire_stream with_stamps with_units are_steady begun_by comes_again
-    distance_from distinct_sections extension_of greatest_gap is_known is_same_section is_splice_command is_timed none_changes has_lost is_kept is_read loses
-    program_loss number_of section_by section_of steady_sections_section_on sections_on steady_if steady_sections widest_gap with_new greatest least
-    header_with packet_length pes_header_bytes pes_packet_bytes pes_start_bytes pts_dts_header pts_header stamp_bytes association association_change
-    association_differs entries entries_of first_pat association_in_force association_is_entry is_named is_other association_is_said pat_found pat_in
-    pat_of_section with_program association_with_programs program_maps_differs first_differing has_descriptor has_descriptors program_maps_has_stream
-    has_streams program_maps_in_force is_of_sound is_same_descriptor is_same_stream keeps_descriptors keeps_one keeps_stream keeps_streams map_change
-    names_same pmt_found pmt_in pmt_of_section program_map section_bytes sections_section_on after_bit after_bits after_byte after_bytes bits_of check_word
-    descriptors_length entry_after entry_at loop_at loop_from pat_at program_of programs_in pmt_after pmt_at program_map_stream_of streams_at streams_in
-    is_bad_length long_header_of long_section section_at section_start_at short_section sized_at whole_at form_at table_header_at civil_text clock_text
-    date_text two_digits below_sixty decimal_in moment_in moment_on seconds_in sixtieths_in event_section_found event_section_in if_in_force
-    event_sections_in_force event_sections_of_section event_surplus has_whole_texts have_whole_texts event_surplus_is_said event_surplus_is_same
-    event_surplus_is_surplus event_surplus_is_taken is_whole_text says_more events_can_be_said event_in if_said events_is_among is_free overlaps place_of
-    stream_events timed_event with_entries with_event with_findings with_if_said with_section first_findings_first_packet has_table_id
-    short_events_in_descriptors is_alone short_events_of_descriptor short_event_in with_name stream_time_is_surplus stream_time_of_section of_table
-    stream_time time_found time_in information_warnings warnings_is_bad is_bad_on text_warnings aac_frequency ac3_frame ac3_frequency ac3_rate ac3_size
-    adts_frame enhanced_ac3 enhanced_blocks enhanced_frequency first_layer_rate frame_header frame_kind layer_frame layer_frequency layer_header layer_rate
-    layer_samples layer_size loas_config loas_frame low_first_layer_rate low_layer_rate plain_ac3 second_layer_rate sounding third_layer_rate all_frames
+unfolding descriptors_from descriptors_in first_descriptor has_ca has_of_multiplex has_tag is_by_hevc_hrd is_by_hrd is_by_vbv_delay is_ca
+    is_of_multiplex is_tagged kept_bytes kept_descriptors aac_buffers buffers_of coding_holding given_buffers j2k_buffers multiplexing without_size
+    video_buffers has_bit is_later_video is_mpeg_video longest_stay names_stills apart_by apart_dts is_same_next next_place counted_units max_row
+    counted_packets interval_after max_unit_size min_interval fault_of_moments first_late_pts first_same_pts in_order is_first max_ahead moments_after
+    nearest placed with_dts distance dts_at dts_not_increasing fault_or first_fault min_distance moved or_fault unit_at first_other_at written_id
+    greatest_over steps_after unit_runs continuation continued_by end_of first_id carried_units_first_packet is_access_point is_cut is_part is_split
+    carried_units_is_unstamped more_bytes pes_role role_of role_of_what start_id units_from units_in cause_of cause_of_what current_after first_cause
+    unit_warnings_id_of pes_cause unstamped_cause warning_list warnings_from change_warnings first_why job_input job_warnings nothing_carried
+    service_warnings stream_warnings table_warnings tables_of why_nothing with_association with_found with_moved with_pids job_input_with_programs
+    job_input_with_streams with_unit_counts and_then each unless base0_of lasts event_part first_start job_events start_found start_of name_given
+    original_given has_service has_services information_of named_service information_network_found network_of network_or original_of renamed
+    service_with job_options_is_among is_selected_program is_selected_stream clock_if clock_in job_programs_has_stream is_unread numbers_named
+    program_warnings program_with_pids text_warning job_streams_is_stream_of can_take has_table is_left_out is_reported job_tables packet_at
+    packet_span span_if table_if table_of tables_on packets_is_bad no_packets clock_by is_same_clock buffer_warning map_warnings name_warning
+    network_warnings option_warnings packet_warning packet_warning_of pid_option_warning pid_warnings selection_warning stray_warning stray_warnings
+    unread_network asked_rate crossing_warning frame_warning frame_warnings_of header_warning leak_warning leak_warnings_of unkept_frames unkept_leak
+    whole_warning crosses has_cut crossing_frames_is_cut buffers_for buffers_refusal choices chosen coding_for crossing_for first_bytes first_kept
+    framing_for framing_of groups_of header_of is_countable is_declared is_too_long length_refusal max_group_packets measured most_header
+    multiplexing_for needs_of packets_of_group prompt_lead share_of shares_of size_refusal too_long too_many unit_counts units_refusal way_out
+    with_buffers without_header base_for base_of base_of_first earliest entry_size first_base first_dts first_dts_of is_long_map is_mended is_on_clock
+    map_size moved_by moved_stream moved_streams packet_of stamps_refusal table_size with_moments alone first_odd odd_buffers odd_bytes odd_counts
+    odd_stamps odd_stream odd_units own_base carried_stream common_id dts_refusal wire_streams_id_of wire_streams_is_unstamped is_unstamped_cause
+    is_written kept_stream left_out_for left_out_warnings other_id_refusal stream_if_any wire_streams_stream_of unless_odd warnings_by why_not_carried
+    with_stamps with_units are_steady begun_by comes_again distance_from distinct_sections extension_of greatest_gap is_known is_same_section
+    is_splice_command is_timed none_changes has_lost is_kept is_read loses program_loss number_of section_by section_of steady_sections_section_on
+    sections_on steady_if steady_sections widest_gap with_new greatest least header_with packet_length pes_header_bytes pes_packet_bytes
+    pes_start_bytes pts_dts_header pts_header stamp_bytes association association_change association_differs entries entries_of first_pat
+    association_in_force association_is_entry is_named is_other association_is_said pat_found pat_in pat_of_section with_program
+    association_with_programs program_maps_differs first_differing has_descriptor has_descriptors program_maps_has_stream has_streams
+    program_maps_in_force is_of_sound is_same_descriptor is_same_stream keeps_descriptors keeps_one keeps_stream keeps_streams map_change names_same
+    pmt_found pmt_in pmt_of_section program_map section_bytes sections_section_on after_bit after_bits after_byte after_bytes bits_of check_word
+    descriptors_length entry_after entry_at loop_at loop_from pat_at program_of programs_in pmt_after pmt_at program_map_stream_of streams_at
+    streams_in is_bad_length long_header_of long_section section_at section_start_at short_section sized_at whole_at form_at table_header_at
+    civil_text clock_text date_text two_digits below_sixty decimal_in moment_in moment_on seconds_in sixtieths_in event_section_found event_section_in
+    if_in_force event_sections_in_force event_sections_of_section event_surplus has_whole_texts have_whole_texts event_surplus_is_said
+    event_surplus_is_same event_surplus_is_surplus event_surplus_is_taken is_whole_text says_more events_can_be_said event_in if_said events_is_among
+    is_free overlaps place_of stream_events timed_event with_entries with_event with_findings with_if_said with_section first_findings_first_packet
+    has_table_id short_events_in_descriptors is_alone short_events_of_descriptor short_event_in with_name stream_time_is_surplus
+    stream_time_of_section of_table stream_time time_found time_in information_warnings warnings_is_bad is_bad_on text_warnings aac_frequency
+    ac3_frame ac3_frequency ac3_rate ac3_size adts_frame enhanced_ac3 enhanced_blocks enhanced_frequency first_layer_rate frame_header frame_kind
+    layer_frame layer_frequency layer_header layer_rate layer_samples layer_size loas_config loas_frame low_first_layer_rate low_layer_rate plain_ac3
+    second_layer_rate sounding third_layer_rate by_header count_by count_passed header_read headed parts_from passed passed_by walked_from all_frames
     next_frame walked with_frame best framed_bytes frames_hold is_framing are_max_packets is_needs is_within held_bytes leaking_needs channel_pairs
     coding_by_descriptors coding_of four_bytes is_ac3 is_j2k j2k_limits registers_ac3 registers_pcm free_pids_is_taken least_free assigned_map_pid
     assigned_map_pids assigned_pids with_pcr_pids any_ca any_of_multiplex can_place can_share has_clock holder_in is_multiplexed_map is_scrambled_map
-    programs_of shares with_access with_map with_multiplex with_program_by with_program_if programs_with_programs with_shared with_stream with_stream_if
-    programs_with_streams with_table is_pes omitted_pid pes_count pes_number stray_pid stray_pids unknown_pid has_no_pes holder is_alike is_reserved
-    is_shared_with streams_is_stream_of omission_of shared_by network_information_can_be_said coded_name entry_of first_network network_information_is_entry
-    is_name_alone is_network_section is_one is_original network_information_is_said network_information_is_same network_information_is_surplus known_stream
-    network_in network_said network_surplus network_with nit_found nit_in nit_in_force nit_of_section says_no_more says_only stream_network surplus_from
-    network networks_network_found service_descriptions_in_force sdt_found sdt_in sdt_of_section services_in_descriptors in_entries length_prefixed
-    services_of_descriptor of_entry service service_found service_in with_provider
+    programs_of shares with_access with_map with_multiplex with_program_by with_program_if programs_with_programs with_shared with_stream
+    with_stream_if programs_with_streams with_table is_pes omitted_pid pes_count pes_number stray_pid stray_pids unknown_pid has_no_pes holder
+    is_alike is_reserved is_shared_with streams_is_stream_of omission_of shared_by network_information_can_be_said coded_name entry_of first_network
+    network_information_is_entry is_name_alone is_network_section is_one is_original network_information_is_said network_information_is_same
+    network_information_is_surplus known_stream network_in network_said network_surplus network_with nit_found nit_in nit_in_force nit_of_section
+    says_no_more says_only stream_network surplus_from network networks_network_found service_descriptions_in_force sdt_found sdt_in sdt_of_section
+    services_in_descriptors in_entries length_prefixed services_of_descriptor of_entry service service_found service_in with_provider all_later
+    dts_are_made is_later found_stream made_for makes_dts makes_itself begin_later crosses_into do_cross why_no_unit without_unit
 input = refl
 
 pub worked_job : WorkedJob

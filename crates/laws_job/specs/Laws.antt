@@ -19,7 +19,7 @@ use Rattle.laws_run.specs.Clean.{IsClean}
 use Rattle.es_units.specs.CarriedUnits.{wire_units, apart_wire_units}
 use Rattle.clock27.specs.Units.{slot_units_at_1bps}
 use Rattle.laws_pid.specs.Laws.{all_found}
-use Rattle.job_programs.specs.FoundUnits.{AreMoved}
+use Rattle.job_programs.specs.FoundUnits.{AreMoved, KeepDts}
 use Rattle.stream_jobs.specs.Jobs.{AreUnits}
 
 -- ---- going in
@@ -47,8 +47,9 @@ pub record AreThose (wire us : List AccessUnit) : Type 0 where
 
 -- what the bytes of a job keep
 pub record RoundTrip (schedule : Scheduled) (findings : List FindingView) (units : List (ℕ × AccessUnit)) (n : ℕ) (bytes : List ℕ) : Type 0 where
-  -- the units of each stream are the units found on its PID, in a data stream with distinct DTS
-  pub same : (k : ℕ) (s : DescribedStream) → slice_get schedule.description.streams k ≡ Some s → AreThose (apart_wire_units s.pid findings) (units_of k units)
+  -- the units of each stream that keeps its DTS are the units found on its PID, in a data stream with distinct DTS
+  pub same : (k : ℕ) (s : DescribedStream) → slice_get schedule.description.streams k ≡ Some s → KeepDts s.pid findings →
+      AreThose (apart_wire_units s.pid findings) (units_of k units)
   -- the bytes give them back: each unit that was sent whole with its stamps on the wire and its bytes
   pub given_back : GivenBack schedule (λ k. units_of k units) n bytes
   -- nothing is wrong with them

@@ -5,9 +5,9 @@ use Rattle.std.specs.Prelude.{is_ok}
 use Rattle.std.specs.List.{AllZip}
 use Rattle.clap.specs.Words.{Text}
 use Rattle.pid_findings.specs.Views.{FindingView}
-use Rattle.packet_sync.specs.OtherPackets.{other_packets}
 use Rattle.packet_sync.specs.Slips.{carried}
-use Rattle.packet_sync.specs.declared.packet_sizes.OtherPackets.{OtherPackets}
+use Rattle.packet_sync.specs.WrongPackets.{wrong_packets}
+use Rattle.packet_sync.specs.declared.packet_search.WrongPackets.{WrongPackets}
 use Rattle.es_units.proofs.KeptDeclarations.{units_kept}
 use Rattle.job_inputs.specs.JobInput.{JobInputView, job_input}
 use Rattle.job_programs.specs.JobOptions.{JobOptionsView}
@@ -89,14 +89,14 @@ unfolding input_or_line
 its_input falling (Ok x) m e = let same : x ≡ m = cc in ap (λ (y : JobInputView). Ok y) same
 its_input falling (Err refusal) m e = absurd cc
 
-of_packets : (w : JobOptionsView) (bytes : List ℕ) (p : Option OtherPackets) (m : JobInputView) → packets_input w bytes p ≡ Ok m →
+of_packets : (w : JobOptionsView) (bytes : List ℕ) (p : Option WrongPackets) (m : JobInputView) → packets_input w bytes p ≡ Ok m →
     job_input w (length (carried bytes) / 188) (findings_for w bytes) ≡ Ok m
 unfolding packets_input
-of_packets w bytes (Some packets) m e = absurd cc
+of_packets w bytes (Some wrong) m e = absurd cc
 of_packets w bytes None m e = its_input (notes_for w bytes).falling (job_input w (length (carried bytes) / 188) (findings_for w bytes)) m e
 
 its_findings : (w : JobOptionsView) (bytes : List ℕ) (m : JobInputView) → stream_input w bytes ≡ Ok m → TakesInput w (findings_for w bytes) m
-its_findings w bytes m e = record { count = length (carried bytes) / 188; is = of_packets w bytes (other_packets bytes) m e }
+its_findings w bytes m e = record { count = length (carried bytes) / 188; is = of_packets w bytes (wrong_packets bytes) m e }
 
 record FirstOf (r : Result JobInputView (List ℕ)) (rest : Result (List JobInputView) (List ℕ)) (ms : List JobInputView) : Type 0 where
   first : JobInputView
@@ -233,11 +233,11 @@ through accepted again words a o files output read_again packets faults status a
       kept = done.kept;
       origins = job.found.same;
       time = λ number clock. job.description.base0 + 2 ^ 33 - constants.constant number clock;
-      units = λ own bytes_out short k s from is at.
+      units = λ own bytes_out short k s from is at keep.
           joined_units_again again inputs j.origins o (as_joined_job job) (constants.constant from.input from.clock) refl m.all_slots bytes_out ranges
           job.serving (subst (λ (made : Bool). AreUnitsIn made inputs j.origins job.description job.units) own job.found) short k s
           (wire_units_in inputs from) is
-          (moved_in a.options.make_dts inputs constants.constant job.description j job.units own moved job.agree job.job.merged k s from is at);
+          (moved_in a.options.make_dts inputs constants.constant job.description j job.units own moved job.agree job.job.merged k s from is at keep);
     }
 
 pub the_file_pipe : JoinedAcceptedLaw → JoinedAgainLaw → TheFilePipe

@@ -10,10 +10,11 @@ use Rattle.pid_findings.specs.Views.{FindingView}
 use Rattle.slot_plan.specs.Conditions.{IsServing}
 use Rattle.es_units.specs.CarriedUnits.{wire_units}
 use Rattle.es_moments.specs.Merging.{AreMerged}
-use Rattle.job_programs.specs.FoundUnits.{AreMoved, source_of}
+use Rattle.job_programs.specs.FoundUnits.{AreMoved, KeepDts, source_of}
+use Rattle.job_programs.proofs.KeptDts.{kept_moved}
 use Rattle.job_programs.specs.JobStreams.{TimedStreamView}
 use Rattle.stream_jobs.specs.Jobs.{AllAgree}
-use Rattle.job_inputs.specs.JoinedInputs.{AreUnitsIn, IsMovedIn, JoinedInputsView}
+use Rattle.job_inputs.specs.JoinedInputs.{AreUnitsIn, IsMovedIn, JoinedInputsView, findings_in}
 use Rattle.job_inputs.specs.declared.joined_inputs.Origin.{Origin}
 use Rattle.job_programs.specs.declared.program_clock.ProgramClock.{ProgramClock}
 use Rattle.stream_jobs.proofs.JoinedUnits.{at_place}
@@ -29,20 +30,21 @@ use Rattle.laws_pipe.proofs.UnitsAgain.{all_due, packets_are, slots_within}
 
 -- The units of a stream are moved by the constant of its clock in its input.
 those_moved : (inputs : List (List FindingView)) (constant : ℕ → ProgramClock → ℕ) (o : Origin) (t : TimedStreamView) (us : List AccessUnit) → us ≡ t.units →
-    IsMovedIn false inputs constant o t → AreMoved (wire_units_in inputs o) (constant o.input o.clock) us
-unfolding source_of
-those_moved inputs constant o t us same moved = rw same moved
+    KeepDts o.pid (findings_in inputs o.input) → IsMovedIn false inputs constant o t → AreMoved (wire_units_in inputs o) (constant o.input o.clock) us
+those_moved inputs constant o t us same keep moved =
+    let there : AreMoved (map (λ u. u.unit) (source_of false o.pid (findings_in inputs o.input))) (constant o.input o.clock) us = rw same moved in
+    kept_moved o.pid (findings_in inputs o.input) (constant o.input o.clock) us keep there
 
 pub moved_in : (made : Bool) (inputs : List (List FindingView)) (constant : ℕ → ProgramClock → ℕ) (d : Described) (j : JoinedInputsView)
     (units : List (ℕ × AccessUnit)) → made ≡ false →
     AllZip (IsMovedIn made inputs constant) j.origins j.input.streams → AllAgree d j.input → AreMerged (map (λ t. t.units) j.input.streams) units →
     (k : ℕ) (s : DescribedStream) (o : Origin) → slice_get d.streams k ≡ Some s → slice_get j.origins k ≡ Some o →
-    AreMoved (wire_units_in inputs o) (constant o.input o.clock) (units_of k units)
-moved_in made inputs constant d j units own moved agree merged k s o is from =
+    KeepDts o.pid (findings_in inputs o.input) → AreMoved (wire_units_in inputs o) (constant o.input o.clock) (units_of k units)
+moved_in made inputs constant d j units own moved agree merged k s o is from keep =
     let lt : k < length j.input.streams = omega (arith, slice_get_within d.streams k s is, agree.same) in
     let t = stream_there j.input.streams k lt in
     let same : units_of k units ≡ t.0.units = merged.each k t.0.units (slice_get-map (λ t. t.units) j.input.streams k ∙ ap (option_map (λ t. t.units)) t.1) in
-    those_moved inputs constant o t.0 (units_of k units) same
+    those_moved inputs constant o t.0 (units_of k units) same keep
     (subst (λ (b : Bool). IsMovedIn b inputs constant o t.0) own (at_place (IsMovedIn made inputs constant) j.origins j.input.streams k o t.0 moved from t.1))
 
 pub joined_units_again : JoinedAgainLaw → (inputs : List (List FindingView)) (origins : List Origin) (o : MuxOptions) (j : MuxJobView) (base : ℕ) →

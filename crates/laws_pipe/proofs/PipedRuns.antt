@@ -4,9 +4,9 @@ use Rattle.std.proofs.Common.{subst, arith, is_some, inl, inr, All}
 use Rattle.std.specs.Io.KnownBytes.{Appends}
 use Rattle.clap.specs.Words.{Text}
 use Rattle.pid_findings.specs.Views.{FindingView}
-use Rattle.packet_sync.specs.OtherPackets.{other_packets}
 use Rattle.packet_sync.specs.Slips.{carried}
-use Rattle.packet_sync.specs.declared.packet_sizes.OtherPackets.{OtherPackets}
+use Rattle.packet_sync.specs.WrongPackets.{wrong_packets}
+use Rattle.packet_sync.specs.declared.packet_search.WrongPackets.{WrongPackets}
 use Rattle.es_units.proofs.KeptDeclarations.{units_kept}
 use Rattle.job_inputs.specs.JobInput.{JobInputView, job_input}
 use Rattle.job_programs.specs.Information.{information_of}
@@ -101,9 +101,9 @@ given_by a bytes o (Err refusal) e leads some = absurd (none_written o _ leads s
 given_by a bytes o (Ok m) e (inl given) some = record { input = m; input_is = e; gives = given.gives }
 given_by a bytes o (Ok m) e (inr refused) some = absurd (none_written o _ refused.is some)
 
-given_of : (a : JobArgumentsView) (bytes : List ℕ) (o : Outcome) (p : Option OtherPackets) → BytesLead a bytes p o → 0 < length o.output →
+given_of : (a : JobArgumentsView) (bytes : List ℕ) (o : Outcome) (p : Option WrongPackets) → BytesLead a bytes p o → 0 < length o.output →
     GivenOf a bytes o.output
-given_of a bytes o (Some packets) leads some = absurd (none_written o _ leads some)
+given_of a bytes o (Some wrong) leads some = absurd (none_written o _ leads some)
 given_of a bytes o None leads some = given_by a bytes o (job_input a.options (length (carried bytes) / 188) (findings_for a.options bytes)) refl leads some
 
 pub given_by_run : (a : JobArgumentsView) (bytes output : List ℕ) (stream job job_reports : Device) (status : ℕ) → stream.before.bytes ≡ Some bytes →
@@ -112,7 +112,7 @@ pub given_by_run : (a : JobArgumentsView) (bytes output : List ℕ) (stream job 
 given_by_run a bytes output stream job job_reports status known ends empty output_is some =
     let same : ends.outcome.output ≡ output = taken job.before.bytes job.after.bytes ends.outcome.output output empty output_is ends.written in
     let leads = known_lead (Leads a) bytes ends.outcome stream ends.leads known in
-    subst (GivenOf a bytes) same (given_of a bytes ends.outcome (other_packets bytes) leads (subst (λ (xs : List ℕ). 0 < length xs) (sym same) some))
+    subst (GivenOf a bytes) same (given_of a bytes ends.outcome (wrong_packets bytes) leads (subst (λ (xs : List ℕ). 0 < length xs) (sym same) some))
 
 -- 3. The effect of `mux` on the output
 
@@ -174,11 +174,11 @@ through accepted again words a o bytes output job_again packets faults status as
       written = done.written;
       kept = done.kept;
       time = λ clock. job.description.base0 + 2 ^ 33 - constants.constant clock;
-      units = λ own bytes_out short k s is.
+      units = λ own bytes_out short k s is keep.
           units_again again (findings_for a.options bytes) o (as_mux_job job) (constants.constant (clock_in input.programs s.program)) refl m.all_slots
           bytes_out ranges job.serving
           (subst (λ (made : Bool). AreUnits made (findings_for a.options bytes) job.description job.units) own job.found) short k s is
-          (moved_units a.options (findings_for a.options bytes) job.description input job.units constants own job.agree job.job.merged k s is);
+          (moved_units a.options (findings_for a.options bytes) job.description input job.units constants own job.agree job.job.merged k s is keep);
     }
 
 pub the_pipe : AcceptedLaw → FoundAgainLaw → ThePipe

@@ -31,7 +31,8 @@ use Rattle.given_marks.specs.Marking.{MarkingView, all_marked}
 use Rattle.job_inputs.specs.AskedMarks.{marking_of}
 use Rattle.job_programs.specs.JobOptions.{JobOptionsView}
 use Rattle.job_inputs.specs.ClockConstants.{HasConstants, IsMovedBy, clock_of}
-use Rattle.job_programs.specs.FoundUnits.{AreMoved, source_of}
+use Rattle.job_programs.specs.FoundUnits.{AreMoved, KeepDts}
+use Rattle.job_programs.proofs.KeptDts.{kept_moved}
 use Rattle.job_inputs.specs.JobInput.{JobInputView}
 use Rattle.job_programs.specs.JobStreams.{TimedStreamView}
 use Rattle.job_programs.specs.declared.program_clock.ProgramClock.{ProgramClock}
@@ -251,10 +252,9 @@ same_alone a w d bytes input k t alike at =
 
 -- 5. The constant of its clock moves each unit
 
-with_own : (findings : List FindingView) (base : ℕ) (t : TimedStreamView) → IsMovedBy false findings base t →
+with_own : (findings : List FindingView) (base : ℕ) (t : TimedStreamView) → KeepDts t.pid findings → IsMovedBy false findings base t →
     AreMoved (apart_wire_units t.pid findings) base t.units
-unfolding source_of
-with_own findings base t moved = moved
+with_own findings base t keep moved = kept_moved t.pid findings base t.units keep moved
 
 by_one : (a : JobArgumentsView) (w : JobOptionsView) (d : Described) (bytes : List ℕ) (input : JobInputView) (k : ℕ) (t : TimedStreamView)
     (constants : HasConstants a.options (findings_for a.options bytes) input)
@@ -265,7 +265,8 @@ by_one a w d bytes input k t constants alike is =
     let one = at_place (λ t. IsMovedBy a.options.make_dts findings (constants.constant (clock_of input.programs t)) t) input.streams k t constants.streams is in
     let clock = at_place (λ t. clock_of input.programs t ≡ alike.clock) input.streams k t alike.one_clock is in
     let same = subst (λ (c : ProgramClock). IsMovedBy a.options.make_dts findings (constants.constant c) t) clock one in
-    with_own findings (constants.constant alike.clock) t
+    let keep = at_place (λ t. KeepDts t.pid findings) input.streams k t alike.keep is in
+    with_own findings (constants.constant alike.clock) t keep
     (subst (λ (made : Bool). IsMovedBy made findings (constants.constant alike.clock) t) alike.own same)
 
 -- 6. The units from the feed are whole, and begin near one another

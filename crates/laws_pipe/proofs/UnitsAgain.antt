@@ -12,7 +12,8 @@ use Rattle.mux_core.specs.WholeJobs.{job_history, output_of}
 use Rattle.es_units.specs.CarriedUnits.{wire_units, apart_wire_units}
 use Rattle.es_moments.specs.Merging.{AreMerged}
 use Rattle.job_inputs.specs.ClockConstants.{HasConstants, IsMovedBy, clock_of}
-use Rattle.job_programs.specs.FoundUnits.{AreMoved, source_of}
+use Rattle.job_programs.specs.FoundUnits.{AreMoved, KeepDts, source_of}
+use Rattle.job_programs.proofs.KeptDts.{kept_moved}
 use Rattle.job_inputs.specs.JobInput.{JobInputView}
 use Rattle.job_programs.specs.JobOptions.{JobOptionsView}
 use Rattle.job_programs.specs.JobPrograms.{JobProgramView, clock_in}
@@ -73,22 +74,24 @@ all_due o j k all ranges short =
 -- The units of a stream are moved by the constant of the clock of its program.
 those_moved : (findings : List FindingView) (programs : List JobProgramView) (constant : ProgramClock → ℕ) (s : DescribedStream) (us : List AccessUnit)
     (t : TimedStreamView) → IsEntry s t →
-    us ≡ t.units → IsMovedBy false findings (constant (clock_of programs t)) t →
+    us ≡ t.units → KeepDts s.pid findings → IsMovedBy false findings (constant (clock_of programs t)) t →
     AreMoved (apart_wire_units s.pid findings) (constant (clock_in programs s.program)) us
-unfolding source_of
-those_moved findings programs constant s us t entry same moved = rw (same, entry.pid, entry.program) moved
+those_moved findings programs constant s us t entry same keep moved =
+    let there : AreMoved (map (λ u. u.unit) (source_of false s.pid findings)) (constant (clock_in programs s.program)) us =
+    rw (same, entry.pid, entry.program) moved in
+    kept_moved s.pid findings (constant (clock_in programs s.program)) us keep there
 
 pub moved_units : (options : JobOptionsView) (findings : List FindingView) (d : Described) (input : JobInputView) (units : List (ℕ × AccessUnit))
     (constants : HasConstants options findings input) →
     options.make_dts ≡ false → AllAgree d input → AreMerged (map (λ t. t.units) input.streams) units → (k : ℕ) (s : DescribedStream) →
-    slice_get d.streams k ≡ Some s →
+    slice_get d.streams k ≡ Some s → KeepDts s.pid findings →
     AreMoved (apart_wire_units s.pid findings) (constants.constant (clock_in input.programs s.program)) (units_of k units)
-moved_units options findings d input units constants own agree merged k s is =
+moved_units options findings d input units constants own agree merged k s is keep =
     let unit_stream = unit_stream_of d input units (λ t. IsMovedBy options.make_dts findings (constants.constant (clock_of input.programs t)) t) agree merged
     constants.streams k s is in
     let moved = subst (λ (made : Bool). IsMovedBy made findings (constants.constant (clock_of input.programs unit_stream.stream)) unit_stream.stream) own
     unit_stream.holds in
-    those_moved findings input.programs constants.constant s (units_of k units) unit_stream.stream unit_stream.agrees.entry unit_stream.units_are moved
+    those_moved findings input.programs constants.constant s (units_of k units) unit_stream.stream unit_stream.agrees.entry unit_stream.units_are keep moved
 
 -- The packets belong to a run over the plan of the job.
 pub packets_are : (o : MuxOptions) (j : MuxJobView) → j.second ≡ None → o.hex ≡ false →

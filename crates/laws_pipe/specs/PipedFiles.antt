@@ -7,6 +7,7 @@ use Rattle.pes_packet.specs.AccessUnits.{AccessUnit}
 use Rattle.pid_findings.specs.Views.{FindingView}
 use Rattle.es_units.specs.CarriedUnits.{wire_units, apart_wire_units}
 use Rattle.job_inputs.specs.JobInput.{JobInputView, job_input}
+use Rattle.job_programs.specs.FoundUnits.{KeepDts}
 use Rattle.job_programs.specs.JobOptions.{JobOptionsView}
 use Rattle.job_inputs.specs.JoinedInputs.{JoinedInputsView, findings_in}
 use Rattle.job_inputs.specs.declared.joined_inputs.Origin.{Origin}
@@ -81,12 +82,13 @@ pub record FilesGoThrough (a : JobArgumentsView) (o : MuxOptions) (files : Files
   -- it wrote its packets, which keep every promise
   pub written : Takes packets (packets_of o (as_joined_job job))
   pub kept : IsKept o (as_joined_job job)
-  -- each stream was found in an input; and in the packets a demultiplexer finds the units that it finds on the stream's PID there, with the marks that
-  -- are asked for, later by a time of their clock there
+  -- each stream was found in an input; and in the packets a demultiplexer finds the units that it finds on the stream's PID there, if no DTS of the
+  -- stream are made, with the marks that are asked for, later by a time of their clock there
   pub origins : length joined.origins ≡ length job.description.streams
   pub time : ℕ → ProgramClock → ℕ
   pub units : a.options.make_dts ≡ false → o.hex ≡ false → greatest_dts job.units ≤ 2 ^ 40 →
       (k : ℕ) (s : DescribedStream) (from : Origin) → slice_get job.description.streams k ≡ Some s → slice_get joined.origins k ≡ Some from →
+      KeepDts from.pid (findings_in (all_findings a.options streams) from.input) →
       AreLater (time from.input from.clock) (wire_units_in (all_findings a.options streams) from)
       (wire_units s.pid (findings_of (packets_of o (as_joined_job job))))
 

@@ -6,6 +6,7 @@ use Rattle.description_parts.specs.Described.{DescribedStream}
 use Rattle.pid_findings.specs.Views.{FindingView}
 use Rattle.packet_sync.specs.Slips.{carried}
 use Rattle.es_units.specs.CarriedUnits.{wire_units, apart_wire_units}
+use Rattle.job_programs.specs.FoundUnits.{KeepDts}
 use Rattle.job_programs.specs.Information.{information_of}
 use Rattle.job_inputs.specs.JobInput.{JobInputView, job_input}
 use Rattle.job_programs.specs.JobOptions.{JobOptionsView}
@@ -73,11 +74,11 @@ pub record GoesThrough (a : JobArgumentsView) (o : MuxOptions) (bytes output : L
   -- it wrote its packets, which keep every promise
   pub written : Takes packets (packets_of o (as_mux_job job))
   pub kept : IsKept o (as_mux_job job)
-  -- in the packets a demultiplexer finds the units of each stream that it finds in the input, with the marks that are asked for, and in a data stream
-  -- with distinct DTS, later by the time of the clock of its program there
+  -- in the packets a demultiplexer finds the units of each stream that it finds in the input, if no DTS of the stream are made there, with the marks
+  -- that are asked for, and in a data stream with distinct DTS, later by the time of the clock of its program there
   pub time : ProgramClock → ℕ
   pub units : a.options.make_dts ≡ false → o.hex ≡ false → greatest_dts job.units ≤ 2 ^ 40 →
-      (k : ℕ) (s : DescribedStream) → slice_get job.description.streams k ≡ Some s →
+      (k : ℕ) (s : DescribedStream) → slice_get job.description.streams k ≡ Some s → KeepDts s.pid (findings_for a.options bytes) →
       AreLater (time (clock_in input.programs s.program)) (apart_wire_units s.pid (findings_for a.options bytes))
       (wire_units s.pid (findings_of (packets_of o (as_mux_job job))))
 

@@ -22,6 +22,7 @@ use Rattle.given_marks.specs.Marking.{MarkingView, is_aligned, type_of}
 use Rattle.job_inputs.specs.AskedMarks.{marking_of}
 use Rattle.job_inputs.specs.ClockConstants.{clock_of}
 use Rattle.job_inputs.specs.JobInput.{JobInputView, job_input}
+use Rattle.job_programs.specs.FoundUnits.{KeepDts}
 use Rattle.job_programs.specs.JobOptions.{JobOptionsView}
 use Rattle.job_programs.specs.JobStreams.{TimedStreamView}
 use Rattle.job_programs.specs.declared.program_clock.ProgramClock.{ProgramClock}
@@ -71,10 +72,12 @@ pub record AreMarkedAlike (whole streamed : MarkingView) (pid : ℕ) : Type 0 wh
 -- the description is of the streams of the job, in their order
 pub record AreAlike (a : JobArgumentsView) (w : JobOptionsView) (d : Described) (bytes : List ℕ) (input : JobInputView) : Type 0 where
   pub pids : map (λ s. s.pid) d.streams ≡ map (λ t. t.pid) input.streams
-  -- the DTS are the stream's own, and the programs of the streams are on one clock
+  -- the DTS are the stream's own: none are made, neither asked for nor because they do not rise
   pub own : a.options.make_dts ≡ false
+  pub keep : All (λ t. KeepDts t.pid (findings_for a.options bytes)) input.streams
   -- no parts are joined
   pub unjoined : a.options.joined ≡ false
+  -- the programs of the streams are on one clock
   pub clock : ProgramClock
   pub one_clock : All (λ t. clock_of input.programs t ≡ clock) input.streams
   -- each unit is one PES packet that nothing interrupts

@@ -59,7 +59,7 @@ pub fn joined_goes_through()
 /// `tsjob units --stream` went by a description of the job's streams over the same bytes to their end and reported
 /// nothing (`same`).
 ///
-/// This is so for a job whose DTS are the stream's own (no `--make-dts`, no `--joined`) and whose programs are on one
+/// This is so for a job whose DTS are the stream's own (none are made; no `--joined`) and whose programs are on one
 /// clock, if its streams begin within three seconds of one another, none is teletext without stamps, each of their
 /// units is one PES packet that nothing interrupts, and both ways ask for the same marks. They do if neither asks for
 /// `--mark-access` and both ask for the same `--aligned`, or for none (`marks`).

@@ -8,7 +8,7 @@ sync_front : (bs more : List ℕ) (at : ℕ) → at < length bs → is_sync bs a
 unfolding is_sync
 sync_front bs more at within = rw (at_front bs more at within) refl
 
-three_front : (bs more : List ℕ) (a b c : ℕ) → a < length bs → b < length bs → c < length bs →
+pub three_front : (bs more : List ℕ) (a b c : ℕ) → a < length bs → b < length bs → c < length bs →
     (is_sync bs a && is_sync bs b && is_sync bs c) ≡ (is_sync (bs ++ more) a && is_sync (bs ++ more) b && is_sync (bs ++ more) c)
 three_front bs more a b c x y z = rw (sync_front bs more a x, sync_front bs more b y, sync_front bs more c z) refl
 

@@ -2,5 +2,8 @@ pub mod FieldSteps
 pub mod SlipSteps
 pub mod WholeStreams
 pub mod Stretches
+pub mod FieldMasks
 pub mod Noted
 pub mod FrontBytes
+pub mod Fives
+pub mod Fronts

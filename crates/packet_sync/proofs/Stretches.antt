@@ -96,6 +96,17 @@ slip_later bs a b = same_slip bs (drop a bs) (a + b) b (λ k less.
     let e : a + (b + k) ≡ a + b + k = omega arith in
     subst (λ (i : ℕ). slice_get bs i ≡ slice_get (drop a bs) (b + k)) e (at_drop bs a (b + k)))
 
+-- Three packets in a row at a later place are three in the rest of the list.
+pub step_later : (bs : List ℕ) (a b : ℕ) → is_in_step bs (a + b) ≡ is_in_step (drop a bs) b
+step_later bs a b =
+    let e : a + b + 0 ≡ a + b = omega arith in
+    let f : b + 0 ≡ b = omega arith in
+    let agree : Agree bs (a + b) (drop a bs) b = λ k less.
+    let g : a + (b + k) ≡ a + b + k = omega arith in
+    subst (λ (i : ℕ). slice_get bs i ≡ slice_get (drop a bs) (b + k)) g (at_drop bs a (b + k)) in
+    subst (λ (i : ℕ). is_in_step bs i ≡ is_in_step (drop a bs) b) e
+    (subst (λ (i : ℕ). is_in_step bs (a + b + 0) ≡ is_in_step (drop a bs) i) f (same_step bs (drop a bs) (a + b) b 0 agree (omega arith)))
+
 -- 3. The carried bytes, packet by packet
 
 kept_then : Option ℕ → List ℕ → (List ℕ → List ℕ) → List ℕ

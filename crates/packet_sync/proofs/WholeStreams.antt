@@ -70,6 +70,9 @@ sync_within bs at e (inl one) = one.1
 sync_within bs at e (inr none) =
     let no : is_sync bs at ≡ false = rw none.1 refl in absurd (let both : false ≡ true = sym no ∙ e in cc)
 
+pub sync_inside : (bs : List ℕ) (at : ℕ) → is_sync bs at ≡ true → at < length bs
+sync_inside bs at e = sync_within bs at e (slice_get_cases bs at).1
+
 first_of_three : (a b c : Bool) → (a && b && c) ≡ true → a ≡ true
 first_of_three true b c e = refl
 first_of_three false b c e = absurd cc

@@ -18,9 +18,13 @@ use Rattle.packet_sync.specs.declared.left_out.FieldLeftOut.{FieldLeftOut}
 unfoldable pub pid_of : List ℕ → ℕ
 pid_of packet = slice_index packet 1 % 32 * 256 + slice_index packet 2
 
+-- a field with this number is there, for this PID
+abbrev pub has_field : List FieldLeftOut → ℕ → ℕ → Bool
+has_field found pid number = list_any (λ f. f.pid == pid && number_of f.field == number) found
+
 -- the field of this PID is there already
 abbrev pub is_noted : List FieldLeftOut → ℕ → Field → Bool
-is_noted found pid field = list_any (λ f. f.pid == pid && number_of f.field == number_of field) found
+is_noted found pid field = has_field found pid (number_of field)
 
 -- `found`, with a field of a PID if it is in the packet and not noted yet
 unfoldable pub with_field : ℕ → Field → Bool → List FieldLeftOut → List FieldLeftOut

@@ -1,7 +1,10 @@
 pub mod Fields
 pub mod FieldsLeftOut
+pub mod FieldMasks
 pub mod Laws
 pub mod OtherPackets
+pub mod PacketSearch
 pub mod Slips
 pub mod Stretches
 pub mod Notes
+pub mod WrongPackets

@@ -1,6 +1,6 @@
 //! The fields of packets and of PES headers that are not written again (ISO/IEC 13818-1, 2.4.3.5 and 2.4.3.7).
 
-ghost use Rattle.std.specs.Prelude.{◌≡◌, ◌≤◌, length};
+ghost use Rattle.std.specs.Prelude.{◌≡◌, ◌<◌, ◌≤◌, length};
 ghost use Rattle.packet_sync.specs.Fields as spec;
 
 use crate::sync_bytes::PACKET_SIZE;
@@ -47,7 +47,8 @@ impl Field {
     /// Returns its number.
     #[tactic(auto, unfolding(crate::specs::Fields::number_of))]
     pub(crate) fn number(self) -> u8
-        ensures { result ≡ spec.number_of self }
+        ensures value { result ≡ spec.number_of self }
+        ensures within { result < 16 }
     {
         match self {
             Field::TransportPriority => 0,

@@ -1,6 +1,6 @@
 //! The fields that are not written again, in packets in step.
 
-ghost use Rattle.std.specs.Prelude.{◌≡◌, ◌≤◌, ◌*◌, OnOk, length};
+ghost use Rattle.std.specs.Prelude.{◌≡◌, ◌<◌, ◌≤◌, ◌*◌, OnOk, length};
 ghost use Rattle.packet_sync.specs.Fields as fields;
 ghost use Rattle.packet_sync.specs.FieldsLeftOut as spec;
 
@@ -8,6 +8,7 @@ use crate::field::{
     Field, adaptation_flags, begins_unit, extension_flags, is_flagged, loses_private_data,
     start_payload,
 };
+use crate::noted_fields::NotedFields;
 use crate::sync_bytes::PACKET_SIZE;
 use std::alloc::{AllocError, Allocator};
 
@@ -22,32 +23,10 @@ pub struct FieldLeftOut {
 #[tactic(auto, unfolding(crate::specs::FieldsLeftOut::pid_of))]
 fn pid_of(packet: &[u8]) -> u16
     requires { length packet.now ≡ 188 }
-    ensures { result ≡ spec.pid_of packet.now }
+    ensures value { result ≡ spec.pid_of packet.now }
+    ensures within { result < 8192 }
 {
     (packet[1] % 32) as u16 * 256 + packet[2] as u16
-}
-
-// Returns whether a field of a PID is there already.
-fn is_noted(found: &[FieldLeftOut], pid: u16, field: Field) -> bool
-    ensures { result ≡ spec.is_noted found.now pid field }
-{
-    found.iter().any(|other| other.pid == pid && other.field.number() == field.number())
-}
-
-// Appends a field of a PID, if it is in a packet and not noted yet.
-#[tactic(auto, unfolding(crate::specs::FieldsLeftOut::with_field))]
-fn note<A: Allocator>(
-    pid: u16,
-    field: Field,
-    present: bool,
-    found: &mut Vec<FieldLeftOut, A>,
-) -> Result<(), AllocError>
-    ensures { OnOk result (found.new.items ≡ spec.with_field pid field present found.old.items) }
-{
-    if present && !is_noted(found, pid, field) {
-        found.push(FieldLeftOut { pid, field })?;
-    }
-    Ok(())
 }
 
 // Appends the indicators and the clock reference of an adaptation field; `begins` says whether a unit begins in its
@@ -57,19 +36,15 @@ fn note_indicators<A: Allocator>(
     pid: u16,
     flags: u8,
     begins: bool,
-    found: &mut Vec<FieldLeftOut, A>,
+    found: &mut NotedFields<A>,
 ) -> Result<(), AllocError>
-    ensures { OnOk result (found.new.items ≡ spec.with_indicators pid flags begins found.old.items) }
+    requires { pid < 8192 }
+    ensures { OnOk result (found.new ≡ spec.with_indicators pid flags begins found.old) }
 {
-    note(pid, Field::Discontinuity, flags / 128 % 2 == 1, found)?;
-    note(
-        pid,
-        Field::RandomAccess,
-        flags / 64 % 2 == 1 && !begins,
-        found,
-    )?;
-    note(pid, Field::StreamPriority, flags / 32 % 2 == 1, found)?;
-    note(pid, Field::OriginalClock, flags / 8 % 2 == 1, found)
+    found.note(pid, Field::Discontinuity, flags / 128 % 2 == 1)?;
+    found.note(pid, Field::RandomAccess, flags / 64 % 2 == 1 && !begins)?;
+    found.note(pid, Field::StreamPriority, flags / 32 % 2 == 1)?;
+    found.note(pid, Field::OriginalClock, flags / 8 % 2 == 1)
 }
 
 // Appends the data of an adaptation field.
@@ -77,13 +52,14 @@ fn note_indicators<A: Allocator>(
 fn note_adaptation_data<A: Allocator>(
     pid: u16,
     flags: u8,
-    found: &mut Vec<FieldLeftOut, A>,
+    found: &mut NotedFields<A>,
 ) -> Result<(), AllocError>
-    ensures { OnOk result (found.new.items ≡ spec.with_adaptation_data pid flags found.old.items) }
+    requires { pid < 8192 }
+    ensures { OnOk result (found.new ≡ spec.with_adaptation_data pid flags found.old) }
 {
-    note(pid, Field::SpliceCountdown, flags / 4 % 2 == 1, found)?;
-    note(pid, Field::AdaptationPrivateData, flags / 2 % 2 == 1, found)?;
-    note(pid, Field::AdaptationExtension, flags % 2 == 1, found)
+    found.note(pid, Field::SpliceCountdown, flags / 4 % 2 == 1)?;
+    found.note(pid, Field::AdaptationPrivateData, flags / 2 % 2 == 1)?;
+    found.note(pid, Field::AdaptationExtension, flags % 2 == 1)
 }
 
 // Appends the fields of an adaptation field.
@@ -91,9 +67,10 @@ fn note_adaptation<A: Allocator>(
     pid: u16,
     flags: u8,
     begins: bool,
-    found: &mut Vec<FieldLeftOut, A>,
+    found: &mut NotedFields<A>,
 ) -> Result<(), AllocError>
-    ensures { OnOk result (found.new.items ≡ spec.with_adaptation pid flags begins found.old.items) }
+    requires { pid < 8192 }
+    ensures { OnOk result (found.new ≡ spec.with_adaptation pid flags begins found.old) }
 {
     note_indicators(pid, flags, begins, found)?;
     note_adaptation_data(pid, flags, found)
@@ -104,21 +81,21 @@ fn note_adaptation<A: Allocator>(
 fn note_flags<A: Allocator>(
     pid: u16,
     payload: &[u8],
-    found: &mut Vec<FieldLeftOut, A>,
+    found: &mut NotedFields<A>,
 ) -> Result<(), AllocError>
-    requires { 9 ≤ length payload.now }
-    ensures { OnOk result (found.new.items ≡ spec.with_flags pid payload.now found.old.items) }
+    requires pid { pid < 8192 }
+    requires size { 9 ≤ length payload.now }
+    ensures { OnOk result (found.new ≡ spec.with_flags pid payload.now found.old) }
 {
     let flags = payload[6];
     let goes_on = payload[7] < 128;
-    note(pid, Field::Alignment, goes_on && flags / 4 % 2 == 1, found)?;
-    note(
+    found.note(pid, Field::Alignment, goes_on && flags / 4 % 2 == 1)?;
+    found.note(
         pid,
         Field::Flags,
         goes_on && (flags / 8 % 2 == 1 || flags % 4 != 0),
-        found,
     )?;
-    note(pid, Field::Scrambling, flags / 16 % 4 != 0, found)
+    found.note(pid, Field::Scrambling, flags / 16 % 4 != 0)
 }
 
 // Returns whether header data other than stamps and PES_private_data are announced.
@@ -133,32 +110,26 @@ fn has_other_data(flags: u8, extension: u8) -> bool
 fn note_data<A: Allocator>(
     pid: u16,
     payload: &[u8],
-    found: &mut Vec<FieldLeftOut, A>,
+    found: &mut NotedFields<A>,
 ) -> Result<(), AllocError>
-    requires { 9 ≤ length payload.now }
-    ensures { OnOk result (found.new.items ≡ spec.with_data pid payload.now found.old.items) }
+    requires pid { pid < 8192 }
+    requires size { 9 ≤ length payload.now }
+    ensures { OnOk result (found.new ≡ spec.with_data pid payload.now found.old) }
 {
     let extension = extension_flags(payload);
     let size = payload[8];
-    note(
+    found.note(
         pid,
         Field::LongHeader,
         payload[7] < 128 && (payload[3] == 0xBD && size == 36),
-        found,
     )?;
-    note(pid, Field::PrivateData, loses_private_data(payload), found)?;
-    note(
+    found.note(pid, Field::PrivateData, loses_private_data(payload))?;
+    found.note(
         pid,
         Field::OtherHeaderData,
         has_other_data(payload[7], extension),
-        found,
     )?;
-    note(
-        pid,
-        Field::UnreadHeader,
-        payload.len() < 9 + size as usize,
-        found,
-    )
+    found.note(pid, Field::UnreadHeader, payload.len() < 9 + size as usize)
 }
 
 // Appends the fields of the PES header at the front of a payload.
@@ -166,15 +137,16 @@ fn note_data<A: Allocator>(
 fn note_header<A: Allocator>(
     pid: u16,
     payload: &[u8],
-    found: &mut Vec<FieldLeftOut, A>,
+    found: &mut NotedFields<A>,
 ) -> Result<(), AllocError>
-    ensures { OnOk result (found.new.items ≡ spec.with_header pid payload.now found.old.items) }
+    requires { pid < 8192 }
+    ensures { OnOk result (found.new ≡ spec.with_header pid payload.now found.old) }
 {
     if payload.is_empty() {
         return Ok(());
     }
     if payload.len() < 9 {
-        return note(pid, Field::UnreadHeader, true, found);
+        return found.note(pid, Field::UnreadHeader, true);
     }
     if !is_flagged(payload) {
         return Ok(());
@@ -185,20 +157,12 @@ fn note_header<A: Allocator>(
 
 // Appends the fields of a packet.
 #[tactic(auto, unfolding(crate::specs::FieldsLeftOut::with_packet))]
-fn note_packet<A: Allocator>(
-    packet: &[u8],
-    found: &mut Vec<FieldLeftOut, A>,
-) -> Result<(), AllocError>
+fn note_packet<A: Allocator>(packet: &[u8], found: &mut NotedFields<A>) -> Result<(), AllocError>
     requires { length packet.now ≡ 188 }
-    ensures { OnOk result (found.new.items ≡ spec.with_packet packet.now found.old.items) }
+    ensures { OnOk result (found.new ≡ spec.with_packet packet.now found.old) }
 {
     let pid = pid_of(packet);
-    note(
-        pid,
-        Field::TransportPriority,
-        packet[1] / 32 % 2 == 1,
-        found,
-    )?;
+    found.note(pid, Field::TransportPriority, packet[1] / 32 % 2 == 1)?;
     let payload = start_payload(packet);
     note_adaptation(pid, adaptation_flags(packet), begins_unit(payload), found)?;
     note_header(pid, payload, found)
@@ -208,10 +172,10 @@ fn note_packet<A: Allocator>(
 pub(crate) fn note_packets<A: Allocator>(
     bytes: &[u8],
     count: usize,
-    found: &mut Vec<FieldLeftOut, A>,
+    found: &mut NotedFields<A>,
 ) -> Result<(), AllocError>
     requires { 188 * count ≤ length bytes.now }
-    ensures { OnOk result (found.new.items ≡ spec.with_packets count bytes.now found.old.items) }
+    ensures { OnOk result (found.new ≡ spec.with_packets count bytes.now found.old) }
 {
     for k in 0..count {
         let at = PACKET_SIZE * k;

@@ -6,13 +6,17 @@
 //! unchanged, and that nothing but the bytes of slips is left out. [`next_stretch`] returns the carried bytes while a
 //! stream arrives (`specs/Stretches`). [`StreamNotes`] keeps the notes about its packets (`specs/Notes`): its slips,
 //! and the fields of adaptation fields and PES headers that are not written again (`specs/Fields`), each once for a PID
-//! (`specs/FieldsLeftOut`). [`other_packets`] knows packets of other sizes (`specs/OtherPackets`).
+//! (`specs/FieldsLeftOut`; found by `specs/FieldMasks`). [`other_packets`] knows packets of other sizes (`specs/OtherPackets`), and
+//! [`PacketSearch`] an input that is no such stream (`specs/WrongPackets`).
 #![tactic(auto)]
 
 mod field;
+mod five_search;
 mod laws;
 mod left_out;
+mod noted_fields;
 mod notes;
+mod packet_search;
 mod packet_sizes;
 mod slip;
 mod stretch;
@@ -22,6 +26,7 @@ pub use field::Field;
 pub use laws::{carried_in_step, nothing_else_is_left_out};
 pub use left_out::FieldLeftOut;
 pub use notes::StreamNotes;
-pub use packet_sizes::{FRONT, OtherPackets, other_packets};
+pub use packet_search::{PacketSearch, WrongPackets};
+pub use packet_sizes::{OtherPackets, other_packets};
 pub use slip::Slip;
 pub use stretch::{REACH, Stretch, next_stretch};

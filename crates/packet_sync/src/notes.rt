@@ -5,6 +5,7 @@ ghost use Rattle.packet_sync.specs.Notes as spec;
 ghost use Rattle.packet_sync.specs.Stretches as stretches;
 
 use crate::left_out::{FieldLeftOut, note_packets};
+use crate::noted_fields::NotedFields;
 use crate::slip::Slip;
 use crate::stretch::{Stretch, next_stretch};
 use crate::sync_bytes::PACKET_SIZE;
@@ -15,8 +16,8 @@ use std::marker::Model;
 /// order of their first packets.
 #[derive(Drop)]
 pub struct StreamNotes<A: Allocator = Global> {
-    pub slips: Vec<Slip, A>,
-    pub fields: Vec<FieldLeftOut, A>,
+    slips: Vec<Slip, A>,
+    fields: NotedFields<A>,
     /// The number of packets before the bytes still to come.
     packet: usize,
     /// The place where the bytes still to come begin.
@@ -31,7 +32,7 @@ impl<A: Allocator> Model for StreamNotes<A> {
 
     ghost view = { λ n. record {
       slips = n.slips.items;
-      fields = n.fields.items;
+      fields = n.fields;
       packet = n.packet;
       start = n.start;
     } };
@@ -90,6 +91,14 @@ impl<A: Allocator> StreamNotes<A> {
         self.note_slip(stretch.slipped)?;
         Ok(stretch)
     }
+
+    /// Returns the slips and the fields.
+    pub fn into_parts(self) -> (Vec<Slip, A>, Vec<FieldLeftOut, A>)
+        ensures slips { result.0.items ≡ self.slips }
+        ensures fields { result.1.items ≡ self.fields }
+    {
+        (self.slips, self.fields.into_fields())
+    }
 }
 
 impl<A: Allocator + Copy> StreamNotes<A> {
@@ -99,7 +108,7 @@ impl<A: Allocator + Copy> StreamNotes<A> {
     {
         StreamNotes {
             slips: Vec::new(alloc),
-            fields: Vec::new(alloc),
+            fields: NotedFields::new(alloc),
             packet: 0,
             start: 0,
         }

@@ -1,3 +1,4 @@
 mod ByHand
 mod Remuxed
+mod UnkeptFrames
 mod Written

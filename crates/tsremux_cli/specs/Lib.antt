@@ -1,5 +1,6 @@
 pub mod Options
 pub mod Words
+pub mod UnkeptFrames
 pub mod Muxing
 pub mod Remuxing
 pub mod ByHand

@@ -6,15 +6,16 @@ use Rattle.devices.specs.WholeInput.{ReadsInput}
 use Rattle.tsmux_cli.specs.MuxJobs.{MuxJobView, mux_job_of}
 use Rattle.tsmux_cli.specs.Multiplexing.{IsKept, Muxes, packets_of, slots_of}
 use Rattle.tsmux_cli.specs.declared.request.MuxOptions.{MuxOptions}
+use Rattle.tsremux_cli.specs.UnkeptFrames.{unkept_of}
 use Rattle.tsremux_cli.specs.declared.figures.Figures.{Figures}
 
 -- the options of `tsmux mux` without words after it
 abbrev pub plain : MuxOptions
 plain = record { hex = false; slots = None; periods = None }
 
--- the rate of a job, and the number of its packets
+-- the rate of a job, the number of its packets, and its streams of sound that leave their main buffers in units with several frames
 abbrev pub figures_of : MuxJobView → Figures
-figures_of view = record { rate = view.description.rate; packets = slots_of plain view }
+figures_of view = record { rate = view.description.rate; packets = slots_of plain view; unkept = unkept_of view }
 
 -- a job was read, and all its packets are written: they keep every promise, measuring them finds no late unit and no buffer over its size, and nothing is
 -- reported

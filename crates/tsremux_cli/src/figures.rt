@@ -1,5 +1,14 @@
 //! The figures of an output.
 
+/// Streams of sound that leave their main buffers in units with several frames.
+#[derive(Clone, Copy)]
+pub struct UnkeptFrames {
+    /// The PID of the first.
+    pub pid: u16,
+    /// The number of the others.
+    pub others: usize,
+}
+
 /// The figures of an output.
 #[derive(Clone, Copy)]
 pub struct Figures {
@@ -7,6 +16,8 @@ pub struct Figures {
     pub rate: u64,
     /// The number of its packets.
     pub packets: u64,
+    /// Its streams of sound that leave their main buffers in units with several frames.
+    pub unkept: Option<UnkeptFrames>,
 }
 
 /// What became of streams.

@@ -3,7 +3,7 @@ ghost use Rattle.std.specs.Prelude.{◌≡◌, ◌++◌, IfOk, OnOk, string_byte
 ghost use Rattle.devices.specs.Devices.{writes};
 ghost use Rattle.tsremux_cli.specs.Lines as spec;
 
-use crate::figures::Figures;
+use crate::figures::{Figures, UnkeptFrames};
 use counted_io::Sink;
 use devices::report_text;
 use std::alloc::{AllocError, Global};
@@ -28,10 +28,50 @@ fn write_time(text: &mut String, tenths: u128) -> Result<(), AllocError>
 fn write_figures(text: &mut String, figures: Figures) -> Result<(), AllocError>
     ensures { OnOk result (string_bytes text.new ≡ string_bytes text.old ++ spec.figures_text figures) }
 {
-    let Figures { rate, packets } = figures;
+    let Figures { rate, packets, .. } = figures;
     write!(text, ": {rate} bit/s, ")?;
     write_time(text, tenths_of(figures))?;
     write!(text, "{packets} packets")
+}
+
+// Appends the number of further streams, if there are any.
+fn write_others(text: &mut String, others: usize) -> Result<(), AllocError>
+    ensures { OnOk result (string_bytes text.new ≡ string_bytes text.old ++ spec.others_text others) }
+{
+    if others == 0 {
+        return Ok(());
+    }
+    write!(text, " and {others} more")
+}
+
+// Appends the exception of streams of sound that leave their main buffers in units with several frames.
+fn write_unkept(text: &mut String, unkept: UnkeptFrames) -> Result<(), AllocError>
+    ensures { OnOk result (string_bytes text.new ≡ string_bytes text.old ++ spec.unkept_text unkept) }
+{
+    let UnkeptFrames { pid, others } = unkept;
+    write!(text, " but perhaps main of pid {pid}")?;
+    write_others(text, others)?;
+    text.push_str(", frame by frame")
+}
+
+// Appends the exception of such streams, if there are any.
+#[tactic(auto, unfolding(crate::specs::Lines::exception_text))]
+fn write_exception(text: &mut String, unkept: Option<UnkeptFrames>) -> Result<(), AllocError>
+    ensures { OnOk result (string_bytes text.new ≡ string_bytes text.old ++ spec.exception_text unkept) }
+{
+    match unkept {
+        None => Ok(()),
+        Some(unkept) => write_unkept(text, unkept),
+    }
+}
+
+// Appends the promises that the packets of an output keep.
+fn write_held(text: &mut String, unkept: Option<UnkeptFrames>) -> Result<(), AllocError>
+    ensures { OnOk result (string_bytes text.new ≡ string_bytes text.old ++ spec.held_text unkept) }
+{
+    text.push_str(": every accepted unit by its DTS, no buffer over its size")?;
+    write_exception(text, unkept)?;
+    text.push_str("\n")
 }
 
 // Returns the line about the output of this name: its rate, length and packets, and the promises that they keep.
@@ -41,7 +81,7 @@ fn held_line(alloc: Global, name: &str, figures: Figures) -> Result<String, Allo
     let mut text = String::new(alloc);
     text.push_str(name)?;
     write_figures(&mut text, figures)?;
-    text.push_str(": every accepted unit by its DTS, no buffer over its size\n")?;
+    write_held(&mut text, figures.unkept)?;
     Ok(text)
 }
 

@@ -1,31 +1,34 @@
 //! A job in memory to all its packets.
-ghost use Rattle.std.specs.Prelude.{◌≡◌};
+ghost use Rattle.std.specs.Prelude.{◌≡◌, IfOk};
 ghost use Rattle.devices.specs.Devices.{reads, writes};
 ghost use Rattle.tsmux_cli.specs.MuxJobs.{mux_job_view};
 ghost use Rattle.tsremux_cli.specs.Muxing as spec;
 
 use crate::figures::Figures;
+use crate::unkept_frames::unkept_frames;
 use counted_io::{Counted, Sink, Source};
-use devices::report_halt;
-use std::alloc::Global;
+use devices::{Halt, report_halt};
+use std::alloc::{AllocError, Global};
 use tsmux_cli::{
     MuxJob, MuxJobError, MuxOptions, rate_of, read_mux_job, report_error, report_mux_fault,
     slots_of, write_packets,
 };
 
 // Returns the figures of a job.
-fn figures_of(job: &MuxJob) -> Figures
-    ensures { result ≡ spec.figures_of (mux_job_view job.now) }
+fn figures_of(alloc: Global, job: &MuxJob) -> Result<Figures, AllocError>
+    ensures { IfOk result (λ figures. figures ≡ spec.figures_of (mux_job_view job.now)) }
 {
     let plain = MuxOptions {
         hex: false,
         slots: None,
         periods: None,
     };
-    Figures {
+    let unkept = unkept_frames(alloc, job)?;
+    Ok(Figures {
         rate: rate_of(&job.plans),
         packets: slots_of(plain, job),
-    }
+        unkept,
+    })
 }
 
 // Writes the packets of the job in the input, and returns their figures; or the status, if not all are written.
@@ -43,7 +46,11 @@ fn mux_job<R: Source, W: Sink, E: Sink>(
         Err(MuxJobError::Fault(fault)) => return Err(report_mux_fault(faults, fault)),
         Err(MuxJobError::Stopped(halt)) => return Err(report_halt(faults, halt)),
     };
-    let figures = figures_of(&job);
+    let Ok(figures) = figures_of(alloc, &job) else {
+        // By a call: at the end of a function the drop of each part would be a step of its proof.
+        drop(job);
+        return Err(report_halt(faults, Halt::Memory));
+    };
     let plain = MuxOptions {
         hex: false,
         slots: None,

@@ -3,4 +3,4 @@ use Rattle.job_inputs.specs.JobInput.{first_why}
 use Rattle.job_inputs.proofs.nothing_carried.first_why.Given as goal
 
 abbrev pub invariant-loop-warning : goal.invariant-loop-warning
-invariant-loop-warning l = first_why l.some l.warnings ≡ first_why l.some (drop l.warning-index l.warnings)
+invariant-loop-warning l = first_why l.warnings ≡ first_why (drop l.warning-index l.warnings)

@@ -1,4 +1,4 @@
-use Rattle.std.proofs.Common.{◌≡◌, ◌∙◌, refl, ap, None}
+use Rattle.std.proofs.Common.{◌≡◌, ◌∙◌, refl, ap, None, false}
 use Rattle.pes_packet.specs.AccessUnits.{AccessUnit}
 use Rattle.es_moments.specs.CountedUnits.{counted_units}
 use Rattle.job_units.specs.Declarations.{MeasuredView, framing_for, measured}
@@ -20,6 +20,7 @@ returns c =
       descriptors = c.in_ok-descriptors.descriptors.items;
       first = c.in_ok-first.first.items;
       framing = None;
+      crossing = false;
       header = c.found_header-header.result;
       units = c.in_ok-units.units;
     } in m)) c.stream.view_is

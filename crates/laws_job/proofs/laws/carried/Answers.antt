@@ -18,7 +18,7 @@ returns c = λ d p findings units n ranges serving are few.
     let whole = subst (Headline line (λ k. units_of k units) n) (sym (output_bytes (content_at line (λ k. units_of k units)) 0 n))
     (c.headline.ensures.whole line (λ k. units_of k units) n ranges (c.accepted_plan.ensures d p ranges serving) kept) in
     record {
-      same = λ k s is. those moved_by_one findings s.pid (units_of k units) (are.streams k s is).found;
+      same = λ k s is keep. those moved_by_one findings s.pid (units_of k units) (are.streams k s is).found keep;
       given_back = c.jobs.ensures.given_back line units n ranges none few;
       clean = c.jobs.ensures.clean line units n ranges none few;
       kept = whole;

@@ -2,7 +2,7 @@ use Rattle.std.proofs.Common.{refl}
 use Rattle.tsmux_cli.specs.Multiplexing.{Muxes}
 use Rattle.tsmux_cli.specs.MuxJobs.{mux_fault_line, mux_fault_view, mux_job_view}
 use Rattle.tsmux_cli.proofs.MuxOutcomes.{failed, not_read}
-use Rattle.devices.proofs.Performances.{reported_only, unread}
+use Rattle.devices.proofs.Performances.{no_room, reported_only, unread}
 use Rattle.tsremux_cli.specs.Muxing.{plain}
 use Rattle.tsremux_cli.proofs.muxing.mux_job.Goals as goal
 
@@ -18,6 +18,11 @@ returns-in-Err-Stopped g c =
     unread (Muxes plain) _ _ _ _ c.in-Err-Stopped.halt (rw c.in-Err-Stopped.field-0-is at c.in-Err-Stopped.ensures) refl
     (rw c.in-Err-Stopped.field-0-is at c.report_halt.ensures.reports) c.report_halt.ensures.status
 
+pub returns-in_default : goal.returns-in_default
+returns-in_default g c =
+    let r = c.in-Ok.ensures in
+    no_room (Muxes plain) r.bytes _ _ _ _ r.read refl c.report_halt-in_default.ensures.reports c.report_halt-in_default.ensures.status
+
 pub returns-in-Ok-write_packets : goal.returns-in-Ok-write_packets
 returns-in-Ok-write_packets g c =
     let r = c.in-Ok.ensures in
@@ -26,7 +31,7 @@ returns-in-Ok-write_packets g c =
       read = r.read;
       view = mux_job_view c.in-Ok.job;
       view_is = r.is;
-      figures_are = c.figures_of-figures.ensures;
+      figures_are = c.in-Ok-figures_of.ensures;
       written = c.in-Ok-write_packets.ensures.written;
       clean = c.in-Ok-write_packets.ensures.fault;
       kept = c.in-Ok-write_packets.ensures.kept;
