@@ -6,7 +6,7 @@ ghost use Rattle.description_keys.specs.EventKeys.{event_id, event_start, event_
 ghost use Rattle.description_keys.specs.EventKeys.{event_text};
 
 use crate::owner::has_owner;
-use description_values::key::Key;
+use description_values::key::Keys;
 use description_values::known_keys::knows_keys;
 use description_values::moments::moment_at;
 use description_values::texts::{language_at, text_at};
@@ -101,7 +101,12 @@ impl EventKey {
     }
 }
 
-impl Key for EventKey {
+/// The keys of an event.
+pub(crate) struct EventKeys;
+
+impl Keys for EventKeys {
+    type Key = EventKey;
+
     ghost use Rattle.description_keys.specs.EventKeys.{event_key_names, refuses_event};
 
     ghost names = { event_key_names };
@@ -117,8 +122,8 @@ impl Key for EventKey {
         )
     }
 
-    fn refuses(self, document: &Value, part: &Value) -> bool {
-        match self {
+    fn refuses(key: EventKey, document: &Value, part: &Value) -> bool {
+        match key {
             EventKey::Program => !has_owner(document, part),
             EventKey::Id => id(part).is_none(),
             EventKey::Start => start(part).is_none(),

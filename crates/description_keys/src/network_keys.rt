@@ -6,7 +6,7 @@ ghost use Rattle.description_keys.specs.NetworkKeys.{network_id, network_name, n
 
 use description_values::DescriptorLoop;
 use description_values::descriptors::descriptors_or_none;
-use description_values::key::Key;
+use description_values::key::Keys;
 use description_values::known_keys::knows_keys;
 use description_values::texts::text_at;
 use description_values::values::integer_at;
@@ -62,7 +62,12 @@ impl NetworkKey {
     }
 }
 
-impl Key for NetworkKey {
+/// The keys of the network.
+pub(crate) struct NetworkKeys;
+
+impl Keys for NetworkKeys {
+    type Key = NetworkKey;
+
     ghost use Rattle.description_keys.specs.NetworkKeys.{network_key_names, refuses_network};
 
     ghost names = { network_key_names };
@@ -73,8 +78,8 @@ impl Key for NetworkKey {
         knows_keys(part, &["id", "name", "descriptors"])
     }
 
-    fn refuses(self, document: &Value, part: &Value) -> bool {
-        match self {
+    fn refuses(key: NetworkKey, document: &Value, part: &Value) -> bool {
+        match key {
             NetworkKey::Id => id(part).is_none(),
             NetworkKey::Name => name(part).is_none(),
             NetworkKey::Descriptors => descriptors(part).is_none(),

@@ -9,7 +9,7 @@ ghost use Rattle.description_keys.specs.ProgramKeys.{program_name};
 
 use description_values::DescriptorLoop;
 use description_values::descriptors::descriptors_or_none;
-use description_values::key::Key;
+use description_values::key::Keys;
 use description_values::known_keys::knows_keys;
 use description_values::texts::text_or_empty;
 use description_values::values::{integer_at, integer_or};
@@ -121,7 +121,12 @@ impl ProgramKey {
     }
 }
 
-impl Key for ProgramKey {
+/// The keys of a program.
+pub(crate) struct ProgramKeys;
+
+impl Keys for ProgramKeys {
+    type Key = ProgramKey;
+
     ghost use Rattle.description_keys.specs.ProgramKeys.{program_key_names, refuses_program};
 
     ghost names = { program_key_names };
@@ -144,8 +149,8 @@ impl Key for ProgramKey {
         )
     }
 
-    fn refuses(self, document: &Value, part: &Value) -> bool {
-        match self {
+    fn refuses(key: ProgramKey, document: &Value, part: &Value) -> bool {
+        match key {
             ProgramKey::Number => number(part).is_none(),
             ProgramKey::PmtPid => pmt_pid(part).is_none(),
             ProgramKey::PcrPid => pcr_pid(part).is_none(),

@@ -8,15 +8,15 @@ ghost use Rattle.description_keys.specs.Refusals.{knows_network, has_unknown_key
 ghost use Rattle.description_keys.specs.Refusals.{network_fault, program_fault, refused_stream_key, stream_fault};
 ghost use Rattle.description_keys.specs.Refusals.{event_fault, table_fault, key_fault};
 
-use crate::event_keys::EventKey;
+use crate::event_keys::{EventKey, EventKeys};
 use crate::fault::DescFault;
-use crate::network_keys::NetworkKey;
-use crate::program_keys::ProgramKey;
-use crate::stream_keys::StreamKey;
-use crate::table_keys::TableKey;
-use crate::top_keys::TopKey;
+use crate::network_keys::{NetworkKey, NetworkKeys};
+use crate::program_keys::{ProgramKey, ProgramKeys};
+use crate::stream_keys::{StreamKey, StreamKeys};
+use crate::table_keys::{TableKey, TableKeys};
+use crate::top_keys::first_refused_top;
 use description_values::arrays::{elements, tables_at};
-use description_values::key::{Key, all_known, first_refused, refused_key};
+use description_values::key::{Keys, all_known, first_refused, refused_key};
 use description_values::known_keys::knows_keys;
 use toml::Value;
 
@@ -47,7 +47,7 @@ fn knows_network(document: &Value) -> bool
 {
     match document.get("network") {
         None => true,
-        Some(network) => NetworkKey::knows(network),
+        Some(network) => NetworkKeys::knows(network),
     }
 }
 
@@ -57,10 +57,10 @@ fn has_unknown_key(document: &Value) -> bool
 {
     !(knows_document(document)
         && knows_network(document)
-        && (all_known::<ProgramKey>(elements(document, "program"))
-            && all_known::<StreamKey>(elements(document, "stream")))
-        && (all_known::<EventKey>(elements(document, "event"))
-            && all_known::<TableKey>(elements(document, "table"))))
+        && (all_known::<ProgramKeys>(elements(document, "program"))
+            && all_known::<StreamKeys>(elements(document, "stream")))
+        && (all_known::<EventKeys>(elements(document, "event"))
+            && all_known::<TableKeys>(elements(document, "table"))))
 }
 
 fn unknown_key_fault(document: &Value) -> Option<DescFault>
@@ -76,7 +76,7 @@ fn unknown_key_fault(document: &Value) -> Option<DescFault>
 fn top_fault(document: &Value) -> Option<DescFault>
     ensures { result ≡ top_fault (view document.now) }
 {
-    TopKey::first_refused(document).map(DescFault::Top)
+    first_refused_top(document).map(DescFault::Top)
 }
 
 fn network_fault(document: &Value) -> Option<DescFault>
@@ -85,7 +85,7 @@ fn network_fault(document: &Value) -> Option<DescFault>
     match document.get("network") {
         None => None,
         Some(network) if !network.is_table() => Some(DescFault::Network),
-        Some(network) => refused_key(&NetworkKey::ALL, document, network).map(
+        Some(network) => refused_key::<NetworkKeys>(&NetworkKey::ALL, document, network).map(
             DescFault::NetworkKey,
         ),
     }
@@ -97,14 +97,18 @@ fn program_fault(document: &Value) -> Option<DescFault>
     if !tables_at(false, document, "program", 1, 16) {
         return Some(DescFault::Programs);
     }
-    let (key, item) = first_refused(&ProgramKey::ALL, document, elements(document, "program"))?;
+    let (key, item) = first_refused::<ProgramKeys>(
+        &ProgramKey::ALL,
+        document,
+        elements(document, "program"),
+    )?;
     Some(DescFault::Program(key, item))
 }
 
 fn refused_stream_key(document: &Value) -> Option<(StreamKey, usize)>
     ensures { result ≡ refused_stream_key (view document.now) }
 {
-    first_refused(&StreamKey::ALL, document, elements(document, "stream"))
+    first_refused::<StreamKeys>(&StreamKey::ALL, document, elements(document, "stream"))
 }
 
 fn stream_fault(document: &Value) -> Option<DescFault>
@@ -123,7 +127,11 @@ fn event_fault(document: &Value) -> Option<DescFault>
     if !tables_at(true, document, "event", 0, 256) {
         return Some(DescFault::Events);
     }
-    let (key, item) = first_refused(&EventKey::ALL, document, elements(document, "event"))?;
+    let (key, item) = first_refused::<EventKeys>(
+        &EventKey::ALL,
+        document,
+        elements(document, "event"),
+    )?;
     Some(DescFault::Event(key, item))
 }
 
@@ -133,7 +141,11 @@ fn table_fault(document: &Value) -> Option<DescFault>
     if !tables_at(true, document, "table", 0, 16) {
         return Some(DescFault::Tables);
     }
-    let (key, item) = first_refused(&TableKey::ALL, document, elements(document, "table"))?;
+    let (key, item) = first_refused::<TableKeys>(
+        &TableKey::ALL,
+        document,
+        elements(document, "table"),
+    )?;
     Some(DescFault::Table(key, item))
 }
 

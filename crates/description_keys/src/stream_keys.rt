@@ -19,7 +19,7 @@ use crate::owner::has_owner;
 use crate::sharers::has_sharers;
 use description_values::DescriptorLoop;
 use description_values::descriptors::descriptors_or_none;
-use description_values::key::Key;
+use description_values::key::Keys;
 use description_values::known_keys::knows_keys;
 use description_values::texts::optional_language;
 use description_values::values::{integer_at, integer_in, integer_or, optional_integer};
@@ -369,7 +369,12 @@ impl StreamKey {
     }
 }
 
-impl Key for StreamKey {
+/// The keys of a stream.
+pub(crate) struct StreamKeys;
+
+impl Keys for StreamKeys {
+    type Key = StreamKey;
+
     ghost use Rattle.description_keys.specs.StreamKeys.{stream_key_names, refuses_stream};
 
     ghost names = { stream_key_names };
@@ -407,8 +412,8 @@ impl Key for StreamKey {
         )
     }
 
-    fn refuses(self, document: &Value, part: &Value) -> bool {
-        match self {
+    fn refuses(key: StreamKey, document: &Value, part: &Value) -> bool {
+        match key {
             StreamKey::Program => !has_owner(document, part),
             StreamKey::Pid => pid(part).is_none(),
             StreamKey::StreamId => stream_id(part).is_none(),

@@ -9,7 +9,7 @@ use crate::owner::has_owner;
 use description_values::DescriptorLoop;
 use description_values::arrays::sections_at;
 use description_values::descriptors::descriptors_at;
-use description_values::key::Key;
+use description_values::key::Keys;
 use description_values::known_keys::knows_keys;
 use description_values::values::integer_at;
 use toml::Value;
@@ -96,7 +96,12 @@ impl TableKey {
     }
 }
 
-impl Key for TableKey {
+/// The keys of a private table.
+pub(crate) struct TableKeys;
+
+impl Keys for TableKeys {
+    type Key = TableKey;
+
     ghost use Rattle.description_keys.specs.TableKeys.{table_key_names, refuses_table};
 
     ghost names = { table_key_names };
@@ -117,8 +122,8 @@ impl Key for TableKey {
         )
     }
 
-    fn refuses(self, document: &Value, part: &Value) -> bool {
-        match self {
+    fn refuses(key: TableKey, document: &Value, part: &Value) -> bool {
+        match key {
             TableKey::Pid => pid(part).is_none(),
             TableKey::Limit => limit(part).is_none(),
             TableKey::Sections => !has_sections(part),

@@ -3,6 +3,8 @@
 ghost use Rattle.std.specs.Prelude.{◌≡◌, find};
 ghost use Rattle.toml.specs.View.{view};
 ghost use Rattle.description_keys.specs.TopKeys as spec;
+ghost use Rattle.description_keys.specs.TopKeys.{refuses_top};
+ghost use Rattle.description_keys.specs.Refusals.{top_keys};
 
 use description_values::moments::moment_at;
 use description_values::values::{boolean_or, integer_at, integer_or};
@@ -72,8 +74,6 @@ pub fn tdt(document: &Value) -> Option<bool>
 
 impl TopKey {
     ghost use Rattle.description_keys.specs.Codes.{top_code};
-    ghost use Rattle.description_keys.specs.TopKeys.{refuses_top};
-    ghost use Rattle.description_keys.specs.Refusals.{top_keys};
 
     /// All keys, in the order of their numbers.
     pub const ALL: [TopKey; 7] = [
@@ -100,29 +100,29 @@ impl TopKey {
             TopKey::Tdt => 16,
         }
     }
+}
 
-    /// Returns whether the document has at this key what a description may not have there.
-    pub fn refuses(self, document: &Value) -> bool
-        ensures { result ≡ refuses_top self (view document.now) }
-    {
-        match self {
-            TopKey::Rate => rate(document).is_none(),
-            TopKey::Start => start(document).is_none(),
-            TopKey::Base0 => base0(document).is_none(),
-            TopKey::TsId => ts_id(document).is_none(),
-            TopKey::OriginalNetworkId => original_network_id(document).is_none(),
-            TopKey::Sdt => sdt(document).is_none(),
-            TopKey::Tdt => tdt(document).is_none(),
-        }
+// Returns whether the document has at a key what a description may not have there.
+fn refuses(key: TopKey, document: &Value) -> bool
+    ensures { result ≡ refuses_top key (view document.now) }
+{
+    match key {
+        TopKey::Rate => rate(document).is_none(),
+        TopKey::Start => start(document).is_none(),
+        TopKey::Base0 => base0(document).is_none(),
+        TopKey::TsId => ts_id(document).is_none(),
+        TopKey::OriginalNetworkId => original_network_id(document).is_none(),
+        TopKey::Sdt => sdt(document).is_none(),
+        TopKey::Tdt => tdt(document).is_none(),
     }
+}
 
-    /// Returns the first key that refuses the document.
-    pub fn first_refused(document: &Value) -> Option<TopKey>
-        ensures { result ≡ find (λ key. refuses_top key (view document.now)) top_keys }
-    {
-        TopKey::ALL
-            .iter()
-            .copied()
-            .find(|key| key.refuses(document))
-    }
+/// Returns the first key that refuses the document.
+pub fn first_refused_top(document: &Value) -> Option<TopKey>
+    ensures { result ≡ find (λ key. refuses_top key (view document.now)) top_keys }
+{
+    TopKey::ALL
+        .iter()
+        .copied()
+        .find(|key| refuses(*key, document))
 }

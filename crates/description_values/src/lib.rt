@@ -1,7 +1,7 @@
 //! The values of a service description's document: numbers, texts, moments, bytes.
 //!
 //! Each reader returns a value, or `None` if the document has another type there or a value out of range.
-//! `key::Key` is a key of a table: `key::first_refused` finds the first key that refuses a table.
+//! `key::Keys` are the keys of a table: `key::first_refused` finds the first key that refuses a table.
 #![tactic(auto)]
 
 // Values at a key.

@@ -5,4 +5,4 @@ use Rattle.description_values.specs.KnownKeys.{knows_keys}
 use Rattle.description_values.proofs.key.all_known.Goals as goal
 
 pub returns : goal.returns
-returns g c = c.each_knows.ensures ∙ sym (list_all-map (knows_keys g.K.Key.names) view c.args.parts.now)
+returns g c = c.each_knows.ensures ∙ sym (list_all-map (knows_keys g.K.Keys.names) view c.args.parts.now)

@@ -5,5 +5,5 @@ use Rattle.description_values.proofs.key.first_refused.Given as goal
 
 abbrev pub invariant-loop-key : goal.invariant-loop-key
 invariant-loop-key g l =
-    first_refused (λ k. g.K.Key.refuses k (view l.document)) l.keys (map view l.parts)
-    ≡ first_refused (λ k. g.K.Key.refuses k (view l.document)) (drop l.key-index l.keys) (map view l.parts)
+    first_refused (λ k. g.K.Keys.refuses k (view l.document)) l.keys (map view l.parts)
+    ≡ first_refused (λ k. g.K.Keys.refuses k (view l.document)) (drop l.key-index l.keys) (map view l.parts)
