@@ -1,5 +1,5 @@
 -- Pairs of numbers, which are the keys of programs and streams.
-use Rattle.std.proofs.Common.{◌≡◌, ◌<◌, ℕ, ◌+◌, ◌*◌, ◌==◌, ◌||◌, ◌&&◌, nat_eq, cond, Bool, true, false, List, [], ◌∷◌, ◌++◌, Option, Some, None, refl, sym, ap}
+use Rattle.std.proofs.Common.{◌≡◌, ◌<◌, ℕ, ◌+◌, ◌*◌, ◌==◌, ◌||◌, ◌&&◌, nat_eq, cond, Bool, true, false, List, [], ◌∷◌, ◌++◌, Option, Some, refl, sym, ap}
 use Rattle.std.proofs.Common.{ap₂, ◌∙◌}
 use Rattle.std.specs.Prelude.{is_some}
 use Rattle.std.specs.List.{list_any}
@@ -8,7 +8,7 @@ use Rattle.std.proofs.lemmas.List.Folds.{list_any-append}
 use Rattle.indexmap.specs.IndexMap.{insert_entry}
 use Rattle.stream_programs.specs.Streams.{FoundStreamView, holder, is_shared_with, is_stream_of, shared_by, with_sharer}
 use Rattle.stream_programs.specs.Programs.{FoundProgramView, FoundProgramsView, can_share, shares}
-use Rattle.stream_programs.specs.NumberPairs.{AreClocks, AreOwners, ArePairs, AreSharers, is_pair, pair_key}
+use Rattle.stream_programs.specs.NumberPairs.{ArePairs, is_pair, pair_key}
 use Rattle.program_tables.proofs.MapKeys.{apart, inserted, same_number, same_pid, same_rest}
 
 -- 1. One more pair

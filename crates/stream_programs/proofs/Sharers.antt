@@ -1,9 +1,9 @@
 -- Programs that share a stream.
-use Rattle.std.specs.Prelude.{OnOk}
+use Rattle.std.specs.Prelude.{OnErr, OnOk}
 use Rattle.std.proofs.Common.{Result, Ok, Err, ◌≡◌, ◌∙◌, ◌≤◌, ◌<◌, ℕ, zero, suc, arith, ◌+◌, ◌==◌, Bool, true, false, if◌then◌else◌, List, [], ◌∷◌, ◌++◌}
 use Rattle.std.proofs.Common.{length, map, take, drop, get_or, set, refl, sym, ap, add-one, append_assoc, append-nil}
 use Rattle.std.proofs.Math.Seq.{drop-cons, take-suc}
-use Rattle.std.proofs.lemmas.List.{drop_all, take_all, set_split}
+use Rattle.std.proofs.lemmas.List.{drop_all, take_all, set-get_or, set_split}
 use Rattle.stream_programs.specs.Streams.{FoundStreamView, shared_by, with_sharer}
 
 -- 1. Along the streams
@@ -11,6 +11,10 @@ use Rattle.stream_programs.specs.Streams.{FoundStreamView, shared_by, with_share
 pub on_ok : {A E P Q : Type 0} (r : Result A E) → (P → Q) → OnOk r P → OnOk r Q
 on_ok (Ok x) f p = f p
 on_ok (Err e) f p = tt
+
+pub on_err : {A E P Q : Type 0} (r : Result A E) → (P → Q) → OnErr r P → OnErr r Q
+on_err (Ok x) f p = tt
+on_err (Err e) f p = f p
 
 pub same_at : (ss : List FoundStreamView) (k : ℕ) (s t : FoundStreamView) → k < length ss → s ≡ get_or ss k s → t ≡ get_or ss k t → s ≡ t
 same_at [] k s t below a b = absurd (let no : ⊥ = omega (arith, below) in no)
@@ -45,6 +49,9 @@ shared_here number pid k ss s t below at own made so_far =
     ∙ ap (λ (l : List FoundStreamView). take k ss ++ shared_by number pid l)
     (drop-cons ss k s below ∙ ap (λ (x : FoundStreamView). x ∷ drop (suc k) ss) (sym at))
     ∙ ap (λ (b : Bool). take k ss ++ (if b then with_sharer number s ∷ drop (suc k) ss else s ∷ shared_by number pid (drop (suc k) ss))) own)
+
+pub unchanged_here : (k : ℕ) (ss : List FoundStreamView) (s t : FoundStreamView) → s ≡ get_or ss k s → t ≡ s → set ss k t ≡ ss
+unchanged_here k ss s t at made = ap (λ (x : FoundStreamView). set ss k x) (made ∙ at) ∙ set-get_or ss k s
 
 pub shared_end : (number pid k : ℕ) (ss : List FoundStreamView) → length ss ≤ k →
     shared_by number pid ss ≡ take k ss ++ shared_by number pid (drop k ss) → ss ≡ shared_by number pid ss

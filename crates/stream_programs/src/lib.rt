@@ -8,6 +8,7 @@
 #![tactic(auto)]
 
 mod free_pids;
+mod gathered;
 mod gathering;
 mod laws;
 mod number_pairs;

@@ -2,7 +2,7 @@
 
 ghost use Rattle.std.specs.Prelude.{◌≡◌, ◌<◌, OnOk, is_some, nat_eq};
 ghost use Rattle.std.specs.Map.{lookup};
-ghost use Rattle.indexmap.specs.IndexMap.{insert_entry};
+ghost use Rattle.indexmap.specs.IndexMap.{insert_entry, spare};
 ghost use Rattle.stream_programs.specs.NumberPairs.{pair_key};
 
 use indexmap::IndexMap;
@@ -27,16 +27,23 @@ pub(crate) fn has_pair<A: Allocator>(pairs: &NumberPairs<A>, pid: u16, number: u
     pairs.contains_key(&key_of(pid, number))
 }
 
-/// Adds a pair.
-pub(crate) fn add_pair<A: Allocator + Copy>(
+/// Makes room for a pair more.
+pub(crate) fn reserve_pair<A: Allocator + Copy>(
     pairs: &mut NumberPairs<A>,
-    pid: u16,
-    number: u16,
 ) -> Result<(), AllocError>
-    ensures added { OnOk result (pairs.new.entries
-        ≡ insert_entry nat_eq pairs.old.entries (pair_key pid number) number) }
+    ensures same { pairs.new.entries ≡ pairs.old.entries }
+    ensures room { OnOk result (0 < spare pairs.new) }
+{
+    pairs.reserve(1)
+}
+
+/// Adds a pair, for which there is room.
+pub(crate) fn add_pair<A: Allocator + Copy>(pairs: &mut NumberPairs<A>, pid: u16, number: u16)
+    requires room { 0 < spare pairs.old }
+    ensures added { pairs.new.entries ≡ insert_entry nat_eq pairs.old.entries (pair_key pid number) number }
     ensures number { number < 65_536 }
 {
-    pairs.insert(key_of(pid, number), number)?;
-    Ok(())
+    let Ok(_) = pairs.insert(key_of(pid, number), number) else {
+        unreachable!();
+    };
 }

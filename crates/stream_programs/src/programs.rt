@@ -5,7 +5,7 @@ ghost use Rattle.psi_tables.specs.ProgramMap.{streams_of};
 ghost use Rattle.pid_findings.specs.Shown.{finding_view};
 ghost use Rattle.stream_programs.specs.Programs as spec;
 
-use crate::gathering::Gathered;
+use crate::gathered::Gathered;
 use crate::omission::TableOmission;
 use crate::streams::FoundStream;
 use descriptor_loops::{has_ca, has_of_multiplex};
@@ -109,7 +109,7 @@ pub fn found_programs<A: Allocator + Copy>(
     let places = map_places(alloc, findings)?;
     let mut gathered = Gathered::new(alloc);
     for program in named {
-        gathered = gathered.note(alloc, *program, &places, findings)?;
+        gathered.note(alloc, *program, &places, findings)?;
     }
     Ok(gathered.into_found())
 }

@@ -1,6 +1,6 @@
 //! Which streams of a program map table are kept.
 
-ghost use Rattle.std.specs.Prelude.{◌≡◌, OnOk};
+ghost use Rattle.std.specs.Prelude.{◌≡◌, OnErr, OnOk};
 ghost use Rattle.std.specs.List.{list_any};
 ghost use Rattle.stream_programs.specs.Streams as spec;
 
@@ -86,7 +86,8 @@ impl<A: Allocator> FoundStream<A> {
     }
 
     fn push_sharer(&mut self, number: u16) -> Result<(), AllocError>
-        ensures { OnOk result (self.new ≡ spec.with_sharer number self.old) }
+        ensures ok { OnOk result (self.new ≡ spec.with_sharer number self.old) }
+        ensures err { OnErr result (self.new ≡ self.old) }
     {
         self.shared_with.push(number)?;
         Ok(())
@@ -106,7 +107,8 @@ pub(crate) fn share<A: Allocator>(
     pid: u16,
     streams: &mut Vec<FoundStream<A>, A>,
 ) -> Result<(), AllocError>
-    ensures { OnOk result (streams.new.items ≡ spec.shared_by number pid streams.old.items) }
+    ensures ok { OnOk result (streams.new.items ≡ spec.shared_by number pid streams.old.items) }
+    ensures err { OnErr result (streams.new.items ≡ streams.old.items) }
 {
     for k in 0..streams.len() {
         if streams[k].pid == pid {

@@ -9,7 +9,7 @@ loop-program-preserved g c =
     c.loop-program.invariant
     ∙ programs_more c.loop-program.gathered _ c.loop-program.program-index c.args.named.now _
     (map (finding_view {A = g.row.A.Denot}) c.args.findings.now)
-    c.loop-program-test.true c.in_ok-gathered.ensures
+    c.loop-program-test.true c.in_ok-note.ensures
 
 pub returns : goal.returns
 unfolding programs_of

@@ -1,5 +1,5 @@
-use Rattle.std.proofs.Common.{◌≡◌, ◌∙◌, subst, ◌<◌, ◌≤◌, ◌==◌, ap, sym, length, true, false, rules, arith}
-use Rattle.stream_programs.proofs.Sharers.{on_ok, same_at, shared_past, shared_here, shared_end}
+use Rattle.std.proofs.Common.{◌≡◌, ◌∙◌, subst, ◌<◌, ◌≤◌, ◌==◌, ap, length, true, false, rules, arith}
+use Rattle.stream_programs.proofs.Sharers.{on_err, on_ok, same_at, shared_past, shared_here, shared_end, unchanged_here}
 use Rattle.stream_programs.specs.Streams.{FoundStreamView, shared_by}
 use Rattle.stream_programs.proofs.streams.share.Goals as goal
 
@@ -14,8 +14,8 @@ loop-k-preserved g c =
       shared = shared_past c.args.number c.args.pid c.loop-k.k ss c.index.result.now below c.index.ensures other c.loop-k.invariant.shared;
     }
 
-pub returns-then-index-pid : goal.returns-then-index-pid
-returns-then-index-pid g c =
+pub returns-then-index-pid-clause-ok : goal.returns-then-index-pid-clause-ok
+returns-then-index-pid-clause-ok g c =
     let ss = c.loop-k.streams.items in
     let size = ap (length {A = _}) c.loop-k.invariant.same in
     let below : c.loop-k.k < length ss = omega (arith, c.loop-k-test.true, c.len-k-end.ensures, size) in
@@ -25,11 +25,20 @@ returns-then-index-pid g c =
     on_ok c.push_sharer.result
     (λ made. shared_here c.args.number c.args.pid c.loop-k.k ss c.index_mut-stream.result.now c.push_sharer.new.self below c.index_mut-stream.ensures.value
     here made c.loop-k.invariant.shared
-    ∙ ap (shared_by c.args.number c.args.pid) c.loop-k.invariant.same) c.push_sharer.ensures
+    ∙ ap (shared_by c.args.number c.args.pid) c.loop-k.invariant.same) c.push_sharer.ensures.ok
 
-pub returns : goal.returns
-returns g c =
+pub returns-then-index-pid-clause-err : goal.returns-then-index-pid-clause-err
+returns-then-index-pid-clause-err g c =
+    on_err c.push_sharer.result
+    (λ made. unchanged_here c.loop-k.k c.loop-k.streams.items c.index_mut-stream.result.now c.push_sharer.new.self c.index_mut-stream.ensures.value made
+    ∙ c.loop-k.invariant.same) c.push_sharer.ensures.err
+
+pub returns-clause-ok : goal.returns-clause-ok
+returns-clause-ok g c =
     let size = ap (length {A = _}) c.loop-k.invariant.same in
     let over : length c.loop-k.streams.items ≤ c.loop-k.k = omega (arith, c.loop-k-test.false, c.len-k-end.ensures, size) in
     shared_end c.args.number c.args.pid c.loop-k.k c.loop-k.streams.items over c.loop-k.invariant.shared
     ∙ ap (shared_by c.args.number c.args.pid) c.loop-k.invariant.same
+
+pub returns-clause-err : goal.returns-clause-err
+returns-clause-err g c = tt
