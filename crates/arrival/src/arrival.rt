@@ -28,6 +28,7 @@ pub enum Arrival {
 
 impl ClockLines {
     /// Returns the line of a byte.
+    #[inline]
     pub fn line_at(&self, byte: u64) -> ClockLine
         ensures { result ≡ spec.line_at self.now byte }
     {
@@ -49,6 +50,7 @@ impl ClockLines {
 impl Arrival {
     /// Returns how long a byte takes to leave a buffer at its rate: a buffer that is drained at `r` bits a second
     /// counts time in units of `1 / (r * step)` of 8 seconds.
+    #[inline(always)]
     #[tactic(auto, unfolding(crate::specs::Arrivals::step_of))]
     pub fn step(&self) -> u64
         ensures step { result ≡ spec.step_of self.now }
@@ -62,6 +64,7 @@ impl Arrival {
     }
 
     /// Returns whether `count` bytes from byte `byte` on have times.
+    #[inline(always)]
     #[tactic(auto, unfolding(crate::specs::Arrivals::has_times))]
     pub fn has_times(&self, byte: u64, count: u64) -> bool
         requires byte { byte ≤ 2 ^ 41 }
@@ -81,6 +84,7 @@ impl Arrival {
 
     /// Returns how many bytes of the packet from byte `byte` on lie on the first of two lines, if the second line
     /// begins within the packet.
+    #[inline(always)]
     #[tactic(auto, unfolding(crate::specs::Arrivals::lead_of))]
     pub fn lead(&self, byte: u64) -> u64
         requires { byte ≤ 2 ^ 41 }
@@ -100,6 +104,7 @@ impl Arrival {
 
     /// Returns the arrivals of `count` bytes from byte `byte` on, all on the line of the first of them, at a buffer
     /// that is drained at `drain` bits a second.
+    #[inline(always)]
     #[tactic(auto, unfolding(crate::specs::Arrivals::has_times, crate::specs::Arrivals::times_at))]
     pub fn row(&self, drain: u64, byte: u64, count: u64) -> Row
         requires drain { drain ≤ 200000000 }

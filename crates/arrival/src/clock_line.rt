@@ -36,6 +36,7 @@ impl ClockLine {
     }
 
     /// Returns the line.
+    #[inline(always)]
     pub fn line(&self) -> Line
         ensures line { result ≡ self.now }
         ensures clock { IsClockLine result }

@@ -5,6 +5,7 @@ ghost use Rattle.arrival.specs.Rows.{IsTimed, IsEarly, first_bytes, other_bytes,
 
 // Returns whether the multiple after the first `count` multiples is not above `room`: then all of these are below it.
 // Takes no division.
+#[inline]
 fn are_all_below(room: u128, gain: u128, count: u64) -> bool
     ensures { IsTrue result → count * gain ≤ room }
 {
@@ -15,6 +16,7 @@ fn are_all_below(room: u128, gain: u128, count: u64) -> bool
 }
 
 /// Returns how many of the first `count` multiples of `gain`, from 0 on, are below `room`.
+#[inline]
 #[tactic(auto, using(crate::proofs::Rows::all_below))]
 pub fn multiples_below(room: u128, gain: u128, count: u64) -> u64
     requires room { room < 2 ^ 128 }
@@ -47,6 +49,7 @@ impl Row {
     /// Returns the arrivals of `count` bytes from byte `byte` on of a stream of constant rate `R`, at a buffer that is
     /// drained at `drain` bits a second, in units of `8 / (R * drain)` seconds: there a byte takes `R` to leave, and
     /// nothing is rounded.
+    #[inline(always)]
     #[tactic(auto, using(crate::proofs::Rows::constant_row))]
     pub fn at_constant_rate(drain: u64, byte: u64, count: u64) -> Row
         requires drain { drain ≤ 200000000 }
@@ -65,6 +68,7 @@ impl Row {
     }
 
     /// Returns the time of byte number `j`.
+    #[inline(always)]
     pub fn time(&self, j: u64) -> u128
         requires timed { IsTimed self.now }
         requires j { j ≤ self.now.bytes }
@@ -82,6 +86,7 @@ impl Row {
     }
 
     /// Returns its first `count` bytes, and the rest.
+    #[inline(always)]
     #[tactic(auto, using(crate::proofs::Rows::split_rows))]
     pub fn split_at(&self, count: u64) -> (Row, Row)
         requires timed { IsTimed self.now }
@@ -108,6 +113,7 @@ impl Row {
     }
 
     /// Returns its bytes before a moment, and the rest.
+    #[inline]
     pub fn split_before(&self, moment: u128) -> (Row, Row)
         requires timed { IsTimed self.now }
         requires moment { moment ≤ 2 ^ 87 }

@@ -1,6 +1,7 @@
 //! Packets that wait for a line.
-ghost use Rattle.std.specs.Prelude.{◌≡◌, ◌∷◌, [], ◌++◌, IfOk, IfSome, OnOk, Result};
+ghost use Rattle.std.specs.Prelude.{◌≡◌, ◌/◌, ◌%◌, ◌∷◌, [], ◌++◌, IfOk, IfSome, OnOk, Result, slice_index, true};
 ghost use Rattle.bit_fields.specs.Reading.{Gives};
+ghost use Rattle.ts_packet.specs.Reading.{packet_at};
 ghost use Rattle.ts_packet.specs.Views.{PacketView, packet_view};
 ghost use Rattle.ts_packet.specs.declared.packet.PacketError.{PacketError};
 ghost use Rattle.arrival.specs.Clock.{IsInRange};
@@ -88,6 +89,26 @@ fn reference_read(
         Err(_) => None,
         Ok(packet) => reference_of(clock, index, packet),
     }
+}
+
+// Returns whether 188 bytes have no adaptation field.
+fn is_plain(bytes: &[u8; 188]) -> bool
+    ensures { result ≡ true → slice_index bytes.now 3 / 32 % 2 ≡ 0 }
+{
+    bytes[3] / 32 % 2 == 0
+}
+
+// Returns the reference of 188 bytes and its PID, if it times the arrival of the stream. Bytes that have no adaptation
+// field have none, and are not read: most packets have no such field.
+fn reference_in(clock: ClockPid, index: u64, bytes: &[u8; 188]) -> Option<(u16, PcrSample)>
+    ensures value { result ≡ spec.reference_read clock index (packet_at bytes.now) }
+    ensures range { IfSome result (λ r. IsInRange r.1) }
+{
+    if is_plain(bytes) {
+        return None;
+    }
+    let read = read_packet(bytes);
+    reference_read(clock, index, &read)
 }
 
 // Returns PCR_PID of a program, once the first tables are known.
@@ -205,8 +226,7 @@ impl PacketQueue {
         ensures arrival { IfOk result (λ arrival. arrival ≡ spec.released self.old bytes.now) }
         ensures queue { OnOk result (self.new ≡ spec.stepped self.old bytes.now) }
     {
-        let read = read_packet(bytes);
-        let reference = reference_read(self.pid, self.packets, &read);
+        let reference = reference_in(self.pid, self.packets, bytes);
         let arrival = self.step(&reference);
         self.name(bytes)?;
         Ok(arrival)

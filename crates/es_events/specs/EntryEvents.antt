@@ -16,6 +16,8 @@ use Rattle.events.specs.declared.event.Event.TheVariants as found
 use Rattle.events.specs.PidNames.{of_coding}
 use Rattle.es_events.specs.Clocks.{longest_stay}
 use Rattle.es_events.specs.declared.entry_events.Place.{Place}
+use Rattle.es_events.specs.declared.entry_events.ExcessKind.{ExcessKind}
+use Rattle.es_events.specs.declared.entry_events.ExcessKind.TheVariants as kinds
 use Rattle.es_events.specs.declared.entry_events.MainFigures.{MainFigures}
 use Rattle.es_events.specs.declared.tally.Tally.{Tally}
 use Rattle.es_events.specs.declared.view_options.ViewOptions.{ViewOptions}
@@ -58,7 +60,16 @@ excess_of options place e = record {
   size = place.size;
 }
 
--- events for excesses of the transport buffer, and of the main buffer
+-- events for excesses of a buffer, in particular of the transport buffer, and of the main buffer
+abbrev pub event_of_excess : ExcessKind → BufferExcess → Event
+event_of_excess kinds.Transport e = found.Excess e
+event_of_excess kinds.Main e = found.MainExcess e
+event_of_excess kinds.Multiplexing e = found.MultiplexingExcess e
+event_of_excess kinds.Elementary e = found.ElementaryExcess e
+
+abbrev pub events_of_excesses : ExcessKind → ViewOptions → Place → List Excess → List Event
+events_of_excesses kind options place excesses = map (λ e. event_of_excess kind (excess_of options place e)) excesses
+
 abbrev pub excess_event : ViewOptions → Place → Excess → Event
 excess_event options place e = found.Excess (excess_of options place e)
 

@@ -64,16 +64,16 @@ fn place_of(arrival: &Arrival, index: u64) -> Option<u64>
     }
 }
 
-// Returns the clock reference in a packet that comes then.
+// Returns the clock reference in the packet at an index. Its time takes a division: few packets have a reference.
 #[tactic(auto, unfolding(crate::specs::Clocks::sample_in, crate::specs::Clocks::sample_at))]
-fn sample_in(place: Option<u64>, packet: &Packet<'_>) -> Option<PcrSample>
-    ensures { result ≡ spec.sample_in place (packet_view packet.now).adaptation }
+fn sample_in(arrival: &Arrival, index: u64, packet: &Packet<'_>) -> Option<PcrSample>
+    ensures { result ≡ spec.sample_in (spec.place_of arrival.now index) (packet_view packet.now).adaptation }
 {
     match packet.adaptation {
         Some(Adaptation::Flagged(parts)) => {
             let reference = parts.pcr?;
             Some(PcrSample {
-                byte: place?,
+                byte: place_of(arrival, index)?,
                 ticks: reference.base % (1 << 33) * 300 + u64::from(reference.extension),
                 discontinuity: parts.discontinuity_indicator,
             })
@@ -94,6 +94,7 @@ impl Clocks {
 
     /// Returns the last reference of a PID, searched first at the place of the first clock: most streams have a single
     /// clock.
+    #[inline(always)]
     pub fn last(&self, pid: u16) -> Option<PcrSample>
         ensures { result ≡ spec.clock_of self.now pid }
     {
@@ -115,7 +116,7 @@ impl Clocks {
     ) -> Result<(), AllocError>
         ensures { OnOk result (self.new ≡ spec.clocks_after self.old arrival.now index (packet_view packet.now)) }
     {
-        if let Some(sample) = sample_in(place_of(arrival, index), packet) {
+        if let Some(sample) = sample_in(arrival, index, packet) {
             self.last.insert(packet.header.pid, sample)?;
         }
         Ok(())

@@ -28,6 +28,15 @@ pub struct Place {
     pub size: u64,
 }
 
+/// A buffer of a stream that holds too many bytes.
+#[derive(Clone, Copy)]
+pub enum ExcessKind {
+    Transport,
+    Main,
+    Multiplexing,
+    Elementary,
+}
+
 /// What a main buffer held.
 #[derive(Clone, Copy)]
 pub struct MainFigures {
@@ -71,8 +80,8 @@ pub fn moment_of(options: &ViewOptions, rx: u32, time: u128) -> u128
     span_of(options, rx, time).saturating_sub(u128::from(options.origin))
 }
 
-/// Returns an excess of a buffer.
-pub(crate) fn excess_of(options: &ViewOptions, place: &Place, excess: &Excess) -> BufferExcess
+// Returns an excess of a buffer.
+fn excess_of(options: &ViewOptions, place: &Place, excess: &Excess) -> BufferExcess
     ensures { result ≡ spec.excess_of options.now place.now excess.now }
 {
     BufferExcess {
@@ -85,67 +94,49 @@ pub(crate) fn excess_of(options: &ViewOptions, place: &Place, excess: &Excess) -
     }
 }
 
-// Appends an excess of the transport buffer. It stays a call of its own: few packets end one.
+// Returns the event of an excess of a buffer.
+fn excess_event(kind: ExcessKind, excess: BufferExcess) -> Event
+    ensures { result ≡ spec.event_of_excess kind excess }
+{
+    match kind {
+        ExcessKind::Transport => Event::Excess(excess),
+        ExcessKind::Main => Event::MainExcess(excess),
+        ExcessKind::Multiplexing => Event::MultiplexingExcess(excess),
+        ExcessKind::Elementary => Event::ElementaryExcess(excess),
+    }
+}
+
+// Appends an excess of a buffer. It stays a call of its own: few packets end one.
 #[inline(never)]
 fn push_excess(
     events: &mut Vec<Event>,
     options: &ViewOptions,
     place: &Place,
+    kind: ExcessKind,
     excess: &Excess,
 ) -> Result<(), AllocError>
     ensures { OnOk result (events.new.items
-        ≡ events.old.items ++ spec.excess_events options.now place.now (excess.now ∷ [])) }
+        ≡ events.old.items ++ spec.events_of_excesses kind options.now place.now (excess.now ∷ [])) }
 {
-    events.push(Event::Excess(excess_of(options, place, excess)))?;
+    events.push(excess_event(kind, excess_of(options, place, excess)))?;
     Ok(())
 }
 
-// Appends the excess of the transport buffer, if there is one.
+/// Appends an excess of a buffer, if there is one.
 #[inline(always)]
-fn push_excess_if(
+pub(crate) fn push_excess_if(
     events: &mut Vec<Event>,
     options: &ViewOptions,
     place: &Place,
+    kind: ExcessKind,
     excess: &Option<Excess>,
 ) -> Result<(), AllocError>
     ensures { OnOk result (events.new.items
-        ≡ events.old.items ++ spec.excess_events options.now place.now (option_to_list excess.now)) }
+        ≡ events.old.items ++ spec.events_of_excesses kind options.now place.now (option_to_list excess.now)) }
 {
     match excess {
         None => Ok(()),
-        Some(excess) => push_excess(events, options, place, excess),
-    }
-}
-
-// Appends an excess of the main buffer. It stays a call of its own: few packets end one.
-#[inline(never)]
-fn push_main_excess(
-    events: &mut Vec<Event>,
-    options: &ViewOptions,
-    place: &Place,
-    excess: &Excess,
-) -> Result<(), AllocError>
-    ensures { OnOk result (events.new.items
-        ≡ events.old.items ++ spec.main_excess_events options.now place.now (excess.now ∷ [])) }
-{
-    events.push(Event::MainExcess(excess_of(options, place, excess)))?;
-    Ok(())
-}
-
-// Appends an excess of the main buffer that has ended, if any.
-#[inline(always)]
-fn push_main_excess_if(
-    events: &mut Vec<Event>,
-    options: &ViewOptions,
-    place: &Place,
-    excess: &Option<Excess>,
-) -> Result<(), AllocError>
-    ensures { OnOk result (events.new.items
-        ≡ events.old.items ++ spec.main_excess_events options.now place.now (option_to_list excess.now)) }
-{
-    match excess {
-        None => Ok(()),
-        Some(excess) => push_main_excess(events, options, place, excess),
+        Some(excess) => push_excess(events, options, place, kind, excess),
     }
 }
 
@@ -250,10 +241,11 @@ fn push_all_ended(
         size: TRANSPORT_BYTES,
         ..*place
     };
-    push_excess_if(events, options, &transport, &entered.lead)?;
-    push_excess_if(events, options, &transport, &entered.header)?;
-    push_excess_if(events, options, &transport, &entered.payload)?;
-    push_main_excess_if(events, options, place, &entered.main)?;
+    let kind = ExcessKind::Transport;
+    push_excess_if(events, options, &transport, kind, &entered.lead)?;
+    push_excess_if(events, options, &transport, kind, &entered.header)?;
+    push_excess_if(events, options, &transport, kind, &entered.payload)?;
+    push_excess_if(events, options, place, ExcessKind::Main, &entered.main)?;
     push_late_if(events, options, place, &entered.unit)
 }
 
@@ -325,8 +317,11 @@ fn push_under_way(
         size: TRANSPORT_BYTES,
         ..*place
     };
-    push_excess_if(events, options, &transport, &buffers.transport_excess())?;
-    push_main_excess_if(events, options, place, &buffers.main_excess())?;
+    let kind = ExcessKind::Transport;
+    let excess = buffers.transport_excess();
+    push_excess_if(events, options, &transport, kind, &excess)?;
+    let excess = buffers.main_excess();
+    push_excess_if(events, options, place, ExcessKind::Main, &excess)?;
     push_late_if(events, options, place, &buffers.unit())
 }
 

@@ -1,85 +1,22 @@
 //! Events of MB and EB, the two buffers of video.
 ghost use Rattle.std.specs.Prelude.{◌≡◌, ◌++◌, ◌∷◌, [], OnOk};
-ghost use Rattle.std.specs.Option.{option_to_list};
 ghost use Rattle.tstd_rows.specs.HeldVideo.{video_view};
 ghost use Rattle.es_events.specs.VideoEvents as spec;
 ghost use Rattle.es_events.specs.EntryEvents.{with_size};
 
-use crate::entry_events::{Place, excess_of, moment_of, span_of, with_one};
+use crate::entry_events::{ExcessKind, Place, moment_of, push_excess_if, span_of, with_one};
 use crate::video_figures::{VideoFigures, closed_video};
 use crate::video_tally::{VideoLimits, VideoTally};
 use crate::view_options::ViewOptions;
 use events::{ElementaryLate, ElementaryTotals, Event, MultiplexingTotals};
 use std::alloc::AllocError;
-use tstd_rows::{Excess, LateCause, VideoEntered, VideoUnit};
+use tstd_rows::{LateCause, VideoEntered, VideoUnit};
 
 // Returns the same place with another size.
 pub(crate) fn with_size(place: &Place, size: u64) -> Place
     ensures { result ≡ with_size place.now size }
 {
     Place { size, ..*place }
-}
-
-// Appends an excess of the multiplexing buffer. It stays a call of its own: few packets end one.
-#[inline(never)]
-fn push_multiplexing_excess(
-    events: &mut Vec<Event>,
-    options: &ViewOptions,
-    place: &Place,
-    excess: &Excess,
-) -> Result<(), AllocError>
-    ensures { OnOk result (events.new.items
-        ≡ events.old.items ++ spec.multiplexing_excess_events options.now place.now (excess.now ∷ [])) }
-{
-    events.push(Event::MultiplexingExcess(excess_of(options, place, excess)))?;
-    Ok(())
-}
-
-// Appends an excess of the multiplexing buffer, if there is one.
-fn push_multiplexing_excess_if(
-    events: &mut Vec<Event>,
-    options: &ViewOptions,
-    place: &Place,
-    excess: &Option<Excess>,
-) -> Result<(), AllocError>
-    ensures { OnOk result (events.new.items
-        ≡ events.old.items ++ spec.multiplexing_excess_events options.now place.now (option_to_list excess.now)) }
-{
-    match excess {
-        None => Ok(()),
-        Some(excess) => push_multiplexing_excess(events, options, place, excess),
-    }
-}
-
-// Appends an excess of the elementary stream buffer. It stays a call of its own: few packets end one.
-#[inline(never)]
-fn push_elementary_excess(
-    events: &mut Vec<Event>,
-    options: &ViewOptions,
-    place: &Place,
-    excess: &Excess,
-) -> Result<(), AllocError>
-    ensures { OnOk result (events.new.items
-        ≡ events.old.items ++ spec.elementary_excess_events options.now place.now (excess.now ∷ [])) }
-{
-    events.push(Event::ElementaryExcess(excess_of(options, place, excess)))?;
-    Ok(())
-}
-
-// Appends an excess of the elementary stream buffer that has ended, if any.
-fn push_elementary_excess_if(
-    events: &mut Vec<Event>,
-    options: &ViewOptions,
-    place: &Place,
-    excess: &Option<Excess>,
-) -> Result<(), AllocError>
-    ensures { OnOk result (events.new.items
-        ≡ events.old.items ++ spec.elementary_excess_events options.now place.now (option_to_list excess.now)) }
-{
-    match excess {
-        None => Ok(()),
-        Some(excess) => push_elementary_excess(events, options, place, excess),
-    }
 }
 
 #[tactic(auto, unfolding(crate::specs::VideoEvents::reported_cause))]
@@ -162,13 +99,39 @@ fn push_ended_of_both(
 {
     let multiplexing = with_size(place, limits.multiplexing);
     let elementary = with_size(place, limits.elementary);
-    push_multiplexing_excess_if(events, options, &multiplexing, &entered.waiting)?;
-    push_multiplexing_excess_if(events, options, &multiplexing, &entered.free)?;
-    push_elementary_excess_if(events, options, &elementary, &entered.elementary)?;
+    let kind = ExcessKind::Multiplexing;
+    push_excess_if(events, options, &multiplexing, kind, &entered.waiting)?;
+    push_excess_if(events, options, &multiplexing, kind, &entered.free)?;
+    let kind = ExcessKind::Elementary;
+    push_excess_if(events, options, &elementary, kind, &entered.elementary)?;
     push_elementary_late_if(events, options, place, &entered.unit)
 }
 
+// Appends what has ended with a packet, if anything has: most packets end nothing.
+#[inline(always)]
+fn push_ended_if(
+    events: &mut Vec<Event>,
+    options: &ViewOptions,
+    place: &Place,
+    limits: &VideoLimits,
+    entered: &VideoEntered,
+) -> Result<(), AllocError>
+    ensures { OnOk result (events.new.items
+        ≡ events.old.items ++ spec.ended_of_both options.now place.now limits.now
+        (video_view entered.now) entered.now.unit) }
+{
+    if entered.waiting.is_none()
+        && entered.free.is_none()
+        && entered.elementary.is_none()
+        && entered.unit.is_none()
+    {
+        return Ok(());
+    }
+    push_ended_of_both(events, options, place, limits, entered)
+}
+
 /// Appends what has ended with a packet in the buffers of video, if they are viewed.
+#[inline(always)]
 #[tactic(auto, unfolding(crate::specs::VideoEvents::video_ended_events))]
 pub fn push_video_ended(
     events: &mut Vec<Event>,
@@ -183,7 +146,7 @@ pub fn push_video_ended(
 {
     match limits {
         None => Ok(()),
-        Some(limits) => push_ended_of_both(events, options, place, limits, entered),
+        Some(limits) => push_ended_if(events, options, place, limits, entered),
     }
 }
 
@@ -224,8 +187,10 @@ fn push_video_under_way(
 {
     let multiplexing = with_size(place, figures.limits.multiplexing);
     let elementary = with_size(place, figures.limits.elementary);
-    push_multiplexing_excess_if(events, options, &multiplexing, &figures.multiplexing)?;
-    push_elementary_excess_if(events, options, &elementary, &figures.elementary)?;
+    let kind = ExcessKind::Multiplexing;
+    push_excess_if(events, options, &multiplexing, kind, &figures.multiplexing)?;
+    let kind = ExcessKind::Elementary;
+    push_excess_if(events, options, &elementary, kind, &figures.elementary)?;
     push_elementary_late_if(events, options, place, &figures.unit)
 }
 

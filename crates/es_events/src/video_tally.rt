@@ -61,7 +61,7 @@ impl VideoTally {
     }
 
     /// Takes the row of a packet; the buffers have these sizes.
-    #[inline(never)]
+    #[inline(always)]
     pub fn add_row(&mut self, limits: &VideoLimits, row: TraceRow)
         ensures { self.new ≡ record self.old { traces = traces_after self.old.traces row limits.now.multiplexing limits.now.elementary } }
     {

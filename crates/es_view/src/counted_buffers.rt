@@ -225,6 +225,7 @@ impl CountedBuffers {
     }
 
     /// Takes a packet, and appends what has ended with it.
+    #[inline(always)]
     pub(crate) fn enter_whole(
         &mut self,
         options: &ViewOptions,

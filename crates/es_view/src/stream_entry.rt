@@ -128,6 +128,7 @@ impl StreamEntry {
     }
 
     // Takes a packet into the buffers: by access units, if they are viewed.
+    #[inline(always)]
     fn enter(
         &mut self,
         options: &ViewOptions,

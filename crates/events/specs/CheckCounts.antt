@@ -54,30 +54,14 @@ with_counted c fault = record { rows = map (row_with fault) c.rows }
 unfoldable pub is_timed : Check → Bool
 is_timed checks.SyncLoss = false
 is_timed checks.SyncByte = false
-is_timed checks.Pat = true
 is_timed checks.Continuity = false
-is_timed checks.Pmt = true
 is_timed checks.Pid = false
 is_timed checks.Transport = false
 is_timed checks.Crc = false
-is_timed checks.PcrRepetition = true
 is_timed checks.PcrDiscontinuity = false
-is_timed checks.PcrAccuracy = true
-is_timed checks.Pts = true
 is_timed checks.Cat = false
-is_timed checks.NitActual = true
-is_timed checks.NitOther = true
-is_timed checks.SiRepetition = true
-is_timed checks.Buffer = true
 is_timed checks.Unreferenced = false
-is_timed checks.SdtActual = true
-is_timed checks.SdtOther = true
-is_timed checks.EitActual = true
-is_timed checks.EitOther = true
-is_timed checks.Rst = true
-is_timed checks.Tdt = true
-is_timed checks.EmptyBuffer = true
-is_timed checks.DataDelay = true
+is_timed _ = true
 
 -- no verdict on times for a recording whose packets have no moment, and none on the accuracy of clock references for a recording whose rate varies
 abbrev pub no_verdict_of : Check → StreamTime → Option NoVerdict

@@ -10,43 +10,8 @@ use Rattle.events.specs.CheckCounts as counts
 
 -- a time that is too short is worse if it is shorter, any other value if it is greater
 unfoldable pub is_worse : FaultKind → ℕ → ℕ → Bool
-is_worse kinds.Slip value than = nat_lt than value
-is_worse kinds.Empty value than = nat_lt than value
-is_worse kinds.NoStream value than = nat_lt than value
-is_worse kinds.OtherRate value than = nat_lt than value
-is_worse kinds.Unclocked value than = nat_lt than value
-is_worse kinds.SyncByte value than = nat_lt than value
-is_worse kinds.Header value than = nat_lt than value
-is_worse kinds.TransportError value than = nat_lt than value
-is_worse kinds.Continuity value than = nat_lt than value
-is_worse kinds.CheckWord value than = nat_lt than value
-is_worse kinds.Excess value than = nat_lt than value
-is_worse kinds.MainExcess value than = nat_lt than value
-is_worse kinds.MultiplexingExcess value than = nat_lt than value
-is_worse kinds.ElementaryExcess value than = nat_lt than value
-is_worse kinds.SystemExcess value than = nat_lt than value
-is_worse kinds.SystemMainExcess value than = nat_lt than value
-is_worse kinds.Late value than = nat_lt than value
-is_worse kinds.ElementaryLate value than = nat_lt than value
-is_worse kinds.Ahead value than = nat_lt than value
-is_worse kinds.PcrRepetition value than = nat_lt than value
-is_worse kinds.PcrDiscontinuity value than = nat_lt than value
-is_worse kinds.PcrAccuracy value than = nat_lt than value
-is_worse kinds.PtsRepetition value than = nat_lt than value
-is_worse kinds.TableRepetition value than = nat_lt than value
 is_worse kinds.SectionDistance value than = nat_lt value than
-is_worse kinds.OtherTable value than = nat_lt than value
-is_worse kinds.ScrambledTable value than = nat_lt than value
-is_worse kinds.NoCat value than = nat_lt than value
-is_worse kinds.NotEmpty value than = nat_lt than value
-is_worse kinds.Delayed value than = nat_lt than value
-is_worse kinds.Unreferenced value than = nat_lt than value
-is_worse kinds.Missing value than = nat_lt than value
-is_worse kinds.Rest value than = nat_lt than value
-is_worse kinds.NoStamps value than = nat_lt than value
-is_worse kinds.StampJump value than = nat_lt than value
-is_worse kinds.NoTable value than = nat_lt than value
-is_worse kinds.PidRepetition value than = nat_lt than value
+is_worse _ value than = nat_lt than value
 
 -- the worse value; the first of equal values
 unfoldable pub worst_of : FaultKind → Option Measured → Option Measured → Option Measured

@@ -63,43 +63,12 @@ with_system s e = with_buffer (with_buffer s (buffer e.program kinds.TableTransp
     (buffer e.program kinds.System e.main e.main_size) e.main_excesses
 
 unfoldable pub with_event : BufferFigures → Event → BufferFigures
-with_event s (events.Input e) = s
-with_event s (events.Stream e) = s
-with_event s (events.Window e) = s
-with_event s (events.Held e) = s
-with_event s (events.Units e) = s
-with_event s (events.Excess e) = s
-with_event s (events.MainExcess e) = s
-with_event s (events.MultiplexingExcess e) = s
-with_event s (events.ElementaryExcess e) = s
-with_event s (events.SystemExcess e) = s
-with_event s (events.SystemMainExcess e) = s
-with_event s (events.Late e) = s
-with_event s (events.ElementaryLate e) = s
-with_event s (events.Ahead e) = s
-with_event s (events.PcrRepetition e) = s
-with_event s (events.PcrDiscontinuity e) = s
-with_event s (events.PcrAccuracy e) = s
-with_event s (events.TableRepetition e) = s
-with_event s (events.Unclocked e) = s
-with_event s (events.Refused e) = s
-with_event s (events.Continuity e) = s
-with_event s (events.CheckWord e) = s
 with_event s (events.Transport e) = with_buffer s (buffer e.pid kinds.Transport e.most e.size) e.excesses
 with_event s (events.Main e) = with_main s e
 with_event s (events.Multiplexing e) = with_buffer s (buffer e.pid kinds.Multiplexing e.most e.size) e.excesses
 with_event s (events.Elementary e) = with_buffer s (buffer e.pid kinds.Elementary e.most e.size) e.excesses
-with_event s (events.Marks e) = s
 with_event s (events.System e) = with_system s e
-with_event s (events.Clock e) = s
-with_event s (events.Table e) = s
-with_event s (events.Pid e) = s
-with_event s (events.Unreferenced e) = s
-with_event s (events.Missing e) = s
-with_event s (events.Check e) = s
-with_event s (events.End e) = s
-with_event s (events.Rule e) = s
-with_event s (events.Summary e) = s
+with_event s _ = s
 
 abbrev pub unit_verdict : BufferFigures → UnitVerdict
 unit_verdict s = record { units = s.units; late = s.late }

@@ -34,57 +34,12 @@ nothing varies = record { counts = no_faults; rows = no_rows; faults = 0; run = 
 -- 1. An event, with the fault that it says there is
 
 unfoldable pub is_variable_rule : RuleEvent → Bool
-is_variable_rule (rules.PtsRepetition e) = false
-is_variable_rule (rules.PidRepetition e) = false
-is_variable_rule (rules.SectionDistance e) = false
-is_variable_rule (rules.OtherTable e) = false
-is_variable_rule (rules.ScrambledTable e) = false
-is_variable_rule (rules.NoCat e) = false
-is_variable_rule (rules.NoTable e) = false
-is_variable_rule (rules.NotEmpty e) = false
-is_variable_rule (rules.Delayed e) = false
 is_variable_rule (rules.VariableRate e) = true
-is_variable_rule (rules.ClockWindow e) = false
-is_variable_rule (rules.FaultTrace e) = false
+is_variable_rule _ = false
 
 unfoldable pub is_variable : Event → Bool
-is_variable (events.Input e) = false
-is_variable (events.Stream e) = false
-is_variable (events.Window e) = false
-is_variable (events.Held e) = false
-is_variable (events.Units e) = false
-is_variable (events.Excess e) = false
-is_variable (events.MainExcess e) = false
-is_variable (events.MultiplexingExcess e) = false
-is_variable (events.ElementaryExcess e) = false
-is_variable (events.SystemExcess e) = false
-is_variable (events.SystemMainExcess e) = false
-is_variable (events.Late e) = false
-is_variable (events.ElementaryLate e) = false
-is_variable (events.Ahead e) = false
-is_variable (events.PcrRepetition e) = false
-is_variable (events.PcrDiscontinuity e) = false
-is_variable (events.PcrAccuracy e) = false
-is_variable (events.TableRepetition e) = false
-is_variable (events.Unclocked e) = false
-is_variable (events.Refused e) = false
-is_variable (events.Continuity e) = false
-is_variable (events.CheckWord e) = false
-is_variable (events.Transport e) = false
-is_variable (events.Main e) = false
-is_variable (events.Multiplexing e) = false
-is_variable (events.Elementary e) = false
-is_variable (events.Marks e) = false
-is_variable (events.System e) = false
-is_variable (events.Clock e) = false
-is_variable (events.Table e) = false
-is_variable (events.Pid e) = false
-is_variable (events.Unreferenced e) = false
-is_variable (events.Missing e) = false
-is_variable (events.Check e) = false
-is_variable (events.End e) = false
 is_variable (events.Rule e) = is_variable_rule e
-is_variable (events.Summary e) = false
+is_variable _ = false
 
 abbrev pub with_figures : SummaryState → Event → SummaryState
 with_figures s event = record {

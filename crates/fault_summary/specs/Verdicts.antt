@@ -41,43 +41,8 @@ with_check v t = record {
 }
 
 unfoldable pub with_event : CheckVerdict → Event → CheckVerdict
-with_event v (events.Input e) = v
-with_event v (events.Stream e) = v
-with_event v (events.Window e) = v
-with_event v (events.Held e) = v
-with_event v (events.Units e) = v
-with_event v (events.Excess e) = v
-with_event v (events.MainExcess e) = v
-with_event v (events.MultiplexingExcess e) = v
-with_event v (events.ElementaryExcess e) = v
-with_event v (events.SystemExcess e) = v
-with_event v (events.SystemMainExcess e) = v
-with_event v (events.Late e) = v
-with_event v (events.ElementaryLate e) = v
-with_event v (events.Ahead e) = v
-with_event v (events.PcrRepetition e) = v
-with_event v (events.PcrDiscontinuity e) = v
-with_event v (events.PcrAccuracy e) = v
-with_event v (events.TableRepetition e) = v
-with_event v (events.Unclocked e) = v
-with_event v (events.Refused e) = v
-with_event v (events.Continuity e) = v
-with_event v (events.CheckWord e) = v
-with_event v (events.Transport e) = v
-with_event v (events.Main e) = v
-with_event v (events.Multiplexing e) = v
-with_event v (events.Elementary e) = v
-with_event v (events.Marks e) = v
-with_event v (events.System e) = v
-with_event v (events.Clock e) = v
-with_event v (events.Table e) = v
-with_event v (events.Pid e) = v
-with_event v (events.Unreferenced e) = v
-with_event v (events.Missing e) = v
 with_event v (events.Check e) = with_check v e
-with_event v (events.End e) = v
-with_event v (events.Rule e) = v
-with_event v (events.Summary e) = v
+with_event v _ = v
 
 unfoldable pub with_events : CheckVerdict → List Event → CheckVerdict
 with_events v [] = v

@@ -33,6 +33,7 @@ impl<A: Allocator> Model for PidWindow<A> {
 }
 
 // Returns these counts with one more packet. They stop at 2^64 - 1.
+#[inline(always)]
 #[tactic(auto, unfolding(crate::specs::Windows::with_one))]
 fn with_one(counts: PidCounts, pcr: bool) -> PidCounts
     ensures { result ≡ with_one counts pcr }
@@ -49,6 +50,7 @@ fn with_one(counts: PidCounts, pcr: bool) -> PidCounts
 }
 
 // Counts a packet of the PID at an index.
+#[inline(always)]
 fn count_at<A: Allocator>(counts: &mut PidMap<PidCounts, A>, index: usize, pcr: bool)
     requires { index < index_map_len counts.old }
     ensures { (before : PidCounts) → slice_get (values counts.old) index ≡ Some before →
@@ -59,6 +61,7 @@ fn count_at<A: Allocator>(counts: &mut PidMap<PidCounts, A>, index: usize, pcr: 
 }
 
 // Counts a packet of a PID.
+#[inline(always)]
 #[tactic(auto, unfolding(crate::specs::Windows::counts_or_zero), using(crate::proofs::CountedPids::counted_there, crate::proofs::CountedPids::counts_there))]
 fn count<A: Allocator + Clone>(
     counts: &mut PidMap<PidCounts, A>,
@@ -112,6 +115,7 @@ impl<A: Allocator + Copy> PidWindow<A> {
     /// the counts of the last window are forgotten.
     ///
     /// After an `AllocError` the window describes no packets: drop it.
+    #[inline(always)]
     #[tactic(auto, unfolding(crate::specs::Windows::counts_in))]
     pub fn take(&mut self, window: u64, pid: u16, pcr: bool) -> Result<(), AllocError>
         ensures { OnOk result (self.new ≡ taken self.old window pid pcr) }

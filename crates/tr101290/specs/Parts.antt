@@ -2,9 +2,7 @@
 -- event (ETSI TR 101 290, 5.2.3, 3.6.a and 3.6.b; ETSI EN 300 468, 5.2.4); the map of each program, if programs share a PID for
 -- their maps (TR 101 290, 5.2.1, 1.5.a; ISO/IEC 13818-1, 2.4.4.8).
 use Rattle.std.specs.Prelude.{ℕ, ◌+◌, ◌*◌, ◌==◌, ◌&&◌, ◌||◌, Bool, if◌then◌else◌, List, slice_index, Option, Some, None}
-use Rattle.pid_findings.specs.Views.{WhatView, IsDuplicate, BreaksCounter, IsScrambled, IsTruncated, IsSection, IsBadSection, IsPes, IsBadPes, IsBadPacket}
-use Rattle.pid_findings.specs.Views.{IsErrored}
-use Rattle.pid_findings.specs.Views.{IsStray}
+use Rattle.pid_findings.specs.Views.{WhatView, IsSection}
 
 abbrev pub is_map : ℕ → Bool
 is_map table_id = table_id == 0x02
@@ -22,13 +20,4 @@ part_in table_id bytes = if is_map table_id then slice_index bytes 3 * 256 + sli
 -- the part of a section; what does not become whole is of no part
 unfoldable pub part_of : ℕ → ℕ → WhatView → Option ℕ
 part_of pid table_id (IsSection bytes) = if has_parts pid table_id then Some (part_in table_id bytes) else None
-part_of pid table_id IsDuplicate = None
-part_of pid table_id (BreaksCounter expected found) = None
-part_of pid table_id IsScrambled = None
-part_of pid table_id (IsTruncated bytes) = None
-part_of pid table_id (IsBadSection error) = None
-part_of pid table_id (IsPes header unended body) = None
-part_of pid table_id (IsBadPes error) = None
-part_of pid table_id (IsBadPacket error) = None
-part_of pid table_id IsErrored = None
-part_of pid table_id (IsStray size) = None
+part_of pid table_id _ = None

@@ -3,8 +3,7 @@
 use Rattle.std.specs.Prelude.{ℕ, ◌+◌, ◌*◌, nat_lt, if◌then◌else◌, List, slice_index, Option, Some, None}
 use Rattle.pid_findings.specs.declared.finding.Kind.{Kind}
 use Rattle.pid_findings.specs.declared.finding.Kind.TheVariants.{Table, Pes}
-use Rattle.pid_findings.specs.Views.{FindingView, WhatView, IsDuplicate, BreaksCounter, IsScrambled, IsTruncated, IsSection, IsBadSection, IsPes, IsBadPes}
-use Rattle.pid_findings.specs.Views.{IsBadPacket, IsErrored, IsStray}
+use Rattle.pid_findings.specs.Views.{FindingView, WhatView, IsSection}
 use Rattle.tr101290.specs.Parts.{part_of}
 use Rattle.tr101290.specs.declared.distances.WholeSection.{WholeSection}
 use Rattle.tr101290.specs.declared.intervals.SectionBegin.{SectionBegin}
@@ -27,16 +26,7 @@ extension_in bytes = if nat_lt (slice_index bytes 1) 128 then 0 else slice_index
 
 unfoldable pub extension_of : WhatView → Option ℕ
 extension_of (IsSection bytes) = Some (extension_in bytes)
-extension_of IsDuplicate = None
-extension_of (BreaksCounter expected found) = None
-extension_of IsScrambled = None
-extension_of (IsTruncated bytes) = None
-extension_of (IsBadSection error) = None
-extension_of (IsPes header unended body) = None
-extension_of (IsBadPes error) = None
-extension_of (IsBadPacket error) = None
-extension_of IsErrored = None
-extension_of (IsStray size) = None
+extension_of _ = None
 
 unfoldable pub whole_by : Option SectionBegin → Option ℕ → ℕ → Option WholeSection
 whole_by None extension end = None

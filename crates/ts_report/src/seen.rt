@@ -297,6 +297,7 @@ impl Seen {
     }
 
     /// Returns the window where the next packet begins.
+    #[inline(always)]
     pub fn next_window(&self) -> u64
         ensures { result ≡ spec.next_window self.now }
     {

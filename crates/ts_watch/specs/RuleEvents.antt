@@ -125,23 +125,8 @@ is_scrambled packet = not (packet.header.transport_scrambling_control == 0)
 
 unfoldable pub is_map : PidName → Bool
 is_map names.Pat = true
-is_map names.Cat = false
-is_map names.Nit = false
-is_map names.Sdt = false
-is_map names.Eit = false
-is_map names.Tdt = false
-is_map names.Null = false
 is_map names.Pmt = true
-is_map names.Pcr = false
-is_map names.Mpeg2 = false
-is_map names.Avc = false
-is_map names.Hevc = false
-is_map names.Audio = false
-is_map names.Aac = false
-is_map names.Ac3 = false
-is_map names.Subtitles = false
-is_map names.Teletext = false
-is_map names.Other = false
+is_map _ = false
 
 abbrev pub scrambled_events : ℕ → NamedView → PacketView → List Event
 scrambled_events index named packet =

@@ -7,8 +7,7 @@ use Rattle.psi_tables.specs.ProgramMap.{PmtView, StreamView, pmt_at}
 use Rattle.psi_tables.specs.Reading.{section_at}
 use Rattle.psi_tables.specs.Views.{SectionView}
 use Rattle.psi_tables.specs.declared.error.SectionError.{SectionError}
-use Rattle.pid_findings.specs.Views.{FindingView, WhatView, IsDuplicate, BreaksCounter, IsScrambled, IsTruncated, IsSection, IsBadSection, IsPes, IsBadPes}
-use Rattle.pid_findings.specs.Views.{IsBadPacket, IsErrored, IsStray}
+use Rattle.pid_findings.specs.Views.{FindingView, WhatView, IsSection}
 use Rattle.stream_programs.specs.FreePids.{is_taken}
 
 -- 1. A section
@@ -72,17 +71,8 @@ with_pids pids [] = pids
 with_pids pids (pid ∷ more) = with_pids (with_pid pids pid) more
 
 unfoldable pub with_found : List ℕ → WhatView → List ℕ
-with_found pids IsDuplicate = pids
-with_found pids (BreaksCounter expected found) = pids
-with_found pids IsScrambled = pids
-with_found pids (IsTruncated bytes) = pids
 with_found pids (IsSection bytes) = with_pids pids (section_pids bytes)
-with_found pids (IsBadSection error) = pids
-with_found pids (IsPes header unended bytes) = pids
-with_found pids (IsBadPes error) = pids
-with_found pids (IsBadPacket error) = pids
-with_found pids IsErrored = pids
-with_found pids (IsStray size) = pids
+with_found pids _ = pids
 
 unfoldable pub with_each : List ℕ → List FindingView → List ℕ
 with_each pids [] = pids

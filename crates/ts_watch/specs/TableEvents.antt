@@ -5,8 +5,7 @@ use Rattle.std.specs.Prelude.{◌==◌, ◌&&◌, ◌||◌, not, Option, Some, N
 use Rattle.arrival.specs.Arrivals.{moment_on}
 use Rattle.arrival.specs.declared.arrival.Arrival.{Arrival}
 use Rattle.arrival.specs.declared.arrival.Arrival.TheVariants.{Unknown, AtRate, OnLines}
-use Rattle.pid_findings.specs.Views.{FindingView, WhatView, IsDuplicate, BreaksCounter, IsScrambled, IsTruncated, IsSection, IsBadSection, IsPes, IsBadPes}
-use Rattle.pid_findings.specs.Views.{IsBadPacket, IsErrored, IsStray}
+use Rattle.pid_findings.specs.Views.{FindingView, WhatView, IsSection, IsBadSection}
 use Rattle.psi_tables.specs.CheckWord.{check_word}
 use Rattle.psi_tables.specs.declared.error.SectionError.TheVariants as refusals
 use Rattle.demux.specs.Stream.{StreamState, start, pushed}
@@ -123,32 +122,13 @@ distance_events d (Some w) = soon_events (distances.error_at d w)
 
 -- a section whose check word is wrong (ETSI TR 101 290, 5.2.2, 2.2)
 unfoldable pub is_wrong : WhatView → Bool
-is_wrong IsDuplicate = false
-is_wrong (BreaksCounter expected found) = false
-is_wrong IsScrambled = false
-is_wrong (IsTruncated bytes) = false
-is_wrong (IsSection bytes) = false
 is_wrong (IsBadSection refusals.CheckWord) = true
-is_wrong (IsBadSection _) = false
-is_wrong (IsPes header unended bytes) = false
-is_wrong (IsBadPes error) = false
-is_wrong (IsBadPacket error) = false
-is_wrong IsErrored = false
-is_wrong (IsStray size) = false
+is_wrong _ = false
 
 -- a whole section that does not end with its check word
 unfoldable pub has_wrong_word : WhatView → Bool
-has_wrong_word IsDuplicate = false
-has_wrong_word (BreaksCounter expected found) = false
-has_wrong_word IsScrambled = false
-has_wrong_word (IsTruncated bytes) = false
 has_wrong_word (IsSection bytes) = not (check_word bytes == 0)
-has_wrong_word (IsBadSection error) = false
-has_wrong_word (IsPes header unended bytes) = false
-has_wrong_word (IsBadPes error) = false
-has_wrong_word (IsBadPacket error) = false
-has_wrong_word IsErrored = false
-has_wrong_word (IsStray size) = false
+has_wrong_word _ = false
 
 -- such a time offset table: it has a check word, though its section_syntax_indicator is 0 (ETSI EN 300 468, 5.2.6)
 unfoldable pub is_wrong_offset : Option SectionBegin → WhatView → Bool

@@ -13,6 +13,7 @@ use std::alloc::{AllocError, Global};
 use ts_tables::{NamedStreams, ServiceNames};
 
 // Returns the window of the first byte of a packet at a constant rate.
+#[inline(always)]
 fn window_at_rate(rate: Rate, window: u32, index: u64) -> u64
     ensures { result ≡ min (index * 1504000 / max 1 (rate * window)) (2 ^ 64 - 1) }
 {
@@ -26,6 +27,7 @@ fn window_at_rate(rate: Rate, window: u32, index: u64) -> u64
 }
 
 /// Returns the window of the first byte of a packet.
+#[inline(always)]
 #[tactic(auto, unfolding(crate::specs::WindowEvents::window_by))]
 pub fn window_of(options: &ViewOptions, index: u64) -> u64
     ensures { result ≡ spec.window_of options.now index }

@@ -145,7 +145,7 @@ bounded_least None n = (n, refl, omega arith)
 bounded_least (Some l) n = (min l n, refl, omega arith)
 
 -- While no byte leaves, no byte finds fewer than the first byte finds.
-together_found : (after : ℕ → ℕ) (until limit now n m : ℕ) (ts us : List ℕ) → m ≤ now → ((x : ℕ) → x < limit → after x ≡ now) → All (λ s. s < limit) ts →
+pub together_found : (after : ℕ → ℕ) (until limit now n m : ℕ) (ts us : List ℕ) → m ≤ now → ((x : ℕ) → x < limit → after x ≡ now) → All (λ s. s < limit) ts →
     least_found after until n (Some m) (ts ++ us) ≡ least_found after until (n + length ts) (Some m) us
 unfolding least_found lesser
 together_found after until limit now n m [] us le same all = let e : n + 0 ≡ n = omega arith in rw e refl

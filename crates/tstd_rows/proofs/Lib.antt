@@ -3,6 +3,7 @@ pub mod MostFound
 pub mod Levels
 pub mod Rising
 pub mod OverBytes
+pub mod Arrivals
 pub mod ExcessBytes
 pub mod ExcessMoments
 pub mod SoonRows
@@ -10,6 +11,7 @@ pub mod RowEntries
 pub mod Pieces
 pub mod Least
 pub mod LeavingBytes
+pub mod Together
 pub mod Views
 pub mod UnitBytes
 pub mod ConstantRates

@@ -10,6 +10,7 @@ use std::collections::VecDeque;
 use tstd::BufferedUnit;
 
 // Returns when the last of `count` bytes goes, if there is room for them from `until` on.
+#[inline(always)]
 #[tactic(auto, using(crate::proofs::RoomRows::gone_none, crate::proofs::RoomRows::gone_some))]
 fn gone(last: u128, until: u128, leak: u64, count: u64) -> u128
     ensures { result ≡ capped (last_left leak last (replicate count until)) }
@@ -38,6 +39,7 @@ impl EbRooms {
     }
 
     /// Frees the room whose time has come by `now`; no later byte goes before `now`.
+    #[inline(always)]
     pub fn settle(&mut self, now: u128)
         ensures rooms { (from : ℕ) → now ≤ from → raised from (rooms_now self.new) ≡ raised from (rooms_now self.old) }
         ensures many { length (rooms_now self.new) ≡ length (rooms_now self.old) }
@@ -54,6 +56,7 @@ impl EbRooms {
     }
 
     // Lets up to `count` bytes go into the room that is free at once; returns how many bytes remain.
+    #[inline(always)]
     fn take_free(&mut self, leak: u64, count: u64) -> u64
         ensures rest { result ≡ count - self.old.free }
         ensures free { self.new.free ≡ self.old.free - count }
@@ -91,6 +94,7 @@ impl EbRooms {
     }
 
     /// Takes `count` bytes of the current unit, which go when there is room.
+    #[inline(always)]
     pub fn take(&mut self, leak: u64, count: u64)
         ensures rooms { rooms_now self.new ≡ drop count (rooms_now self.old ++ replicate count self.old.current.until) }
         ensures last { self.new.last

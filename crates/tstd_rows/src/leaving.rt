@@ -1,6 +1,7 @@
 //! Bytes that leave a buffer.
-ghost use Rattle.std.specs.Prelude.{◌≡◌, ℕ, ◌+◌, ◌-◌, ◌*◌, ◌/◌, ◌<◌, ◌≤◌, ◌^◌, max};
+ghost use Rattle.std.specs.Prelude.{◌≡◌, ℕ, ◌+◌, ◌-◌, ◌*◌, ◌/◌, ◌<◌, ◌≤◌, ◌^◌, max, true};
 ghost use Rattle.clock27.specs.Departure.{departures, last_left};
+ghost use Rattle.clock27.specs.Peak.{most_found};
 ghost use Rattle.arrival.specs.Rows.{IsTimed, times_of};
 ghost use Rattle.tstd_rows.specs.Buffers.{IsSoon, RowsSoon, times_left, waiting_row, free_row};
 
@@ -97,6 +98,43 @@ fn leave_slow(step: u64, prev: u128, row: &Row) -> Leaving
         prev + u128::from(count) * u128::from(step)
     };
     leaving_rows(step, prev, row, count, last)
+}
+
+/// Returns whether the bytes of a row arrive no faster than they leave, and the first of them after the byte before the
+/// row has left: then each byte finds the buffer empty.
+#[inline(always)]
+pub(crate) fn finds_empty(step: u64, prev: u128, row: &Row) -> bool
+    requires step { step ≤ 2 ^ 40 }
+    requires prev { prev ≤ 2 ^ 86 + 2 ^ 81 }
+    requires timed { IsTimed row.now }
+    ensures slow { result ≡ true → step * row.now.parts ≤ row.now.pace }
+    ensures after { result ≡ true → (prev + 1) * row.now.parts ≤ row.now.from }
+{
+    let parts = u128::from(row.parts);
+    u128::from(step) * parts <= u128::from(row.pace) && (prev + 1) * parts <= row.from
+}
+
+/// Returns how bytes leave that find the buffer empty: each a step after it arrives.
+#[inline(always)]
+pub(crate) fn leave_at_once(step: u64, prev: u128, row: &Row) -> Leaving
+    requires some { 0 < step }
+    requires step { step ≤ 2 ^ 40 }
+    requires prev { prev ≤ 2 ^ 86 + 2 ^ 81 }
+    requires timed { IsTimed row.now }
+    requires soon { IsSoon row.now }
+    requires bytes { 0 < row.now.bytes }
+    requires count { row.now.bytes ≤ 2 ^ 40 }
+    requires slow { step * row.now.parts ≤ row.now.pace }
+    requires after { (prev + 1) * row.now.parts ≤ row.now.from }
+    ensures left { times_left result ≡ departures step prev (times_of row.now) }
+    ensures last { result.last ≡ last_left step prev (times_of row.now) }
+    ensures timed { IsTimed result.waiting × IsTimed result.free }
+    ensures soon { (latest : ℕ) → prev ≤ latest → row.now.from + row.now.bytes * row.now.pace ≤ latest * row.now.parts →
+        RowsSoon step latest row.now.bytes result }
+    ensures most { most_found step prev (times_of row.now) ≡ 1 }
+{
+    let last = row.time(row.bytes - 1) + u128::from(step);
+    leaving_rows(step, prev, row, 0, last)
 }
 
 /// Returns when the bytes of a row leave, each `step` after it arrived or after the byte before it left, whichever is

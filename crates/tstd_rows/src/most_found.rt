@@ -7,6 +7,7 @@ use arrival::Row;
 
 /// Returns the number of bytes in a buffer when a byte arrives at `time`, including this byte, if the byte before it
 /// leaves at `prev`.
+#[inline(always)]
 pub(crate) fn found(step: u64, prev: u128, time: u128) -> u128
     requires some { 0 < step }
     requires prev { prev < 2 ^ 100 }

@@ -1,5 +1,5 @@
 //! Bytes that arrive at the transport buffer.
-ghost use Rattle.std.specs.Prelude.{◌≡◌, ℕ, ◌+◌, ◌*◌, ◌≤◌, None};
+ghost use Rattle.std.specs.Prelude.{◌≡◌, ℕ, ◌+◌, ◌*◌, ◌≤◌, None, true};
 ghost use Rattle.clock27.specs.Departure.{departures};
 ghost use Rattle.clock27.specs.Peak.{most_found};
 ghost use Rattle.arrival.specs.Rows.{IsTimed, times_of};
@@ -7,7 +7,7 @@ ghost use Rattle.tstd_rows.specs.Buffers.{IsPaced, LeaveSoon, entered, times_lef
 ghost use Rattle.tstd_rows.specs.Arriving.{CanArrive, HaveArrived};
 
 use crate::excess::{Excess, ExcessWatch};
-use crate::leaving::Leaving;
+use crate::leaving::{Leaving, finds_empty};
 use crate::transport_buffer::TransportBuffer;
 use arrival::Row;
 
@@ -63,7 +63,50 @@ fn see(
         }
         return;
     }
-    see_over(watch, buffer, row, ended);
+    // Copies, made here alone: so both stay out of memory where they are not needed.
+    let (buffer, row) = (*buffer, *row);
+    see_over(watch, &buffer, &row, ended);
+}
+
+// Returns whether each byte of a row finds the buffer empty, and there is no current excess.
+#[inline(always)]
+fn is_quiet(transport: &TransportBuffer, watch: &ExcessWatch, row: &Row) -> bool
+    requires { CanArrive transport.now watch.now row.now }
+    ensures slow { result ≡ true → transport.now.step * row.now.parts ≤ row.now.pace }
+    ensures after { result ≡ true → (transport.now.last + 1) * row.now.parts ≤ row.now.from }
+    ensures none { result ≡ true → watch.now.under_way ≡ None }
+{
+    watch.under_way.is_none() && finds_empty(transport.step, transport.last, row)
+}
+
+// Takes bytes that may wait in the buffer. A call of its own: its code is large, and many bytes find the buffer empty.
+#[inline(never)]
+fn arrive_in_turn(
+    transport: &mut TransportBuffer,
+    watch: &mut ExcessWatch,
+    row: &Row,
+    ended: &mut Option<Excess>,
+) -> Arrived
+    requires can { CanArrive transport.old watch.old row.now }
+    requires none { ended.old ≡ None }
+    ensures buffer { transport.new ≡ entered transport.old (times_of row.now) }
+    ensures paced { IsPaced transport.new }
+    ensures most { result.most ≡ most_found transport.old.step transport.old.last (times_of row.now) }
+    ensures arrived { HaveArrived transport.old (times_of row.now) watch.old watch.new ended.new }
+    ensures left { times_left result.leaving ≡ departures transport.old.step transport.old.last (times_of row.now) }
+    ensures last { result.leaving.last ≡ transport.new.last }
+    ensures timed { IsTimed result.leaving.waiting × IsTimed result.leaving.free }
+    ensures soon { (latest : ℕ) → transport.old.last ≤ latest + transport.old.bytes * transport.old.step →
+        row.now.from + row.now.bytes * row.now.pace ≤ latest * row.now.parts →
+        LeaveSoon transport.new.step transport.new.bytes transport.new.last result.leaving latest }
+{
+    let buffer = *transport;
+    transport.most = 0;
+    let leaving = transport.enter(row);
+    let most = transport.most;
+    transport.most = buffer.most.max(most);
+    see(watch, &buffer, row, most, ended);
+    Arrived { most, leaving }
 }
 
 /// Takes the bytes of a row that arrive. Writes the excess that has ended into `ended`, which must be empty.
@@ -81,16 +124,17 @@ pub(crate) fn arrive(
     ensures most { result.most ≡ most_found transport.old.step transport.old.last (times_of row.now) }
     ensures arrived { HaveArrived transport.old (times_of row.now) watch.old watch.new ended.new }
     ensures left { times_left result.leaving ≡ departures transport.old.step transport.old.last (times_of row.now) }
+    ensures last { result.leaving.last ≡ transport.new.last }
     ensures timed { IsTimed result.leaving.waiting × IsTimed result.leaving.free }
     ensures soon { (latest : ℕ) → transport.old.last ≤ latest + transport.old.bytes * transport.old.step →
         row.now.from + row.now.bytes * row.now.pace ≤ latest * row.now.parts →
         LeaveSoon transport.new.step transport.new.bytes transport.new.last result.leaving latest }
 {
-    let buffer = *transport;
-    transport.most = 0;
-    let leaving = transport.enter(row);
-    let most = transport.most;
-    transport.most = buffer.most.max(most);
-    see(watch, &buffer, row, most, ended);
-    Arrived { most, leaving }
+    if is_quiet(transport, watch, row) {
+        let leaving = transport.enter_at_once(row);
+        return Arrived { most: 1, leaving };
+    }
+    // A copy, made here alone: so the row stays out of memory where it is not needed.
+    let row = *row;
+    arrive_in_turn(transport, watch, &row, ended)
 }

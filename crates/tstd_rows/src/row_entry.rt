@@ -13,8 +13,9 @@ use tstd::MainBuffer;
 // No byte of a row comes after this.
 const LAST_TIME: u128 = 1 << 87;
 
-// Adds `count` bytes of the current unit to the buffer.
-fn add<A: Allocator>(buffer: &mut MainBuffer<A>, count: u64)
+/// Adds `count` bytes of the current unit to the buffer.
+#[inline(always)]
+pub(crate) fn add<A: Allocator>(buffer: &mut MainBuffer<A>, count: u64)
     requires sound { IsSound buffer.old }
     requires room { buffer.old.fullness + count < 2 ^ 64 }
     ensures sound { IsSound buffer.new }

@@ -101,6 +101,7 @@ impl VideoBuffers {
     }
 
     /// Takes payload bytes that leave the transport buffer; writes the results into `into`, which must be empty.
+    #[inline(always)]
     pub fn take(&mut self, leaving: &Leaving, into: &mut VideoEntered)
         requires timed { IsTimed leaving.now.waiting × IsTimed leaving.now.free }
         requires soon { IsSoon leaving.now.waiting × IsSoon leaving.now.free }
@@ -249,7 +250,11 @@ pub(crate) fn take_video(
 {
     match video {
         None => {}
-        Some(video) => video.take(leaving, into),
+        Some(video) => {
+            // A copy, made here alone: so the rows of other streams stay out of memory.
+            let rows = *leaving;
+            video.take(&rows, into);
+        }
     }
 }
 

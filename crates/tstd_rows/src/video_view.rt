@@ -35,6 +35,7 @@ pub fn leak_step(step: u64, rx: u32, rbx: u32) -> u64
 
 impl<A: Allocator> StreamView<A> {
     // Takes bytes of one row that left the transport buffer.
+    #[inline(always)]
     fn leak_row(&mut self, row: &Row, ended: &mut Option<Excess>) -> VideoFound
         requires timed { IsTimed row.now }
         requires soon { IsSoon row.now }
@@ -65,10 +66,52 @@ impl<A: Allocator> StreamView<A> {
         }
     }
 
+    // Takes bytes if the first of them waited in the transport buffer. A call of its own: its code is large, and many
+    // rows have no such byte.
+    #[inline(never)]
+    fn leak_waiting(
+        &mut self,
+        leaving: &Leaving,
+        waiting: &mut Option<Excess>,
+        free: &mut Option<Excess>,
+    ) -> VideoFound
+        requires timed { IsTimed leaving.now.waiting × IsTimed leaving.now.free }
+        requires soon { IsSoon leaving.now.waiting × IsSoon leaving.now.free }
+        requires waits { 0 < leaving.now.waiting.bytes }
+        requires count { self.old.transport.bytes + (leaving.now.waiting.bytes + leaving.now.free.bytes) ≤ 2 ^ 40 }
+        requires none { waiting.old ≡ None }
+        requires none_free { free.old ≡ None }
+        ensures view { (parts : List Part) → IsViewOf self.old parts →
+            IsViewOf self.new (Carries (times_left leaving.now) ∷ parts) }
+        ensures multiplexing { result.multiplexing
+            ≡ most_found self.old.transport.step self.old.transport.last (times_left leaving.now) }
+        ensures elementary { (parts : List Part) → IsViewOf self.old parts → result.elementary
+            ≡ greatest_at (main_fullness self.old.transport.step (Carries (times_left leaving.now) ∷ parts))
+            (left_after self.old.transport.step parts (times_left leaving.now)) }
+        ensures ended { option_to_list waiting.new ++ option_to_list free.new
+            ≡ excesses_ended self.old.transport.step self.old.watch.size self.old.transport.last
+            self.old.watch.under_way (times_left leaving.now) }
+        ensures step { self.new.transport.step ≡ self.old.transport.step }
+        ensures size { self.new.watch.size ≡ self.old.watch.size }
+        ensures bytes { self.new.transport.bytes
+            ≡ self.old.transport.bytes + (leaving.now.waiting.bytes + leaving.now.free.bytes) }
+    {
+        if leaving.free.bytes == 0 {
+            return self.leak_row(&leaving.waiting, waiting);
+        }
+        let first = self.leak_row(&leaving.waiting, waiting);
+        let second = self.leak_row(&leaving.free, free);
+        VideoFound {
+            multiplexing: first.multiplexing.max(second.multiplexing),
+            elementary: first.elementary.max(second.elementary),
+        }
+    }
+
     /// Takes the bytes of a row of video as they leave its transport buffer. They enter the multiplexing buffer, which
     /// is this view's transport buffer, and then the elementary stream buffer, which is its main buffer. Returns what
     /// they found. Writes the excesses of the multiplexing buffer that have ended into empty places: before a byte
     /// that waited in the transport buffer, and before a byte that found it empty.
+    #[inline(always)]
     pub fn leak(
         &mut self,
         leaving: &Leaving,
@@ -96,17 +139,9 @@ impl<A: Allocator> StreamView<A> {
         ensures bytes { self.new.transport.bytes
             ≡ self.old.transport.bytes + (leaving.now.waiting.bytes + leaving.now.free.bytes) }
     {
-        if leaving.free.bytes == 0 {
-            return self.leak_row(&leaving.waiting, waiting);
-        }
         if leaving.waiting.bytes == 0 {
             return self.leak_row(&leaving.free, free);
         }
-        let first = self.leak_row(&leaving.waiting, waiting);
-        let second = self.leak_row(&leaving.free, free);
-        VideoFound {
-            multiplexing: first.multiplexing.max(second.multiplexing),
-            elementary: first.elementary.max(second.elementary),
-        }
+        self.leak_waiting(leaving, waiting, free)
     }
 }

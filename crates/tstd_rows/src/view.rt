@@ -24,6 +24,7 @@ use std::alloc::{AllocError, Allocator};
 use tstd::MainBuffer;
 
 // Adds `count` bytes to a unit; its last byte leaves at `left`.
+#[inline(always)]
 fn add_bytes(unit: &mut Option<UnitSeen>, count: u64, left: u128)
     requires { IfSome unit.old (λ u. u.bytes + count < 2 ^ 64) }
     ensures { unit.new ≡ with_bytes unit.old count left }

@@ -2,11 +2,7 @@
 use Rattle.std.specs.Prelude.{◌≡◌, ℕ, Bool, List, [], ◌∷◌, Option, None}
 use Rattle.events.specs.declared.event.Event.{Event}
 use Rattle.events.specs.declared.timed_event.TimedEvent.{TimedEvent}
-use Rattle.events.specs.declared.event.Event.TheVariants.{Input, Stream, Window, Held, Units, Excess, MainExcess, MultiplexingExcess, ElementaryExcess}
-use Rattle.events.specs.declared.event.Event.TheVariants.{SystemExcess, SystemMainExcess, Late, ElementaryLate, Ahead, PcrRepetition, PcrDiscontinuity}
-use Rattle.events.specs.declared.event.Event.TheVariants.{PcrAccuracy, TableRepetition, Unclocked, Refused, Continuity, CheckWord, Transport, Main}
-use Rattle.events.specs.declared.event.Event.TheVariants.{Multiplexing, Elementary, Marks, System, Clock, Table, Pid, Unreferenced, Missing, Check, End, Rule}
-use Rattle.events.specs.declared.event.Event.TheVariants.{Summary}
+use Rattle.events.specs.declared.event.Event.TheVariants.{End}
 use Rattle.events.specs.declared.event.ReportEnd.{ReportEnd}
 use Rattle.view_page.specs.declared.page.Page.{Page}
 use Rattle.page_curves.specs.PidLabels.{LabelsState, no_labels}
@@ -59,42 +55,7 @@ no_events millis rate stamps = record {
 
 unfoldable pub end_after : ReportEnd → Event → ReportEnd
 end_after end (End e) = e
-end_after end (Input e) = end
-end_after end (Stream e) = end
-end_after end (Window e) = end
-end_after end (Held e) = end
-end_after end (Units e) = end
-end_after end (Excess e) = end
-end_after end (MainExcess e) = end
-end_after end (MultiplexingExcess e) = end
-end_after end (ElementaryExcess e) = end
-end_after end (SystemExcess e) = end
-end_after end (SystemMainExcess e) = end
-end_after end (Late e) = end
-end_after end (ElementaryLate e) = end
-end_after end (Ahead e) = end
-end_after end (PcrRepetition e) = end
-end_after end (PcrDiscontinuity e) = end
-end_after end (PcrAccuracy e) = end
-end_after end (TableRepetition e) = end
-end_after end (Unclocked e) = end
-end_after end (Refused e) = end
-end_after end (Continuity e) = end
-end_after end (CheckWord e) = end
-end_after end (Transport e) = end
-end_after end (Main e) = end
-end_after end (Multiplexing e) = end
-end_after end (Elementary e) = end
-end_after end (Marks e) = end
-end_after end (System e) = end
-end_after end (Clock e) = end
-end_after end (Table e) = end
-end_after end (Pid e) = end
-end_after end (Unreferenced e) = end
-end_after end (Missing e) = end
-end_after end (Check e) = end
-end_after end (Rule e) = end
-end_after end (Summary e) = end
+end_after end _ = end
 
 abbrev pub with_end : PageState → Event → PageState
 with_end s event = record s { end = end_after s.end event }

@@ -3,11 +3,7 @@ use Rattle.std.specs.Prelude.{◌≡◌, ℕ, ◌+◌, ◌-◌, ◌^◌, ◌==�
 use Rattle.std.specs.Map.{lookup}
 use Rattle.indexmap.specs.IndexMap.{insert_entry}
 use Rattle.events.specs.declared.event.Event.{Event}
-use Rattle.events.specs.declared.event.Event.TheVariants.{Input, Stream, Window, Held, Units, Excess, MainExcess, MultiplexingExcess, ElementaryExcess}
-use Rattle.events.specs.declared.event.Event.TheVariants.{SystemExcess, SystemMainExcess, Late, ElementaryLate, Ahead, PcrRepetition, PcrDiscontinuity}
-use Rattle.events.specs.declared.event.Event.TheVariants.{PcrAccuracy, TableRepetition, Unclocked, Refused, Continuity, CheckWord, Transport, Main}
-use Rattle.events.specs.declared.event.Event.TheVariants.{Multiplexing, Elementary, Marks, System, Clock, Table, Pid, Unreferenced, Missing, Check, End, Rule}
-use Rattle.events.specs.declared.event.Event.TheVariants.{Summary}
+use Rattle.events.specs.declared.event.Event.TheVariants.{Window, End}
 use Rattle.events.specs.Windows.{WindowView}
 use Rattle.events.specs.declared.pid_name.PidName.TheVariants.{Other}
 use Rattle.page_curves.specs.Curves.{sample}
@@ -101,39 +97,5 @@ with_line kept w = with_rate (ended_unless w.number kept) w
 
 unfoldable pub with_event : KeptServices → Event → KeptServices
 with_event kept (Window w) = with_line kept w
-with_event kept (Input e) = kept
-with_event kept (Stream e) = kept
-with_event kept (Held e) = kept
-with_event kept (Units e) = kept
-with_event kept (Excess e) = kept
-with_event kept (MainExcess e) = kept
-with_event kept (MultiplexingExcess e) = kept
-with_event kept (ElementaryExcess e) = kept
-with_event kept (SystemExcess e) = kept
-with_event kept (SystemMainExcess e) = kept
-with_event kept (Late e) = kept
-with_event kept (ElementaryLate e) = kept
-with_event kept (Ahead e) = kept
-with_event kept (PcrRepetition e) = kept
-with_event kept (PcrDiscontinuity e) = kept
-with_event kept (PcrAccuracy e) = kept
-with_event kept (TableRepetition e) = kept
-with_event kept (Unclocked e) = kept
-with_event kept (Refused e) = kept
-with_event kept (Continuity e) = kept
-with_event kept (CheckWord e) = kept
-with_event kept (Transport e) = kept
-with_event kept (Main e) = kept
-with_event kept (Multiplexing e) = kept
-with_event kept (Elementary e) = kept
-with_event kept (Marks e) = kept
-with_event kept (System e) = kept
-with_event kept (Clock e) = kept
-with_event kept (Table e) = kept
-with_event kept (Pid e) = kept
-with_event kept (Unreferenced e) = kept
-with_event kept (Missing e) = kept
-with_event kept (Check e) = kept
 with_event kept (End e) = ended kept
-with_event kept (Rule e) = kept
-with_event kept (Summary e) = kept
+with_event kept _ = kept

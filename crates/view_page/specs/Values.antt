@@ -1,11 +1,7 @@
 -- The curves of the page, by the events that have come and nothing else.
 use Rattle.std.specs.Prelude.{◌≡◌, ℕ, ◌+◌, ◌-◌, ◌*◌, ◌/◌, ◌^◌, ◌==◌, ◌&&◌, min, max, not, is_some, Bool, if◌then◌else◌, List, [], Option, Some, None}
 use Rattle.events.specs.declared.event.Event.{Event}
-use Rattle.events.specs.declared.event.Event.TheVariants.{Input, Stream, Window, Held, Units, Excess, MainExcess, MultiplexingExcess, ElementaryExcess}
-use Rattle.events.specs.declared.event.Event.TheVariants.{SystemExcess, SystemMainExcess, Late, ElementaryLate, Ahead, PcrRepetition, PcrDiscontinuity}
-use Rattle.events.specs.declared.event.Event.TheVariants.{PcrAccuracy, TableRepetition, Unclocked, Refused, Continuity, CheckWord, Transport, Main}
-use Rattle.events.specs.declared.event.Event.TheVariants.{Multiplexing, Elementary, Marks, System, Clock, Table, Pid, Unreferenced, Missing, Check, End, Rule}
-use Rattle.events.specs.declared.event.Event.TheVariants.{Summary}
+use Rattle.events.specs.declared.event.Event.TheVariants.{Stream, Window, Held, Units, Rule}
 use Rattle.events.specs.declared.event.HeldFigures.{HeldFigures}
 use Rattle.events.specs.declared.rule_event.ClockFigures.{ClockFigures}
 use Rattle.events.specs.declared.rule_event.RuleEvent.{RuleEvent}
@@ -133,53 +129,12 @@ with_clock v e = if e.interval == 0 then v else with_figures v e
 
 unfoldable pub with_rule : KeptValues → RuleEvent → KeptValues
 with_rule v (rules.ClockWindow e) = with_clock v e
-with_rule v (rules.PtsRepetition e) = v
-with_rule v (rules.PidRepetition e) = v
-with_rule v (rules.SectionDistance e) = v
-with_rule v (rules.OtherTable e) = v
-with_rule v (rules.ScrambledTable e) = v
-with_rule v (rules.NoCat e) = v
-with_rule v (rules.NoTable e) = v
-with_rule v (rules.NotEmpty e) = v
-with_rule v (rules.Delayed e) = v
-with_rule v (rules.VariableRate e) = v
-with_rule v (rules.FaultTrace e) = v
+with_rule v _ = v
 
 unfoldable pub with_event : KeptValues → Event → KeptValues
 with_event v (Window w) = with_window v w
-with_event v (Input e) = v
 with_event v (Stream e) = with_stream v e
 with_event v (Held e) = with_held v e
 with_event v (Units e) = with_units v e
-with_event v (Excess e) = v
-with_event v (MainExcess e) = v
-with_event v (MultiplexingExcess e) = v
-with_event v (ElementaryExcess e) = v
-with_event v (SystemExcess e) = v
-with_event v (SystemMainExcess e) = v
-with_event v (Late e) = v
-with_event v (ElementaryLate e) = v
-with_event v (Ahead e) = v
-with_event v (PcrRepetition e) = v
-with_event v (PcrDiscontinuity e) = v
-with_event v (PcrAccuracy e) = v
-with_event v (TableRepetition e) = v
-with_event v (Unclocked e) = v
-with_event v (Refused e) = v
-with_event v (Continuity e) = v
-with_event v (CheckWord e) = v
-with_event v (Transport e) = v
-with_event v (Main e) = v
-with_event v (Multiplexing e) = v
-with_event v (Elementary e) = v
-with_event v (Marks e) = v
-with_event v (System e) = v
-with_event v (Clock e) = v
-with_event v (Table e) = v
-with_event v (Pid e) = v
-with_event v (Unreferenced e) = v
-with_event v (Missing e) = v
-with_event v (Check e) = v
-with_event v (End e) = v
 with_event v (Rule e) = with_rule v e
-with_event v (Summary e) = v
+with_event v _ = v

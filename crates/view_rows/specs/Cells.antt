@@ -1,6 +1,8 @@
 -- The cells of a row.
 use Rattle.std.specs.Prelude.{ℕ, ◌-◌, ◌*◌, ◌/◌, ◌^◌, ◌==◌, min, max, nat_lt, Bool, false, if◌then◌else◌, List, ◌++◌, codes, decimal, flat_map, Option, Some}
 use Rattle.std.specs.Prelude.{None}
+use Rattle.events.specs.declared.fault_kind.FaultKind.{FaultKind}
+use Rattle.events.specs.declared.fault_kind.FaultKind.TheVariants as kinds
 use Rattle.events.specs.declared.fault_kind.FaultSource.{FaultSource}
 use Rattle.events.specs.declared.fault_kind.FaultSource.TheVariants as sources
 use Rattle.events.specs.FileForms.{words}
@@ -10,68 +12,67 @@ use Rattle.page_curves.specs.PidLabels.{LabelsState, label_text}
 use Rattle.view_rows.specs.declared.cells.CellUnit.{CellUnit}
 use Rattle.view_rows.specs.declared.cells.CellUnit.TheVariants.{Same, Ticks}
 use Rattle.view_rows.specs.declared.cells.CellWord.{CellWord}
-use Rattle.view_rows.specs.declared.cells.CellWord.TheVariants.{Transport, Main, Multiplexing, Elementary, TransportExcess, MainExcess, MultiplexingExcess}
-use Rattle.view_rows.specs.declared.cells.CellWord.TheVariants.{ElementaryExcess, SystemExcess, SystemMainExcess, LateUnit, ElementaryLate, LateByMultiplex}
-use Rattle.view_rows.specs.declared.cells.CellWord.TheVariants.{LateByFullBuffer, FarAhead, PcrRepetition, PcrDiscontinuity, PcrAccuracy, TableRepetition}
-use Rattle.view_rows.specs.declared.cells.CellWord.TheVariants.{Unclocked, SyncByte, RefusedHeader, TransportError, Continuity, CheckWord, Slip, Rest}
-use Rattle.view_rows.specs.declared.cells.CellWord.TheVariants.{PacketSize, EmptyInput, NoStream, OtherRate, NoStamps, StampJump, Bytes, Packets, Millis, Nanos}
-use Rattle.view_rows.specs.declared.cells.CellWord.TheVariants.{BitRate}
-use Rattle.view_rows.specs.declared.cells.CellWord.TheVariants.{Unreferenced, Missing, PtsRepetition, SectionDistance, OtherTable, ScrambledTable, NoCat, NoTable}
-use Rattle.view_rows.specs.declared.cells.CellWord.TheVariants.{PidRepetition}
-use Rattle.view_rows.specs.declared.cells.CellWord.TheVariants.{NotEmpty, Delayed, NoClock, RateVaries, Nothing}
+use Rattle.view_rows.specs.declared.cells.CellWord.TheVariants.{Transport, Main, Multiplexing, Elementary, Fault}
+use Rattle.view_rows.specs.declared.cells.CellWord.TheVariants.{LateByMultiplex, LateByFullBuffer, PacketSize, Bytes}
+use Rattle.view_rows.specs.declared.cells.CellWord.TheVariants.{Packets, Millis, Nanos, BitRate, NoClock, RateVaries}
+use Rattle.view_rows.specs.declared.cells.CellWord.TheVariants.{Nothing}
 use Rattle.view_rows.specs.declared.cells.Cell.{Cell}
 use Rattle.view_rows.specs.declared.cells.Cell.TheVariants.{Number, Checked, Bar, Word, CheckNumber, CheckName, Carried, Program, Source, Form}
+
+-- what a kind of fault is called
+unfoldable pub fault_text : FaultKind → List ℕ
+fault_text kinds.Slip = codes "bytes in no packet"
+fault_text kinds.Empty = codes "the input is empty"
+fault_text kinds.NoStream = codes "the input is no transport stream"
+fault_text kinds.OtherRate = codes "rate given, and another by the clock references"
+fault_text kinds.Unclocked = codes "packets without a moment"
+fault_text kinds.SyncByte = codes "packet without its sync byte"
+fault_text kinds.Header = codes "packet with a header that can't be read"
+fault_text kinds.TransportError = codes "packet with a transport error"
+fault_text kinds.Continuity = codes "continuity counter that does not follow"
+fault_text kinds.CheckWord = codes "section with a wrong check word"
+fault_text kinds.Excess = codes "transport buffer over its size"
+fault_text kinds.MainExcess = codes "main buffer over its size"
+fault_text kinds.MultiplexingExcess = codes "multiplexing buffer (MB) over its size"
+fault_text kinds.ElementaryExcess = codes "elementary stream buffer (EB) over its size"
+fault_text kinds.SystemExcess = codes "transport buffer of tables over its size"
+fault_text kinds.SystemMainExcess = codes "system buffer of tables over its size"
+fault_text kinds.Late = codes "late unit"
+fault_text kinds.ElementaryLate = codes "unit late in its elementary stream buffer (EB)"
+fault_text kinds.Ahead = codes "unit too far ahead"
+fault_text kinds.PcrRepetition = codes "clock reference too late"
+fault_text kinds.PcrDiscontinuity = codes "clock reference that jumps"
+fault_text kinds.PcrAccuracy = codes "inaccurate clock reference"
+fault_text kinds.PtsRepetition = codes "PTS too long after the one before"
+fault_text kinds.TableRepetition = codes "section too late"
+fault_text kinds.SectionDistance = codes "section too soon after the one before"
+fault_text kinds.OtherTable = codes "section that does not belong on its PID"
+fault_text kinds.ScrambledTable = codes "scrambled packet of a table"
+fault_text kinds.NoCat = codes "scrambled packets, and no conditional access table"
+fault_text kinds.NotEmpty = codes "buffer that is not empty for too long"
+fault_text kinds.Delayed = codes "byte that is in its buffer for too long"
+fault_text kinds.Unreferenced = codes "has packets, and no table names it"
+fault_text kinds.Missing = codes "has no packet, and the first tables name it"
+fault_text kinds.Rest = codes "bytes after the last whole packet"
+fault_text kinds.NoStamps = codes "packets without the arrival time stamps that are asked for"
+fault_text kinds.StampJump = codes "arrival time stamp that jumps"
+fault_text kinds.NoTable = codes "no whole section of the table"
+fault_text kinds.PidRepetition = codes "no packet of the PID for too long"
 
 unfoldable pub word_text : CellWord → List ℕ
 word_text Transport = codes "transport"
 word_text Main = codes "main"
 word_text Multiplexing = codes "multiplexing (MB)"
 word_text Elementary = codes "elementary stream (EB)"
-word_text TransportExcess = codes "transport buffer over its size"
-word_text MainExcess = codes "main buffer over its size"
-word_text MultiplexingExcess = codes "multiplexing buffer (MB) over its size"
-word_text ElementaryExcess = codes "elementary stream buffer (EB) over its size"
-word_text SystemExcess = codes "transport buffer of tables over its size"
-word_text SystemMainExcess = codes "system buffer of tables over its size"
-word_text LateUnit = codes "late unit"
-word_text ElementaryLate = codes "unit late in its elementary stream buffer (EB)"
+word_text (Fault kind) = fault_text kind
 word_text LateByMultiplex = codes "unit late in its elementary stream buffer (EB): sent too late or too fast"
 word_text LateByFullBuffer = codes "unit late in its elementary stream buffer (EB): EB was full"
-word_text FarAhead = codes "unit too far ahead"
-word_text PcrRepetition = codes "clock reference too late"
-word_text PcrDiscontinuity = codes "clock reference that jumps"
-word_text PcrAccuracy = codes "inaccurate clock reference"
-word_text TableRepetition = codes "section too late"
-word_text Unclocked = codes "packets without a moment"
-word_text SyncByte = codes "packet without its sync byte"
-word_text RefusedHeader = codes "packet with a header that can't be read"
-word_text TransportError = codes "packet with a transport error"
-word_text Continuity = codes "continuity counter that does not follow"
-word_text CheckWord = codes "section with a wrong check word"
-word_text Slip = codes "bytes in no packet"
-word_text Rest = codes "bytes after the last whole packet"
 word_text PacketSize = codes "bytes from one packet to the next; 188 of them are viewed"
-word_text EmptyInput = codes "the input is empty"
-word_text NoStream = codes "the input is no transport stream"
-word_text OtherRate = codes "rate given, and another by the clock references"
-word_text NoStamps = codes "packets without the arrival time stamps that are asked for"
-word_text StampJump = codes "arrival time stamp that jumps"
 word_text Bytes = codes "bytes"
 word_text Packets = codes "packets"
 word_text Millis = codes "ms"
 word_text Nanos = codes "ns"
 word_text BitRate = codes "bit/s"
-word_text Unreferenced = codes "has packets, and no table names it"
-word_text Missing = codes "has no packet, and the first tables name it"
-word_text PtsRepetition = codes "PTS too long after the one before"
-word_text SectionDistance = codes "section too soon after the one before"
-word_text OtherTable = codes "section that does not belong on its PID"
-word_text ScrambledTable = codes "scrambled packet of a table"
-word_text NoCat = codes "scrambled packets, and no conditional access table"
-word_text NoTable = codes "no whole section of the table"
-word_text PidRepetition = codes "no packet of the PID for too long"
-word_text NotEmpty = codes "buffer that is not empty for too long"
-word_text Delayed = codes "byte that is in its buffer for too long"
 word_text NoClock = codes "can't be checked: no clock references"
 word_text RateVaries = codes "can't be checked: the rate varies"
 word_text Nothing = codes ""

@@ -27,6 +27,8 @@ use Rattle.events.specs.declared.video_event.LateCause.{LateCause}
 use Rattle.events.specs.declared.video_event.LateCause.TheVariants as late_causes
 use Rattle.events.specs.declared.video_event.ElementaryTotals.{ElementaryTotals}
 use Rattle.events.specs.declared.video_event.MultiplexingTotals.{MultiplexingTotals}
+use Rattle.events.specs.declared.fault_kind.FaultKind.{FaultKind}
+use Rattle.events.specs.declared.fault_kind.FaultKind.TheVariants as kinds
 use Rattle.view_rows.specs.declared.cells.Cell.{Cell}
 use Rattle.view_rows.specs.declared.cells.Cell.TheVariants.{Number, Checked, Bar, Word, CheckNumber, CheckName, Carried, Program}
 use Rattle.view_rows.specs.declared.cells.CellUnit.TheVariants.{Same, Ticks}
@@ -88,19 +90,19 @@ pid_cells e =
     Number e.number Same ∷ Carried e.number ∷ Number e.packets Same ∷ Number e.pcrs Same ∷ []
 
 -- cells for an excess of a buffer
-abbrev pub excess_cells : CellWord → BufferExcess → List Cell
-excess_cells word e =
-    Word word ∷ Number e.pid Same ∷ Number e.packet Same ∷ Number (short e.peak) Same ∷ Number e.size Same ∷ Word words.Bytes ∷ []
+abbrev pub excess_cells : FaultKind → BufferExcess → List Cell
+excess_cells kind e =
+    Word (words.Fault kind) ∷ Number e.pid Same ∷ Number e.packet Same ∷ Number (short e.peak) Same ∷ Number e.size Same ∷ Word words.Bytes ∷ []
 
 -- cells for an excess of a buffer of tables
-abbrev pub program_excess_cells : CellWord → ProgramExcess → List Cell
-program_excess_cells word e =
-    Word word ∷ Program e.program ∷ Number e.packet Same ∷ Number (short e.peak) Same ∷ Number e.size Same ∷ Word words.Bytes ∷ []
+abbrev pub program_excess_cells : FaultKind → ProgramExcess → List Cell
+program_excess_cells kind e =
+    Word (words.Fault kind) ∷ Program e.program ∷ Number e.packet Same ∷ Number (short e.peak) Same ∷ Number e.size Same ∷ Word words.Bytes ∷ []
 
 -- cells for a late unit
 abbrev pub late_cells : LateUnit → List Cell
 late_cells e =
-    Word words.LateUnit ∷ Number e.pid Same ∷ Number e.packet Same ∷ Number (short e.by) Ticks ∷ Word words.Nothing ∷ Word words.Millis ∷ []
+    Word (words.Fault kinds.Late) ∷ Number e.pid Same ∷ Number e.packet Same ∷ Number (short e.by) Ticks ∷ Word words.Nothing ∷ Word words.Millis ∷ []
 
 -- cells for a unit that is late in the elementary stream buffer, and why
 unfoldable pub late_word : LateCause → CellWord
@@ -114,38 +116,39 @@ elementary_late_cells e =
 -- cells for a unit too far ahead
 abbrev pub ahead_cells : FarAhead → List Cell
 ahead_cells e =
-    Word words.FarAhead ∷ Number e.pid Same ∷ Number e.packet Same ∷ Number e.by Ticks ∷ Number e.limit Ticks ∷ Word words.Millis ∷ []
+    Word (words.Fault kinds.Ahead) ∷ Number e.pid Same ∷ Number e.packet Same ∷ Number e.by Ticks ∷ Number e.limit Ticks ∷ Word words.Millis ∷ []
 
 -- cells for a clock reference whose time is wrong
-abbrev pub clock_time_cells : CellWord → ClockFault → List Cell
-clock_time_cells word e =
-    Word word ∷ Number e.pid Same ∷ Number e.packet Same ∷ Number (short e.value) Ticks ∷ Number e.limit Ticks ∷ Word words.Millis ∷ []
+abbrev pub clock_time_cells : FaultKind → ClockFault → List Cell
+clock_time_cells kind e =
+    Word (words.Fault kind) ∷ Number e.pid Same ∷ Number e.packet Same ∷ Number (short e.value) Ticks ∷ Number e.limit Ticks ∷ Word words.Millis ∷ []
 
 -- cells for an inaccurate clock reference
 abbrev pub clock_place_cells : ClockFault → List Cell
 clock_place_cells e =
-    Word words.PcrAccuracy ∷ Number e.pid Same ∷ Number e.packet Same ∷ Number (short e.value) Same ∷ Number e.limit Same ∷ Word words.Nanos ∷ []
+    Word (words.Fault kinds.PcrAccuracy) ∷ Number e.pid Same ∷ Number e.packet Same ∷ Number (short e.value) Same ∷ Number e.limit Same
+    ∷ Word words.Nanos ∷ []
 
 -- cells for a section that begins too late
 abbrev pub table_fault_cells : TableFault → List Cell
 table_fault_cells e =
-    Word words.TableRepetition ∷ Number e.pid Same ∷ Number e.packet Same ∷ Number (short e.value) Ticks ∷ Number e.limit Ticks
+    Word (words.Fault kinds.TableRepetition) ∷ Number e.pid Same ∷ Number e.packet Same ∷ Number (short e.value) Ticks ∷ Number e.limit Ticks
     ∷ Word words.Millis ∷ []
 
 -- cells for packets without a moment
 abbrev pub unclocked_cells : UnclockedPackets → List Cell
 unclocked_cells e =
-    Word words.Unclocked ∷ Word words.Nothing ∷ Number e.packet Same ∷ Number e.packets Same ∷ Word words.Nothing ∷ Word words.Packets ∷ []
+    Word (words.Fault kinds.Unclocked) ∷ Word words.Nothing ∷ Number e.packet Same ∷ Number e.packets Same ∷ Word words.Nothing ∷ Word words.Packets ∷ []
 
--- cells for a PID and a word
-abbrev pub reference_cells : CellWord → ℕ → List Cell
-reference_cells word pid = Number pid Same ∷ Word word ∷ []
+-- cells for a PID and a kind of fault
+abbrev pub reference_cells : FaultKind → ℕ → List Cell
+reference_cells kind pid = Number pid Same ∷ Word (words.Fault kind) ∷ []
 
 -- cells for a packet that is refused
 unfoldable pub cause_word : RefusalCause → CellWord
-cause_word causes.SyncByte = words.SyncByte
-cause_word causes.Header = words.RefusedHeader
-cause_word causes.TransportError = words.TransportError
+cause_word causes.SyncByte = (words.Fault kinds.SyncByte)
+cause_word causes.Header = (words.Fault kinds.Header)
+cause_word causes.TransportError = (words.Fault kinds.TransportError)
 
 abbrev pub refused_cells : RefusedPacket → List Cell
 refused_cells e =
@@ -154,12 +157,13 @@ refused_cells e =
 -- cells for a continuity_counter that does not follow
 abbrev pub continuity_cells : CounterFault → List Cell
 continuity_cells e =
-    Word words.Continuity ∷ Number e.pid Same ∷ Number e.packet Same ∷ Number e.found Same ∷ Number e.expected Same ∷ Word words.Nothing ∷ []
+    Word (words.Fault kinds.Continuity) ∷ Number e.pid Same ∷ Number e.packet Same ∷ Number e.found Same ∷ Number e.expected Same
+    ∷ Word words.Nothing ∷ []
 
 -- cells for a section with a wrong check word
 abbrev pub check_word_cells : CheckWordFault → List Cell
 check_word_cells e =
-    Word words.CheckWord ∷ Number e.pid Same ∷ Number e.packet Same ∷ Word words.Nothing ∷ Word words.Nothing ∷ Word words.Nothing ∷ []
+    Word (words.Fault kinds.CheckWord) ∷ Number e.pid Same ∷ Number e.packet Same ∷ Word words.Nothing ∷ Word words.Nothing ∷ Word words.Nothing ∷ []
 
 -- how often a check failed, with a mark if it did, or why it can't be made
 unfoldable pub result_cell : Option NoVerdict → ℕ → Cell

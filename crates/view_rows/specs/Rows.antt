@@ -1,10 +1,12 @@
 -- The rows that an event adds.
 use Rattle.std.specs.Prelude.{◌+◌, ◌-◌, ◌^◌, min, nat_lt, if◌then◌else◌, ℕ, List, [], ◌∷◌, ◌++◌, codes, flat_map, Option, Some, None}
 use Rattle.events.specs.declared.event.Event.{Event}
-use Rattle.events.specs.declared.event.Event.TheVariants.{Input, Stream, Window, Held, Units, Excess, MainExcess, MultiplexingExcess, ElementaryExcess}
-use Rattle.events.specs.declared.event.Event.TheVariants.{SystemExcess, SystemMainExcess, Late, ElementaryLate, Ahead, PcrRepetition, PcrDiscontinuity}
-use Rattle.events.specs.declared.event.Event.TheVariants.{PcrAccuracy, TableRepetition, Unclocked, Refused, Continuity, CheckWord, Transport, Main}
-use Rattle.events.specs.declared.event.Event.TheVariants.{Multiplexing, Elementary, Marks, System, Clock, Table, Pid, Unreferenced, Missing, Check, End, Rule}
+use Rattle.events.specs.declared.event.Event.TheVariants.{Input, Stream, Excess, MainExcess, MultiplexingExcess}
+use Rattle.events.specs.declared.event.Event.TheVariants.{ElementaryExcess, SystemExcess, SystemMainExcess, Late}
+use Rattle.events.specs.declared.event.Event.TheVariants.{ElementaryLate, Ahead, PcrRepetition, PcrDiscontinuity}
+use Rattle.events.specs.declared.event.Event.TheVariants.{PcrAccuracy, TableRepetition, Unclocked, Refused, Continuity}
+use Rattle.events.specs.declared.event.Event.TheVariants.{CheckWord, Transport, Main, Multiplexing, Elementary, Marks}
+use Rattle.events.specs.declared.event.Event.TheVariants.{System, Clock, Table, Pid, Unreferenced, Missing, Check, Rule}
 use Rattle.events.specs.declared.event.Event.TheVariants.{Summary}
 use Rattle.events.specs.declared.timed_event.TimedEvent.{TimedEvent}
 use Rattle.events.specs.declared.event.StreamBegin.{StreamBegin}
@@ -17,7 +19,7 @@ use Rattle.events.specs.declared.summary.SummaryEvent.TheVariants as totals
 use Rattle.events.specs.declared.summary.Verdict.{Verdict}
 use Rattle.events.specs.Faults.{fault_of}
 use Rattle.view_rows.specs.declared.cells.Cell.{Cell}
-use Rattle.view_rows.specs.declared.cells.CellWord.TheVariants as words
+use Rattle.events.specs.declared.fault_kind.FaultKind.TheVariants as kinds
 use Rattle.view_rows.specs.declared.rows.TheConstants.{MOST_FAULTS}
 use Rattle.view_rows.specs.Cells.{cell, row}
 use Rattle.view_rows.specs.RowCells.{ahead_cells, check_cells, check_word_cells, clock_cells, clock_place_cells, clock_time_cells, continuity_cells}
@@ -88,43 +90,25 @@ with_summary labels r (totals.Faults e) = with_totals labels r e
 with_summary labels r (totals.Verdict e) = with_sentence r e
 
 unfoldable pub with_fault_event : LabelsState → Option Fault → RowTexts → Event → RowTexts
-with_fault_event labels fault r (Input e) = r
-with_fault_event labels fault r (Stream e) = r
-with_fault_event labels fault r (Window e) = r
-with_fault_event labels fault r (Held e) = r
-with_fault_event labels fault r (Units e) = r
-with_fault_event labels fault r (Excess e) = with_fault labels fault r (excess_cells words.TransportExcess e)
-with_fault_event labels fault r (MainExcess e) = with_fault labels fault r (excess_cells words.MainExcess e)
-with_fault_event labels fault r (MultiplexingExcess e) = with_fault labels fault r (excess_cells words.MultiplexingExcess e)
-with_fault_event labels fault r (ElementaryExcess e) = with_fault labels fault r (excess_cells words.ElementaryExcess e)
-with_fault_event labels fault r (SystemExcess e) = with_fault labels fault r (program_excess_cells words.SystemExcess e)
-with_fault_event labels fault r (SystemMainExcess e) = with_fault labels fault r (program_excess_cells words.SystemMainExcess e)
+with_fault_event labels fault r (Excess e) = with_fault labels fault r (excess_cells kinds.Excess e)
+with_fault_event labels fault r (MainExcess e) = with_fault labels fault r (excess_cells kinds.MainExcess e)
+with_fault_event labels fault r (MultiplexingExcess e) = with_fault labels fault r (excess_cells kinds.MultiplexingExcess e)
+with_fault_event labels fault r (ElementaryExcess e) = with_fault labels fault r (excess_cells kinds.ElementaryExcess e)
+with_fault_event labels fault r (SystemExcess e) = with_fault labels fault r (program_excess_cells kinds.SystemExcess e)
+with_fault_event labels fault r (SystemMainExcess e) = with_fault labels fault r (program_excess_cells kinds.SystemMainExcess e)
 with_fault_event labels fault r (Late e) = with_fault labels fault r (late_cells e)
 with_fault_event labels fault r (ElementaryLate e) = with_fault labels fault r (elementary_late_cells e)
 with_fault_event labels fault r (Ahead e) = with_fault labels fault r (ahead_cells e)
-with_fault_event labels fault r (PcrRepetition e) = with_fault labels fault r (clock_time_cells words.PcrRepetition e)
-with_fault_event labels fault r (PcrDiscontinuity e) = with_fault labels fault r (clock_time_cells words.PcrDiscontinuity e)
+with_fault_event labels fault r (PcrRepetition e) = with_fault labels fault r (clock_time_cells kinds.PcrRepetition e)
+with_fault_event labels fault r (PcrDiscontinuity e) = with_fault labels fault r (clock_time_cells kinds.PcrDiscontinuity e)
 with_fault_event labels fault r (PcrAccuracy e) = with_fault labels fault r (clock_place_cells e)
 with_fault_event labels fault r (TableRepetition e) = with_fault labels fault r (table_fault_cells e)
 with_fault_event labels fault r (Unclocked e) = with_fault labels fault r (unclocked_cells e)
 with_fault_event labels fault r (Refused e) = with_fault labels fault r (refused_cells e)
 with_fault_event labels fault r (Continuity e) = with_fault labels fault r (continuity_cells e)
 with_fault_event labels fault r (CheckWord e) = with_fault labels fault r (check_word_cells e)
-with_fault_event labels fault r (Transport e) = r
-with_fault_event labels fault r (Main e) = r
-with_fault_event labels fault r (Multiplexing e) = r
-with_fault_event labels fault r (Elementary e) = r
-with_fault_event labels fault r (Marks e) = r
-with_fault_event labels fault r (System e) = r
-with_fault_event labels fault r (Clock e) = r
-with_fault_event labels fault r (Table e) = r
-with_fault_event labels fault r (Pid e) = r
-with_fault_event labels fault r (Unreferenced e) = r
-with_fault_event labels fault r (Missing e) = r
-with_fault_event labels fault r (Check e) = r
-with_fault_event labels fault r (End e) = r
 with_fault_event labels fault r (Rule e) = with_rule_fault labels r fault
-with_fault_event labels fault r (Summary e) = r
+with_fault_event labels fault r _ = r
 
 -- how the bytes of the input are packets: packets of another size are no fault
 unfoldable pub with_input : LabelsState → Option Fault → RowTexts → InputEvent → RowTexts
@@ -147,26 +131,6 @@ with_buffer labels r cells = record r { buffers = r.buffers ++ row labels cells 
 unfoldable pub with_kind : LabelsState → Option Fault → RowTexts → Event → RowTexts
 with_kind labels fault r (Input e) = with_input labels fault r e
 with_kind labels fault r (Stream e) = with_stream labels r e
-with_kind labels fault r (Window e) = with_fault_event labels fault r (Window e)
-with_kind labels fault r (Held e) = with_fault_event labels fault r (Held e)
-with_kind labels fault r (Units e) = with_fault_event labels fault r (Units e)
-with_kind labels fault r (Excess e) = with_fault_event labels fault r (Excess e)
-with_kind labels fault r (MainExcess e) = with_fault_event labels fault r (MainExcess e)
-with_kind labels fault r (MultiplexingExcess e) = with_fault_event labels fault r (MultiplexingExcess e)
-with_kind labels fault r (ElementaryExcess e) = with_fault_event labels fault r (ElementaryExcess e)
-with_kind labels fault r (SystemExcess e) = with_fault_event labels fault r (SystemExcess e)
-with_kind labels fault r (SystemMainExcess e) = with_fault_event labels fault r (SystemMainExcess e)
-with_kind labels fault r (Late e) = with_fault_event labels fault r (Late e)
-with_kind labels fault r (ElementaryLate e) = with_fault_event labels fault r (ElementaryLate e)
-with_kind labels fault r (Ahead e) = with_fault_event labels fault r (Ahead e)
-with_kind labels fault r (PcrRepetition e) = with_fault_event labels fault r (PcrRepetition e)
-with_kind labels fault r (PcrDiscontinuity e) = with_fault_event labels fault r (PcrDiscontinuity e)
-with_kind labels fault r (PcrAccuracy e) = with_fault_event labels fault r (PcrAccuracy e)
-with_kind labels fault r (TableRepetition e) = with_fault_event labels fault r (TableRepetition e)
-with_kind labels fault r (Unclocked e) = with_fault_event labels fault r (Unclocked e)
-with_kind labels fault r (Refused e) = with_fault_event labels fault r (Refused e)
-with_kind labels fault r (Continuity e) = with_fault_event labels fault r (Continuity e)
-with_kind labels fault r (CheckWord e) = with_fault_event labels fault r (CheckWord e)
 with_kind labels fault r (Transport e) = with_buffer labels r (transport_cells e)
 with_kind labels fault r (Main e) = with_buffer labels r (main_cells e)
 with_kind labels fault r (Multiplexing e) = with_buffer labels r (multiplexing_cells e)
@@ -176,12 +140,11 @@ with_kind labels fault r (System e) = record r { systems = r.systems ++ row labe
 with_kind labels fault r (Clock e) = record r { clocks = r.clocks ++ row labels (clock_cells e) }
 with_kind labels fault r (Table e) = record r { tables = r.tables ++ row labels (table_cells e) }
 with_kind labels fault r (Pid e) = record r { pids = r.pids ++ row labels (pid_cells e) }
-with_kind labels fault r (Unreferenced e) = record r { apart = r.apart ++ row labels (reference_cells words.Unreferenced e) }
-with_kind labels fault r (Missing e) = record r { apart = r.apart ++ row labels (reference_cells words.Missing e) }
+with_kind labels fault r (Unreferenced e) = record r { apart = r.apart ++ row labels (reference_cells kinds.Unreferenced e) }
+with_kind labels fault r (Missing e) = record r { apart = r.apart ++ row labels (reference_cells kinds.Missing e) }
 with_kind labels fault r (Check e) = record r { checks = r.checks ++ row labels (check_cells e) }
-with_kind labels fault r (End e) = with_fault_event labels fault r (End e)
-with_kind labels fault r (Rule e) = with_fault_event labels fault r (Rule e)
 with_kind labels fault r (Summary e) = with_summary labels r e
+with_kind labels fault r event = with_fault_event labels fault r event
 
 -- an event with its fault, if it is a fault
 abbrev pub with_event : LabelsState → RowTexts → TimedEvent → RowTexts

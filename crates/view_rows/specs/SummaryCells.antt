@@ -14,64 +14,38 @@ use Rattle.view_rows.specs.declared.cells.CellUnit.{CellUnit}
 use Rattle.view_rows.specs.declared.cells.CellUnit.TheVariants.{Same, Ticks}
 use Rattle.view_rows.specs.declared.cells.CellWord.{CellWord}
 use Rattle.view_rows.specs.declared.cells.CellWord.TheVariants as words
-use Rattle.view_rows.specs.declared.summary_cells.KindCells.{KindCells}
+use Rattle.view_rows.specs.declared.summary_cells.ValueUnit.{ValueUnit}
 use Rattle.view_rows.specs.declared.summary_cells.TheConstants.{KINDS}
 use Rattle.view_rows.specs.Cells.{short}
 
 unfoldable pub kinds_text : List ℕ
 kinds_text = KINDS.now
 
--- the word for a kind of fault, and the unit of its value: none, bytes, a time in ms, or nanoseconds
-abbrev pub plain : CellWord → KindCells
-plain word = record { word = word; scale = Same; unit = words.Nothing }
+-- the unit of the value of a kind of fault: bytes, a time in ms, nanoseconds, or none
+abbrev pub in_unit : CellUnit → CellWord → ValueUnit
+in_unit scale word = record { scale = scale; unit = word }
 
-abbrev pub bytes : CellWord → KindCells
-bytes word = record { word = word; scale = Same; unit = words.Bytes }
-
-abbrev pub time : CellWord → KindCells
-time word = record { word = word; scale = Ticks; unit = words.Millis }
-
-abbrev pub nanos : CellWord → KindCells
-nanos word = record { word = word; scale = Same; unit = words.Nanos }
-
-unfoldable pub kind_cells : FaultKind → KindCells
-kind_cells kinds.Slip = plain words.Slip
-kind_cells kinds.Empty = plain words.EmptyInput
-kind_cells kinds.NoStream = plain words.NoStream
-kind_cells kinds.OtherRate = plain words.OtherRate
-kind_cells kinds.Unclocked = plain words.Unclocked
-kind_cells kinds.SyncByte = plain words.SyncByte
-kind_cells kinds.Header = plain words.RefusedHeader
-kind_cells kinds.TransportError = plain words.TransportError
-kind_cells kinds.Continuity = plain words.Continuity
-kind_cells kinds.CheckWord = plain words.CheckWord
-kind_cells kinds.Excess = bytes words.TransportExcess
-kind_cells kinds.MainExcess = bytes words.MainExcess
-kind_cells kinds.MultiplexingExcess = bytes words.MultiplexingExcess
-kind_cells kinds.ElementaryExcess = bytes words.ElementaryExcess
-kind_cells kinds.SystemExcess = bytes words.SystemExcess
-kind_cells kinds.SystemMainExcess = bytes words.SystemMainExcess
-kind_cells kinds.Late = time words.LateUnit
-kind_cells kinds.ElementaryLate = time words.ElementaryLate
-kind_cells kinds.Ahead = time words.FarAhead
-kind_cells kinds.PcrRepetition = time words.PcrRepetition
-kind_cells kinds.PcrDiscontinuity = time words.PcrDiscontinuity
-kind_cells kinds.PcrAccuracy = nanos words.PcrAccuracy
-kind_cells kinds.PtsRepetition = time words.PtsRepetition
-kind_cells kinds.TableRepetition = time words.TableRepetition
-kind_cells kinds.SectionDistance = time words.SectionDistance
-kind_cells kinds.OtherTable = plain words.OtherTable
-kind_cells kinds.ScrambledTable = plain words.ScrambledTable
-kind_cells kinds.NoCat = plain words.NoCat
-kind_cells kinds.NotEmpty = time words.NotEmpty
-kind_cells kinds.Delayed = time words.Delayed
-kind_cells kinds.Unreferenced = plain words.Unreferenced
-kind_cells kinds.Missing = plain words.Missing
-kind_cells kinds.Rest = plain words.Rest
-kind_cells kinds.NoStamps = plain words.NoStamps
-kind_cells kinds.StampJump = time words.StampJump
-kind_cells kinds.NoTable = plain words.NoTable
-kind_cells kinds.PidRepetition = time words.PidRepetition
+unfoldable pub unit_of : FaultKind → ValueUnit
+unit_of kinds.Excess = in_unit Same words.Bytes
+unit_of kinds.MainExcess = in_unit Same words.Bytes
+unit_of kinds.MultiplexingExcess = in_unit Same words.Bytes
+unit_of kinds.ElementaryExcess = in_unit Same words.Bytes
+unit_of kinds.SystemExcess = in_unit Same words.Bytes
+unit_of kinds.SystemMainExcess = in_unit Same words.Bytes
+unit_of kinds.Late = in_unit Ticks words.Millis
+unit_of kinds.ElementaryLate = in_unit Ticks words.Millis
+unit_of kinds.Ahead = in_unit Ticks words.Millis
+unit_of kinds.PcrRepetition = in_unit Ticks words.Millis
+unit_of kinds.PcrDiscontinuity = in_unit Ticks words.Millis
+unit_of kinds.PtsRepetition = in_unit Ticks words.Millis
+unit_of kinds.TableRepetition = in_unit Ticks words.Millis
+unit_of kinds.SectionDistance = in_unit Ticks words.Millis
+unit_of kinds.NotEmpty = in_unit Ticks words.Millis
+unit_of kinds.Delayed = in_unit Ticks words.Millis
+unit_of kinds.StampJump = in_unit Ticks words.Millis
+unit_of kinds.PidRepetition = in_unit Ticks words.Millis
+unit_of kinds.PcrAccuracy = in_unit Same words.Nanos
+unit_of _ = in_unit Same words.Nothing
 
 -- a moment in ms, if it is known
 unfoldable pub moment_cell : Option ℕ → Cell
@@ -93,13 +67,14 @@ limit_cell (Some m) scale = Number m.limit scale
 
 -- all faults of a kind at one place: how many, the first and the last, the worst value and its limit
 abbrev pub totals_cells : FaultTotals → List Cell
-totals_cells e = let kind = kind_cells e.kind in
-    Word kind.word ∷ Source e.source ∷ Number e.count.faults Same ∷ Number e.count.first Same ∷ Number e.count.last Same ∷ moment_cell e.count.from
-    ∷ moment_cell e.count.to ∷ value_cell e.worst kind.scale ∷ limit_cell e.worst kind.scale ∷ Word kind.unit ∷ []
+totals_cells e = let value = unit_of e.kind in
+    Word (words.Fault e.kind) ∷ Source e.source ∷ Number e.count.faults Same ∷ Number e.count.first Same ∷ Number e.count.last Same
+    ∷ moment_cell e.count.from ∷ moment_cell e.count.to ∷ value_cell e.worst value.scale ∷ limit_cell e.worst value.scale ∷ Word value.unit ∷ []
 
 abbrev pub fault_cells : Fault → List Cell
-fault_cells e = let kind = kind_cells e.kind in
-    Word kind.word ∷ Source e.source ∷ Number e.packet Same ∷ value_cell e.measured kind.scale ∷ limit_cell e.measured kind.scale ∷ Word kind.unit ∷ []
+fault_cells e = let value = unit_of e.kind in
+    Word (words.Fault e.kind) ∷ Source e.source ∷ Number e.packet Same ∷ value_cell e.measured value.scale ∷ limit_cell e.measured value.scale
+    ∷ Word value.unit ∷ []
 
 -- the sentence of faults is marked
 unfoldable pub sentence_head : Verdict → List ℕ

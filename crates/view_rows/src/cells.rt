@@ -2,7 +2,7 @@
 ghost use Rattle.std.specs.Prelude.{◌≡◌, ◌++◌, OnOk, flat_map, string_bytes};
 ghost use Rattle.view_rows.specs.Cells as spec;
 
-use events::{Check, FaultSource, FileForm};
+use events::{Check, FaultKind, FaultSource, FileForm};
 use page_curves::{PidLabels, write_grouped, write_label, write_tenths};
 use std::alloc::AllocError;
 use std::fmt::Write;
@@ -14,58 +14,22 @@ pub enum CellUnit {
     Ticks,
 }
 
-/// A word of a cell.
+/// A word of a cell: a kind of fault, or another word.
 #[derive(Clone, Copy)]
 pub enum CellWord {
     Transport,
     Main,
     Multiplexing,
     Elementary,
-    TransportExcess,
-    MainExcess,
-    MultiplexingExcess,
-    ElementaryExcess,
-    SystemExcess,
-    SystemMainExcess,
-    LateUnit,
-    ElementaryLate,
+    Fault(FaultKind),
     LateByMultiplex,
     LateByFullBuffer,
-    FarAhead,
-    PcrRepetition,
-    PcrDiscontinuity,
-    PcrAccuracy,
-    TableRepetition,
-    Unclocked,
-    SyncByte,
-    RefusedHeader,
-    TransportError,
-    Continuity,
-    CheckWord,
-    Slip,
-    Rest,
     PacketSize,
-    EmptyInput,
-    NoStream,
-    OtherRate,
-    NoStamps,
-    StampJump,
     Bytes,
     Packets,
     Millis,
     Nanos,
     BitRate,
-    Unreferenced,
-    Missing,
-    PtsRepetition,
-    SectionDistance,
-    OtherTable,
-    ScrambledTable,
-    NoCat,
-    NoTable,
-    PidRepetition,
-    NotEmpty,
-    Delayed,
     NoClock,
     RateVaries,
     Nothing,
@@ -105,6 +69,51 @@ pub(crate) fn limit_if(limit: u64) -> Option<u64>
     }
 }
 
+#[tactic(auto, unfolding(crate::specs::Cells::fault_text))]
+fn fault_text(kind: FaultKind) -> &'static str
+    ensures { result.now ≡ spec.fault_text kind }
+{
+    match kind {
+        FaultKind::Slip => "bytes in no packet",
+        FaultKind::Empty => "the input is empty",
+        FaultKind::NoStream => "the input is no transport stream",
+        FaultKind::OtherRate => "rate given, and another by the clock references",
+        FaultKind::Unclocked => "packets without a moment",
+        FaultKind::SyncByte => "packet without its sync byte",
+        FaultKind::Header => "packet with a header that can't be read",
+        FaultKind::TransportError => "packet with a transport error",
+        FaultKind::Continuity => "continuity counter that does not follow",
+        FaultKind::CheckWord => "section with a wrong check word",
+        FaultKind::Excess => "transport buffer over its size",
+        FaultKind::MainExcess => "main buffer over its size",
+        FaultKind::MultiplexingExcess => "multiplexing buffer (MB) over its size",
+        FaultKind::ElementaryExcess => "elementary stream buffer (EB) over its size",
+        FaultKind::SystemExcess => "transport buffer of tables over its size",
+        FaultKind::SystemMainExcess => "system buffer of tables over its size",
+        FaultKind::Late => "late unit",
+        FaultKind::ElementaryLate => "unit late in its elementary stream buffer (EB)",
+        FaultKind::Ahead => "unit too far ahead",
+        FaultKind::PcrRepetition => "clock reference too late",
+        FaultKind::PcrDiscontinuity => "clock reference that jumps",
+        FaultKind::PcrAccuracy => "inaccurate clock reference",
+        FaultKind::PtsRepetition => "PTS too long after the one before",
+        FaultKind::TableRepetition => "section too late",
+        FaultKind::SectionDistance => "section too soon after the one before",
+        FaultKind::OtherTable => "section that does not belong on its PID",
+        FaultKind::ScrambledTable => "scrambled packet of a table",
+        FaultKind::NoCat => "scrambled packets, and no conditional access table",
+        FaultKind::NotEmpty => "buffer that is not empty for too long",
+        FaultKind::Delayed => "byte that is in its buffer for too long",
+        FaultKind::Unreferenced => "has packets, and no table names it",
+        FaultKind::Missing => "has no packet, and the first tables name it",
+        FaultKind::Rest => "bytes after the last whole packet",
+        FaultKind::NoStamps => "packets without the arrival time stamps that are asked for",
+        FaultKind::StampJump => "arrival time stamp that jumps",
+        FaultKind::NoTable => "no whole section of the table",
+        FaultKind::PidRepetition => "no packet of the PID for too long",
+    }
+}
+
 #[tactic(auto, unfolding(crate::specs::Cells::word_text))]
 fn word_text(word: CellWord) -> &'static str
     ensures { result.now ≡ spec.word_text word }
@@ -114,53 +123,17 @@ fn word_text(word: CellWord) -> &'static str
         CellWord::Main => "main",
         CellWord::Multiplexing => "multiplexing (MB)",
         CellWord::Elementary => "elementary stream (EB)",
-        CellWord::TransportExcess => "transport buffer over its size",
-        CellWord::MainExcess => "main buffer over its size",
-        CellWord::MultiplexingExcess => "multiplexing buffer (MB) over its size",
-        CellWord::ElementaryExcess => "elementary stream buffer (EB) over its size",
-        CellWord::SystemExcess => "transport buffer of tables over its size",
-        CellWord::SystemMainExcess => "system buffer of tables over its size",
-        CellWord::LateUnit => "late unit",
-        CellWord::ElementaryLate => "unit late in its elementary stream buffer (EB)",
+        CellWord::Fault(kind) => fault_text(kind),
         CellWord::LateByMultiplex => {
             "unit late in its elementary stream buffer (EB): sent too late or too fast"
         }
         CellWord::LateByFullBuffer => "unit late in its elementary stream buffer (EB): EB was full",
-        CellWord::FarAhead => "unit too far ahead",
-        CellWord::PcrRepetition => "clock reference too late",
-        CellWord::PcrDiscontinuity => "clock reference that jumps",
-        CellWord::PcrAccuracy => "inaccurate clock reference",
-        CellWord::TableRepetition => "section too late",
-        CellWord::Unclocked => "packets without a moment",
-        CellWord::SyncByte => "packet without its sync byte",
-        CellWord::RefusedHeader => "packet with a header that can't be read",
-        CellWord::TransportError => "packet with a transport error",
-        CellWord::Continuity => "continuity counter that does not follow",
-        CellWord::CheckWord => "section with a wrong check word",
-        CellWord::Slip => "bytes in no packet",
-        CellWord::Rest => "bytes after the last whole packet",
         CellWord::PacketSize => "bytes from one packet to the next; 188 of them are viewed",
-        CellWord::EmptyInput => "the input is empty",
-        CellWord::NoStream => "the input is no transport stream",
-        CellWord::OtherRate => "rate given, and another by the clock references",
-        CellWord::NoStamps => "packets without the arrival time stamps that are asked for",
-        CellWord::StampJump => "arrival time stamp that jumps",
         CellWord::Bytes => "bytes",
         CellWord::Packets => "packets",
         CellWord::Millis => "ms",
         CellWord::Nanos => "ns",
         CellWord::BitRate => "bit/s",
-        CellWord::Unreferenced => "has packets, and no table names it",
-        CellWord::Missing => "has no packet, and the first tables name it",
-        CellWord::PtsRepetition => "PTS too long after the one before",
-        CellWord::SectionDistance => "section too soon after the one before",
-        CellWord::OtherTable => "section that does not belong on its PID",
-        CellWord::ScrambledTable => "scrambled packet of a table",
-        CellWord::NoCat => "scrambled packets, and no conditional access table",
-        CellWord::NoTable => "no whole section of the table",
-        CellWord::PidRepetition => "no packet of the PID for too long",
-        CellWord::NotEmpty => "buffer that is not empty for too long",
-        CellWord::Delayed => "byte that is in its buffer for too long",
         CellWord::NoClock => "can't be checked: no clock references",
         CellWord::RateVaries => "can't be checked: the rate varies",
         CellWord::Nothing => "",

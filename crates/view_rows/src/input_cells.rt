@@ -3,14 +3,14 @@ ghost use Rattle.std.specs.Prelude.{◌≡◌};
 ghost use Rattle.view_rows.specs.InputCells as spec;
 
 use crate::cells::{Cell, CellUnit, CellWord, short};
-use events::{FileForm, OtherRate, RestBytes, SlippedBytes, StampJump};
+use events::{FaultKind, FileForm, OtherRate, RestBytes, SlippedBytes, StampJump};
 
 /// Returns the cells of bytes that are in no packet.
 pub(crate) fn slip_cells(e: &SlippedBytes) -> [Cell; 6]
     ensures { result ≡ spec.slip_cells e.now }
 {
     [
-        Cell::Word(CellWord::Slip),
+        Cell::Word(CellWord::Fault(FaultKind::Slip)),
         Cell::Word(CellWord::Nothing),
         Cell::Number(e.packet, CellUnit::Same),
         Cell::Number(e.bytes, CellUnit::Same),
@@ -24,7 +24,7 @@ pub(crate) fn rest_cells(e: &RestBytes) -> [Cell; 6]
     ensures { result ≡ spec.rest_cells e.now }
 {
     [
-        Cell::Word(CellWord::Rest),
+        Cell::Word(CellWord::Fault(FaultKind::Rest)),
         Cell::Word(CellWord::Nothing),
         Cell::Number(e.packet, CellUnit::Same),
         Cell::Number(e.bytes, CellUnit::Same),
@@ -48,7 +48,7 @@ pub(crate) fn empty_cells() -> [Cell; 6]
     ensures { result ≡ spec.empty_cells }
 {
     [
-        Cell::Word(CellWord::EmptyInput),
+        Cell::Word(CellWord::Fault(FaultKind::Empty)),
         Cell::Word(CellWord::Nothing),
         Cell::Word(CellWord::Nothing),
         Cell::Word(CellWord::Nothing),
@@ -62,7 +62,7 @@ pub(crate) fn no_stream_cells(form: FileForm) -> [Cell; 6]
     ensures { result ≡ spec.no_stream_cells form }
 {
     [
-        Cell::Word(CellWord::NoStream),
+        Cell::Word(CellWord::Fault(FaultKind::NoStream)),
         Cell::Word(CellWord::Nothing),
         Cell::Word(CellWord::Nothing),
         Cell::Word(CellWord::Nothing),
@@ -76,7 +76,7 @@ pub(crate) fn other_rate_cells(e: &OtherRate) -> [Cell; 6]
     ensures { result ≡ spec.other_rate_cells e.now }
 {
     [
-        Cell::Word(CellWord::OtherRate),
+        Cell::Word(CellWord::Fault(FaultKind::OtherRate)),
         Cell::Number(u64::from(e.pid), CellUnit::Same),
         Cell::Word(CellWord::Nothing),
         Cell::Number(short(e.references), CellUnit::Same),
@@ -90,7 +90,7 @@ pub(crate) fn no_stamps_cells() -> [Cell; 6]
     ensures { result ≡ spec.no_stamps_cells }
 {
     [
-        Cell::Word(CellWord::NoStamps),
+        Cell::Word(CellWord::Fault(FaultKind::NoStamps)),
         Cell::Word(CellWord::Nothing),
         Cell::Word(CellWord::Nothing),
         Cell::Word(CellWord::Nothing),
@@ -104,7 +104,7 @@ pub(crate) fn stamp_jump_cells(e: &StampJump) -> [Cell; 6]
     ensures { result ≡ spec.stamp_jump_cells e.now }
 {
     [
-        Cell::Word(CellWord::StampJump),
+        Cell::Word(CellWord::Fault(FaultKind::StampJump)),
         Cell::Word(CellWord::Nothing),
         Cell::Number(e.packet, CellUnit::Same),
         Cell::Number(e.value, CellUnit::Ticks),

@@ -5,7 +5,7 @@ ghost use Rattle.view_rows.specs.RowCells as spec;
 use crate::cells::{Cell, CellUnit, CellWord, limit_if, short};
 use events::{
     BufferExcess, CheckTotals, CheckWordFault, ClockFault, ClockTotals, CounterFault,
-    ElementaryLate, ElementaryTotals, FarAhead, LateCause, LateUnit, MainTotals,
+    ElementaryLate, ElementaryTotals, FarAhead, FaultKind, LateCause, LateUnit, MainTotals,
     MultiplexingTotals, NoVerdict, PidTotals, ProgramExcess, RefusalCause, RefusedPacket,
     StreamBegin, SystemTotals, TableFault, TableTotals, TransportTotals, UnclockedPackets,
 };
@@ -151,11 +151,11 @@ pub(crate) fn pid_cells(e: &PidTotals) -> [Cell; 4]
 }
 
 /// Returns the cells of an excess of a buffer.
-pub(crate) fn excess_cells(word: CellWord, e: &BufferExcess) -> [Cell; 6]
-    ensures { result ≡ spec.excess_cells word e.now }
+pub(crate) fn excess_cells(kind: FaultKind, e: &BufferExcess) -> [Cell; 6]
+    ensures { result ≡ spec.excess_cells kind e.now }
 {
     [
-        Cell::Word(word),
+        Cell::Word(CellWord::Fault(kind)),
         Cell::Number(u64::from(e.pid), CellUnit::Same),
         Cell::Number(e.packet, CellUnit::Same),
         Cell::Number(short(e.peak), CellUnit::Same),
@@ -165,11 +165,11 @@ pub(crate) fn excess_cells(word: CellWord, e: &BufferExcess) -> [Cell; 6]
 }
 
 /// Returns the cells of an excess of a buffer of tables.
-pub(crate) fn program_excess_cells(word: CellWord, e: &ProgramExcess) -> [Cell; 6]
-    ensures { result ≡ spec.program_excess_cells word e.now }
+pub(crate) fn program_excess_cells(kind: FaultKind, e: &ProgramExcess) -> [Cell; 6]
+    ensures { result ≡ spec.program_excess_cells kind e.now }
 {
     [
-        Cell::Word(word),
+        Cell::Word(CellWord::Fault(kind)),
         Cell::Program(e.program),
         Cell::Number(e.packet, CellUnit::Same),
         Cell::Number(short(e.peak), CellUnit::Same),
@@ -183,7 +183,7 @@ pub(crate) fn late_cells(e: &LateUnit) -> [Cell; 6]
     ensures { result ≡ spec.late_cells e.now }
 {
     [
-        Cell::Word(CellWord::LateUnit),
+        Cell::Word(CellWord::Fault(FaultKind::Late)),
         Cell::Number(u64::from(e.pid), CellUnit::Same),
         Cell::Number(e.packet, CellUnit::Same),
         Cell::Number(short(e.by), CellUnit::Ticks),
@@ -222,7 +222,7 @@ pub(crate) fn ahead_cells(e: &FarAhead) -> [Cell; 6]
     ensures { result ≡ spec.ahead_cells e.now }
 {
     [
-        Cell::Word(CellWord::FarAhead),
+        Cell::Word(CellWord::Fault(FaultKind::Ahead)),
         Cell::Number(u64::from(e.pid), CellUnit::Same),
         Cell::Number(e.packet, CellUnit::Same),
         Cell::Number(e.by, CellUnit::Ticks),
@@ -232,11 +232,11 @@ pub(crate) fn ahead_cells(e: &FarAhead) -> [Cell; 6]
 }
 
 /// Returns the cells of a clock reference whose time is wrong.
-pub(crate) fn clock_time_cells(word: CellWord, e: &ClockFault) -> [Cell; 6]
-    ensures { result ≡ spec.clock_time_cells word e.now }
+pub(crate) fn clock_time_cells(kind: FaultKind, e: &ClockFault) -> [Cell; 6]
+    ensures { result ≡ spec.clock_time_cells kind e.now }
 {
     [
-        Cell::Word(word),
+        Cell::Word(CellWord::Fault(kind)),
         Cell::Number(u64::from(e.pid), CellUnit::Same),
         Cell::Number(e.packet, CellUnit::Same),
         Cell::Number(short(e.value), CellUnit::Ticks),
@@ -250,7 +250,7 @@ pub(crate) fn clock_place_cells(e: &ClockFault) -> [Cell; 6]
     ensures { result ≡ spec.clock_place_cells e.now }
 {
     [
-        Cell::Word(CellWord::PcrAccuracy),
+        Cell::Word(CellWord::Fault(FaultKind::PcrAccuracy)),
         Cell::Number(u64::from(e.pid), CellUnit::Same),
         Cell::Number(e.packet, CellUnit::Same),
         Cell::Number(short(e.value), CellUnit::Same),
@@ -264,7 +264,7 @@ pub(crate) fn table_fault_cells(e: &TableFault) -> [Cell; 6]
     ensures { result ≡ spec.table_fault_cells e.now }
 {
     [
-        Cell::Word(CellWord::TableRepetition),
+        Cell::Word(CellWord::Fault(FaultKind::TableRepetition)),
         Cell::Number(u64::from(e.pid), CellUnit::Same),
         Cell::Number(e.packet, CellUnit::Same),
         Cell::Number(short(e.value), CellUnit::Ticks),
@@ -278,7 +278,7 @@ pub(crate) fn unclocked_cells(e: &UnclockedPackets) -> [Cell; 6]
     ensures { result ≡ spec.unclocked_cells e.now }
 {
     [
-        Cell::Word(CellWord::Unclocked),
+        Cell::Word(CellWord::Fault(FaultKind::Unclocked)),
         Cell::Word(CellWord::Nothing),
         Cell::Number(e.packet, CellUnit::Same),
         Cell::Number(e.packets, CellUnit::Same),
@@ -287,13 +287,13 @@ pub(crate) fn unclocked_cells(e: &UnclockedPackets) -> [Cell; 6]
     ]
 }
 
-/// Returns the cells of a PID and a word.
-pub(crate) fn reference_cells(word: CellWord, pid: u16) -> [Cell; 2]
-    ensures { result ≡ spec.reference_cells word pid }
+/// Returns the cells of a PID and a kind of fault.
+pub(crate) fn reference_cells(kind: FaultKind, pid: u16) -> [Cell; 2]
+    ensures { result ≡ spec.reference_cells kind pid }
 {
     [
         Cell::Number(u64::from(pid), CellUnit::Same),
-        Cell::Word(word),
+        Cell::Word(CellWord::Fault(kind)),
     ]
 }
 
@@ -302,9 +302,9 @@ fn cause_word(cause: RefusalCause) -> CellWord
     ensures { result ≡ spec.cause_word cause }
 {
     match cause {
-        RefusalCause::SyncByte => CellWord::SyncByte,
-        RefusalCause::Header => CellWord::RefusedHeader,
-        RefusalCause::TransportError => CellWord::TransportError,
+        RefusalCause::SyncByte => CellWord::Fault(FaultKind::SyncByte),
+        RefusalCause::Header => CellWord::Fault(FaultKind::Header),
+        RefusalCause::TransportError => CellWord::Fault(FaultKind::TransportError),
     }
 }
 
@@ -327,7 +327,7 @@ pub(crate) fn continuity_cells(e: &CounterFault) -> [Cell; 6]
     ensures { result ≡ spec.continuity_cells e.now }
 {
     [
-        Cell::Word(CellWord::Continuity),
+        Cell::Word(CellWord::Fault(FaultKind::Continuity)),
         Cell::Number(u64::from(e.pid), CellUnit::Same),
         Cell::Number(e.packet, CellUnit::Same),
         Cell::Number(u64::from(e.found), CellUnit::Same),
@@ -341,7 +341,7 @@ pub(crate) fn check_word_cells(e: &CheckWordFault) -> [Cell; 6]
     ensures { result ≡ spec.check_word_cells e.now }
 {
     [
-        Cell::Word(CellWord::CheckWord),
+        Cell::Word(CellWord::Fault(FaultKind::CheckWord)),
         Cell::Number(u64::from(e.pid), CellUnit::Same),
         Cell::Number(e.packet, CellUnit::Same),
         Cell::Word(CellWord::Nothing),

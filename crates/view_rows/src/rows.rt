@@ -2,7 +2,7 @@
 ghost use Rattle.std.specs.Prelude.{◌≡◌, ◌++◌, OnOk, string_bytes};
 ghost use Rattle.view_rows.specs.Rows as spec;
 
-use crate::cells::{Cell, CellWord, write_cells, write_row};
+use crate::cells::{Cell, write_cells, write_row};
 use crate::fault_rows::{FaultRow, buffer_of, fault_buffer};
 use crate::input_cells::{
     empty_cells, no_stamps_cells, no_stream_cells, other_rate_cells, packet_size_cells, rest_cells,
@@ -18,7 +18,8 @@ use crate::row_cells::{
 };
 use crate::summary_cells::{fault_cells, time_cells, totals_cells, write_sentence};
 use events::{
-    Event, Fault, FaultTotals, InputEvent, StreamBegin, SummaryEvent, TimedEvent, Verdict, fault_of,
+    Event, Fault, FaultKind, FaultTotals, InputEvent, StreamBegin, SummaryEvent, TimedEvent,
+    Verdict, fault_of,
 };
 use page_curves::PidLabels;
 use std::alloc::{AllocError, Global};
@@ -197,51 +198,51 @@ impl Rows {
         ensures { OnOk result (self.new ≡ spec.with_fault_event labels.now fault.now self.old event.now) }
     {
         match event {
-            Event::Excess(e) => self.take_fault(
-                labels,
-                fault,
-                &excess_cells(CellWord::TransportExcess, e),
-            ),
+            Event::Excess(e) => self.take_fault(labels, fault, &excess_cells(FaultKind::Excess, e)),
             Event::MainExcess(e) => self.take_fault(
                 labels,
                 fault,
-                &excess_cells(CellWord::MainExcess, e),
+                &excess_cells(FaultKind::MainExcess, e),
             ),
             Event::MultiplexingExcess(e) => {
                 self.take_fault(
                     labels,
                     fault,
-                    &excess_cells(CellWord::MultiplexingExcess, e),
+                    &excess_cells(FaultKind::MultiplexingExcess, e),
                 )
             }
             Event::ElementaryExcess(e) => {
-                self.take_fault(labels, fault, &excess_cells(CellWord::ElementaryExcess, e))
+                self.take_fault(labels, fault, &excess_cells(FaultKind::ElementaryExcess, e))
             }
             Event::SystemExcess(e) => {
                 self.take_fault(
                     labels,
                     fault,
-                    &program_excess_cells(CellWord::SystemExcess, e),
+                    &program_excess_cells(FaultKind::SystemExcess, e),
                 )
             }
             Event::SystemMainExcess(e) => {
                 self.take_fault(
                     labels,
                     fault,
-                    &program_excess_cells(CellWord::SystemMainExcess, e),
+                    &program_excess_cells(FaultKind::SystemMainExcess, e),
                 )
             }
             Event::Late(e) => self.take_fault(labels, fault, &late_cells(e)),
             Event::ElementaryLate(e) => self.take_fault(labels, fault, &elementary_late_cells(e)),
             Event::Ahead(e) => self.take_fault(labels, fault, &ahead_cells(e)),
             Event::PcrRepetition(e) => {
-                self.take_fault(labels, fault, &clock_time_cells(CellWord::PcrRepetition, e))
+                self.take_fault(
+                    labels,
+                    fault,
+                    &clock_time_cells(FaultKind::PcrRepetition, e),
+                )
             }
             Event::PcrDiscontinuity(e) => {
                 self.take_fault(
                     labels,
                     fault,
-                    &clock_time_cells(CellWord::PcrDiscontinuity, e),
+                    &clock_time_cells(FaultKind::PcrDiscontinuity, e),
                 )
             }
             Event::PcrAccuracy(e) => self.take_fault(labels, fault, &clock_place_cells(e)),
@@ -325,14 +326,14 @@ impl Rows {
                 write_row(
                     &mut self.apart,
                     labels,
-                    &reference_cells(CellWord::Unreferenced, *pid),
+                    &reference_cells(FaultKind::Unreferenced, *pid),
                 )
             }
             Event::Missing(pid) => {
                 write_row(
                     &mut self.apart,
                     labels,
-                    &reference_cells(CellWord::Missing, *pid),
+                    &reference_cells(FaultKind::Missing, *pid),
                 )
             }
             Event::Check(e) => write_row(&mut self.checks, labels, &check_cells(e)),

@@ -10,10 +10,9 @@ use std::alloc::AllocError;
 const KINDS: &str =
     "</table></div><h2 id=kinds>Faults by kind and stream</h2><div class=\"wide\"><table aria-labelledby=kinds><tr><th class=word scope=col>what<th scope=col>where<th scope=col>faults<th scope=col>first packet<th scope=col>last packet<th scope=col>from, ms<th scope=col>to, ms<th scope=col>worst<th scope=col>limit<th class=word scope=col>unit\n";
 
-/// What a kind of fault is called, and the unit of its value.
+/// The unit of a value, and of its number in a cell.
 #[derive(Clone, Copy)]
-pub(crate) struct KindCells {
-    pub word: CellWord,
+pub(crate) struct ValueUnit {
     pub scale: CellUnit,
     pub unit: CellWord,
 }
@@ -26,92 +25,44 @@ pub fn kinds_text() -> &'static str
     KINDS
 }
 
-// Returns the words of a fault without a value.
-fn plain(word: CellWord) -> KindCells
-    ensures { result ≡ spec.plain word }
-{
-    KindCells {
-        word,
-        scale: CellUnit::Same,
-        unit: CellWord::Nothing,
-    }
-}
-
-// Returns the words of a fault whose value is a number of bytes.
-fn bytes(word: CellWord) -> KindCells
-    ensures { result ≡ spec.bytes word }
-{
-    KindCells {
-        word,
-        scale: CellUnit::Same,
-        unit: CellWord::Bytes,
-    }
-}
-
-// Returns the words of a fault whose value is a time.
-fn time(word: CellWord) -> KindCells
-    ensures { result ≡ spec.time word }
-{
-    KindCells {
-        word,
-        scale: CellUnit::Ticks,
-        unit: CellWord::Millis,
-    }
-}
-
-// Returns the words of an inaccurate clock reference, whose value is in nanoseconds.
-fn nanos(word: CellWord) -> KindCells
-    ensures { result ≡ spec.nanos word }
-{
-    KindCells {
-        word,
-        scale: CellUnit::Same,
-        unit: CellWord::Nanos,
-    }
-}
-
-#[tactic(auto, unfolding(crate::specs::SummaryCells::kind_cells))]
-fn kind_cells(kind: FaultKind) -> KindCells
-    ensures { result ≡ spec.kind_cells kind }
+// Returns the unit of the value of a kind of fault: bytes, a time, nanoseconds, or none.
+#[tactic(auto, unfolding(crate::specs::SummaryCells::unit_of))]
+fn unit_of(kind: FaultKind) -> ValueUnit
+    ensures { result ≡ spec.unit_of kind }
 {
     match kind {
-        FaultKind::Slip => plain(CellWord::Slip),
-        FaultKind::Empty => plain(CellWord::EmptyInput),
-        FaultKind::NoStream => plain(CellWord::NoStream),
-        FaultKind::OtherRate => plain(CellWord::OtherRate),
-        FaultKind::Unclocked => plain(CellWord::Unclocked),
-        FaultKind::SyncByte => plain(CellWord::SyncByte),
-        FaultKind::Header => plain(CellWord::RefusedHeader),
-        FaultKind::TransportError => plain(CellWord::TransportError),
-        FaultKind::Continuity => plain(CellWord::Continuity),
-        FaultKind::CheckWord => plain(CellWord::CheckWord),
-        FaultKind::Excess => bytes(CellWord::TransportExcess),
-        FaultKind::MainExcess => bytes(CellWord::MainExcess),
-        FaultKind::MultiplexingExcess => bytes(CellWord::MultiplexingExcess),
-        FaultKind::ElementaryExcess => bytes(CellWord::ElementaryExcess),
-        FaultKind::SystemExcess => bytes(CellWord::SystemExcess),
-        FaultKind::SystemMainExcess => bytes(CellWord::SystemMainExcess),
-        FaultKind::Late => time(CellWord::LateUnit),
-        FaultKind::ElementaryLate => time(CellWord::ElementaryLate),
-        FaultKind::Ahead => time(CellWord::FarAhead),
-        FaultKind::PcrRepetition => time(CellWord::PcrRepetition),
-        FaultKind::PcrDiscontinuity => time(CellWord::PcrDiscontinuity),
-        FaultKind::PcrAccuracy => nanos(CellWord::PcrAccuracy),
-        FaultKind::PtsRepetition => time(CellWord::PtsRepetition),
-        FaultKind::TableRepetition => time(CellWord::TableRepetition),
-        FaultKind::SectionDistance => time(CellWord::SectionDistance),
-        FaultKind::OtherTable => plain(CellWord::OtherTable),
-        FaultKind::ScrambledTable => plain(CellWord::ScrambledTable),
-        FaultKind::NoCat => plain(CellWord::NoCat),
-        FaultKind::NotEmpty => time(CellWord::NotEmpty),
-        FaultKind::Delayed => time(CellWord::Delayed),
-        FaultKind::Unreferenced => plain(CellWord::Unreferenced),
-        FaultKind::Missing => plain(CellWord::Missing),
-        FaultKind::Rest => plain(CellWord::Rest),
-        FaultKind::NoStamps => plain(CellWord::NoStamps),
-        FaultKind::StampJump => time(CellWord::StampJump),
-        FaultKind::NoTable => plain(CellWord::NoTable),
-        FaultKind::PidRepetition => time(CellWord::PidRepetition),
+        FaultKind::Excess
+        | FaultKind::MainExcess
+        | FaultKind::MultiplexingExcess
+        | FaultKind::ElementaryExcess
+        | FaultKind::SystemExcess
+        | FaultKind::SystemMainExcess => ValueUnit {
+            scale: CellUnit::Same,
+            unit: CellWord::Bytes,
+        },
+        FaultKind::Late
+        | FaultKind::ElementaryLate
+        | FaultKind::Ahead
+        | FaultKind::PcrRepetition
+        | FaultKind::PcrDiscontinuity
+        | FaultKind::PtsRepetition
+        | FaultKind::TableRepetition
+        | FaultKind::SectionDistance
+        | FaultKind::NotEmpty
+        | FaultKind::Delayed
+        | FaultKind::StampJump
+        | FaultKind::PidRepetition => ValueUnit {
+            scale: CellUnit::Ticks,
+            unit: CellWord::Millis,
+        },
+        FaultKind::PcrAccuracy => ValueUnit {
+            scale: CellUnit::Same,
+            unit: CellWord::Nanos,
+        },
+        _ => ValueUnit {
+            scale: CellUnit::Same,
+            unit: CellWord::Nothing,
+        },
     }
 }
 
@@ -163,18 +114,18 @@ fn limit_cell(measured: Option<Measured>, scale: CellUnit) -> Cell
 pub(crate) fn totals_cells(e: &FaultTotals) -> [Cell; 10]
     ensures { result ≡ spec.totals_cells e.now }
 {
-    let kind = kind_cells(e.kind);
+    let value = unit_of(e.kind);
     [
-        Cell::Word(kind.word),
+        Cell::Word(CellWord::Fault(e.kind)),
         Cell::Source(e.source),
         Cell::Number(e.count.faults, CellUnit::Same),
         Cell::Number(e.count.first, CellUnit::Same),
         Cell::Number(e.count.last, CellUnit::Same),
         moment_cell(e.count.from),
         moment_cell(e.count.to),
-        value_cell(e.worst, kind.scale),
-        limit_cell(e.worst, kind.scale),
-        Cell::Word(kind.unit),
+        value_cell(e.worst, value.scale),
+        limit_cell(e.worst, value.scale),
+        Cell::Word(value.unit),
     ]
 }
 
@@ -182,14 +133,14 @@ pub(crate) fn totals_cells(e: &FaultTotals) -> [Cell; 10]
 pub(crate) fn fault_cells(e: &Fault) -> [Cell; 6]
     ensures { result ≡ spec.fault_cells e.now }
 {
-    let kind = kind_cells(e.kind);
+    let value = unit_of(e.kind);
     [
-        Cell::Word(kind.word),
+        Cell::Word(CellWord::Fault(e.kind)),
         Cell::Source(e.source),
         Cell::Number(e.packet, CellUnit::Same),
-        value_cell(e.measured, kind.scale),
-        limit_cell(e.measured, kind.scale),
-        Cell::Word(kind.unit),
+        value_cell(e.measured, value.scale),
+        limit_cell(e.measured, value.scale),
+        Cell::Word(value.unit),
     ]
 }
 

@@ -14,10 +14,10 @@ returns c = λ h k.
     let place = c.args.place.now in
     let events = c.args.events.now.items in
     let first = c.in_ok-push_excess_if.ensures
-    ∙ ap (λ (e : Option Excess). events ++ excess_events options (with_size place tb_size) (option_to_list e)) (c.transport_excess.ensures h k) in
-    let second = c.in_ok-push_main_excess_if.ensures
-    ∙ ap (λ (e : Option Excess). c.push_excess_if.new.events.items ++ main_excess_events options place (option_to_list e)) (c.main_excess.ensures h k) in
+    ∙ ap (λ (e : Option Excess). events ++ excess_events options (with_size place tb_size) (option_to_list e)) (c.transport_excess-excess.ensures h k) in
+    let second = c.in_ok-push_excess_if-2.ensures
+    ∙ ap (λ (e : Option Excess). c.push_excess_if.new.events.items ++ main_excess_events options place (option_to_list e)) (c.main_excess-excess.ensures h k) in
     on_ok c.push_late_if.result
-    (λ e. three events (c.push_excess_if.new.events.items) (c.push_main_excess_if.new.events.items) (c.push_late_if.new.events.items) _ _ _
-    first second (e ∙ ap (λ (u : Option UnitSeen). c.push_main_excess_if.new.events.items ++ late_events options place u) (c.unit.ensures h k)))
+    (λ e. three events (c.push_excess_if.new.events.items) (c.push_excess_if-2.new.events.items) (c.push_late_if.new.events.items) _ _ _
+    first second (e ∙ ap (λ (u : Option UnitSeen). c.push_excess_if-2.new.events.items ++ late_events options place u) (c.unit.ensures h k)))
     c.push_late_if.ensures

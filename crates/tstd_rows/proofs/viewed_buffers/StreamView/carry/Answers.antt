@@ -4,6 +4,8 @@ use Rattle.arrival.specs.Rows.{times_of}
 use Rattle.clock27.specs.Departure.{departures}
 use Rattle.tstd_rows.proofs.Pieces.{length-row}
 use Rattle.tstd_rows.specs.History.{with_bytes}
+use Rattle.tstd_rows.specs.declared.transport_buffer.TransportBuffer.{TransportBuffer}
+use Rattle.tstd_rows.proofs.Together.{left_by}
 use Rattle.tstd_rows.proofs.Views.{carried, left_bytes, bytes_more, climbing, held_left, least_left, most_left, counted_more}
 use Rattle.tstd_rows.proofs.viewed_buffers.StreamView.carry.Goals as goal
 
@@ -17,6 +19,18 @@ enter_leaving-found-requires-clause-room g c =
     let old = c.args.self.now in
     let all = left_bytes old.transport.step old.transport.last c.arrive-arrived.result.leaving c.args.row.now c.arrive-arrived.ensures.left in
     omega (arith, all, old.fewer, c.requires.count)
+
+pub enter_leaving-found-requires-clause-some : goal.enter_leaving-found-requires-clause-some
+enter_leaving-found-requires-clause-some g c =
+    let old = c.args.self.now in
+    let all = left_bytes old.transport.step old.transport.last c.arrive-arrived.result.leaving c.args.row.now c.arrive-arrived.ensures.left in
+    omega (arith, all, c.requires.some)
+
+pub enter_leaving-found-requires-clause-last : goal.enter_leaving-found-requires-clause-last
+enter_leaving-found-requires-clause-last g c =
+    let old = c.args.self.now in
+    left_by old.transport.step old.transport.last c.arrive-arrived.result.leaving (times_of c.args.row.now) c.arrive-arrived.ensures.left
+    (c.arrive-arrived.ensures.last ∙ ap (λ (t : TransportBuffer). t.last) c.arrive-arrived.ensures.buffer)
 
 pub invariant_of-self-clause-fewer : goal.invariant_of-self-clause-fewer
 invariant_of-self-clause-fewer g c =
