@@ -5,6 +5,42 @@ ghost use Rattle.devices.specs.Files.{IsAsKnown};
 
 use counted_io::{Counted, Source};
 use std::fs::File;
+use std::io::ErrorKind;
+
+/// Why a file is not created.
+#[derive(Clone, Copy, Debug, PartialEq, Eq)]
+pub enum FileFault {
+    /// A folder of its name is missing.
+    Missing,
+    /// Permissions forbid it.
+    Denied,
+    /// Its name is the name of a folder.
+    Folder,
+    /// Another run writes the file.
+    Busy,
+    /// Another reason.
+    Other,
+}
+
+impl FileFault {
+    /// Returns the fault for an error of the system.
+    pub(crate) fn of(kind: ErrorKind) -> FileFault {
+        match kind {
+            ErrorKind::NotFound | ErrorKind::NotADirectory => FileFault::Missing,
+            ErrorKind::PermissionDenied | ErrorKind::ReadOnlyFilesystem => FileFault::Denied,
+            ErrorKind::IsADirectory => FileFault::Folder,
+            _ => FileFault::Other,
+        }
+    }
+
+    /// Returns the fault for an error of the system, unless it is that the file is missing.
+    pub(crate) fn unless_missing(kind: ErrorKind) -> Result<(), FileFault> {
+        match kind {
+            ErrorKind::NotFound => Ok(()),
+            kind => Err(FileFault::of(kind)),
+        }
+    }
+}
 
 /// Files that can be opened by name, to be read.
 pub trait NamedFiles {

@@ -7,6 +7,7 @@ ghost use Rattle.std.specs.Str.{bytes_eq};
 use crate::files::NamedFiles;
 use crate::halt::{Halt, report_halt};
 use crate::output_files::OutputFiles;
+use crate::patient::Patient;
 use crate::watched::Watched;
 use counted_io::{Counted, Sink};
 use held_input::{BufferedInput, HeldInput};
@@ -49,7 +50,7 @@ struct Writers<W, E> {
 /// Standard output, which notes whether its reader has gone away.
 #[derive(Drop)]
 struct PipedOutput<'a> {
-    inner: Stdout,
+    inner: Patient<'a, Stdout>,
     is_gone: &'a Cell<bool>,
 }
 
@@ -72,7 +73,7 @@ impl Write for PipedOutput<'_> {
 /// Standard error, until the reader of standard output has gone away. It takes all later bytes, and writes none.
 #[derive(Drop)]
 struct PipedFaults<'a> {
-    inner: Stderr,
+    inner: Patient<'a, Stderr>,
     is_gone: &'a Cell<bool>,
 }
 
@@ -140,12 +141,13 @@ fn input_size(rt: &HostRuntime) -> Option<u64> {
 fn input_of<'a>(
     rt: &'a HostRuntime,
     words: &[&str],
-) -> Watched<Stdin, Counted<Stderr>, &'a HostRuntime> {
+) -> Watched<Patient<'a, Stdin>, Counted<Stderr>, &'a HostRuntime> {
+    let input = Patient::new(rt.stdin(), rt);
     let to = Counted::new(rt.stderr());
     if ask_for_progress(words) && rt.stderr().is_terminal() {
-        Watched::showing(rt.stdin(), to, rt, input_size(rt))
+        Watched::showing(input, to, rt, input_size(rt))
     } else {
-        Watched::silent(rt.stdin(), to, rt)
+        Watched::silent(input, to, rt)
     }
 }
 
@@ -184,11 +186,11 @@ fn status_of<P: Program, W: Write, E: Write>(rt: &HostRuntime, writers: &mut Wri
 pub fn run_program<P: Program>(rt: &HostRuntime) -> ExitCode {
     let is_gone = Cell::new(false);
     let output = PipedOutput {
-        inner: rt.stdout(),
+        inner: Patient::new(rt.stdout(), rt),
         is_gone: &is_gone,
     };
     let faults = PipedFaults {
-        inner: rt.stderr(),
+        inner: Patient::new(rt.stderr(), rt),
         is_gone: &is_gone,
     };
     let mut writers = Writers {
@@ -202,8 +204,8 @@ pub fn run_program<P: Program>(rt: &HostRuntime) -> ExitCode {
 /// function has no clause, for the same reason.
 pub fn run_reporting_program<P: Program>(rt: &HostRuntime) -> ExitCode {
     let mut writers = Writers {
-        output: Counted::new(rt.stdout()),
-        faults: Counted::new(rt.stderr()),
+        output: Counted::new(Patient::new(rt.stdout(), rt)),
+        faults: Counted::new(Patient::new(rt.stderr(), rt)),
     };
-    exit_code(status_of::<P, Stdout, Stderr>(rt, &mut writers))
+    exit_code(status_of::<P, _, _>(rt, &mut writers))
 }

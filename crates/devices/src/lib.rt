@@ -18,7 +18,9 @@ mod lines;
 mod meter;
 mod options;
 mod output_files;
+mod patient;
 mod piece_taker;
+mod unfinished;
 mod watched;
 mod whole_input;
 

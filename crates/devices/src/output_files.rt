@@ -2,10 +2,13 @@
 ghost use Rattle.std.specs.Prelude.{◌≡◌, ℕ, List, [], None, Some, Option, Bool, IfSome, is_some};
 ghost use Rattle.devices.specs.Files.{IsAsKnown};
 
+use crate::files::FileFault;
+use crate::unfinished::{is_named, new_unfinished};
 use counted_io::{Counted, Sink};
 use std::alloc::Global;
 use std::fs::{File, canonicalize, metadata, remove_file, rename};
 use std::io::{self, ErrorKind, IsTerminal, Write};
+use std::os::unix::fs::MetadataExt;
 
 /// Files that are written by name: a new file has its name when it is whole, and not before.
 pub trait OutputFiles {
@@ -47,7 +50,8 @@ struct NewNames {
     wanted: String,
 }
 
-/// A new file. It is written in place if its name is the name of a device or a pipe: then it has no other name.
+/// A new file, with its lock. It is written in place if its name is the name of a device or a pipe: then it has no
+/// other name.
 #[derive(Drop)]
 pub struct NewFile {
     file: File,
@@ -76,42 +80,48 @@ fn new_names(alloc: Global, path: &str) -> Option<NewNames> {
     Some(NewNames { unfinished, wanted })
 }
 
-/// Returns a new file in the same folder as `path`, the file that has or will have this name.
-fn create_beside(rt: &HostRuntime, path: &str) -> Option<NewFile> {
-    let names = new_names(rt.alloc(), path)?;
-    let file = File::create(rt, names.unfinished.as_str()).ok()?;
-    Some(NewFile {
+/// Returns a new file in the same folder as `path`, the file that has or will have this name; with this mode, if given.
+fn create_beside(rt: &HostRuntime, path: &str, mode: Option<u32>) -> Result<NewFile, FileFault> {
+    let Some(names) = new_names(rt.alloc(), path) else {
+        return Err(FileFault::Other);
+    };
+    let file = new_unfinished(rt, names.unfinished.as_str(), mode)?;
+    Ok(NewFile {
         file,
         names: Some(names),
     })
 }
 
-/// Returns a new file in the same folder as the plain file of this name; if the name is a link, as the file that it
-/// leads to.
-fn create_in_place_of(rt: &HostRuntime, name: &str) -> Option<NewFile> {
-    let path = canonicalize(rt, name).ok()?;
-    create_beside(rt, path.as_str())
+/// Returns a new file with this mode in the same folder as the plain file of this name; if the name is a link, as the file
+/// that it leads to.
+fn create_in_place_of(rt: &HostRuntime, name: &str, mode: u32) -> Result<NewFile, FileFault> {
+    match canonicalize(rt, name) {
+        Ok(path) => create_beside(rt, path.as_str(), Some(mode)),
+        Err(error) => Err(FileFault::of(error.kind())),
+    }
 }
 
 /// Returns a writer of the device or the pipe of this name.
-fn open_device(rt: &HostRuntime, name: &str) -> Option<NewFile> {
-    let file = File::create(rt, name).ok()?;
-    Some(NewFile { file, names: None })
+fn open_device(rt: &HostRuntime, name: &str) -> Result<NewFile, FileFault> {
+    match File::create(rt, name) {
+        Ok(file) => Ok(NewFile { file, names: None }),
+        Err(error) => Err(FileFault::of(error.kind())),
+    }
 }
 
 /// Returns a new file that is to have this name.
-fn create_new(rt: &HostRuntime, name: &str) -> Option<NewFile> {
+fn create_new(rt: &HostRuntime, name: &str) -> Result<NewFile, FileFault> {
     match metadata(rt, name) {
         Ok(known) => {
             if known.is_file() {
-                create_in_place_of(rt, name)
+                create_in_place_of(rt, name, known.mode() & 0o777)
             } else {
                 open_device(rt, name)
             }
         }
         Err(error) => match error.kind() {
-            ErrorKind::NotFound => create_beside(rt, name),
-            _ => None,
+            ErrorKind::NotFound => create_beside(rt, name, None),
+            kind => Err(FileFault::of(kind)),
         },
     }
 }
@@ -127,26 +137,35 @@ impl OutputFiles for HostRuntime {
 
     fn create_named(&self, name: &str) -> Option<Counted<NewFile>> {
         match create_new(self, name) {
-            Some(file) => Some(Counted::new(file)),
-            None => None,
+            Ok(file) => Some(Counted::new(file)),
+            Err(_) => None,
         }
     }
 
     fn keep_file(&self, _name: &str, writer: Counted<NewFile>) -> bool {
         let NewFile { file, names } = writer.into_inner();
-        drop(file);
-        match names {
-            Some(names) => rename(self, names.unfinished.as_str(), names.wanted.as_str()).is_ok(),
+        let is_kept = match names {
+            Some(names) => {
+                let unfinished = names.unfinished.as_str();
+                is_named(self, unfinished, &file)
+                    && rename(self, unfinished, names.wanted.as_str()).is_ok()
+            }
             None => true,
-        }
+        };
+        // After the rename: the drop of the file frees its lock.
+        drop(file);
+        is_kept
     }
 
     fn discard_file(&self, writer: Counted<NewFile>) {
         let NewFile { file, names } = writer.into_inner();
-        drop(file);
         if let Some(names) = names {
-            let _ = remove_file(self, names.unfinished.as_str());
+            let unfinished = names.unfinished.as_str();
+            if is_named(self, unfinished, &file) {
+                let _ = remove_file(self, unfinished);
+            }
         }
+        drop(file);
     }
 
     fn shows_output(&self) -> bool {
