@@ -17,10 +17,11 @@ use Rattle.demux.specs.FoundSoFar.{taken_all}
 use Rattle.fed_streams.specs.Feeding.{Fed, FeedView}
 use Rattle.es_feed.specs.StreamFeeding.{IsFedBy, at_first, is_packet}
 use Rattle.es_feed.specs.Watching.{AreSlips, IsWatchedBy, IsWatchedOf, WatchedView, first_place, watched_first}
-use Rattle.es_records.proofs.ReportedLines.{any_append, flat_append, or_true}
+use Rattle.es_records.proofs.ReportedLines.{any_append, flat_append, lines_append, or_true, state_append}
 use Rattle.es_feed.proofs.WatchedStreams.{no_rounds}
 use Rattle.fed_streams.specs.Ticks.{after_packets, fed_packets}
-use Rattle.es_feed.specs.FedLines.{fed_lines, fed_record, fed_records, has_fault, have_fault, have_refusal, is_refusal, lines_of}
+use Rattle.es_feed.specs.FedLines.{fed_record, fed_records, has_fault, have_fault, have_refusal, is_refusal}
+use Rattle.es_records.specs.StreamLines.{LinesView, after_lines, fed_lines, first_lines, lines_from}
 use Rattle.es_records.specs.Passing.{FailsToPass, FeedsPiece, FeedsSome, GoesOut, IsFedSoFar, IsUnrefused, Midway, Passes}
 use Rattle.es_records.specs.Passing.{PassesPieces, longest_piece}
 
@@ -37,13 +38,15 @@ watched_none : (first : FeedView) → IsWatchedBy first [] false (watched_first 
 watched_none first = record { fed = []; found = []; rounds = no_rounds; by = fed_none first; slips_are = slips_none }
 
 -- The stream so far: at least one byte in each piece, and nothing shows that the description is of another stream.
-pub record MidwayLong (first : FeedView) (pids : List ℕ) (input output faults : Device) (faulty : Bool) (s : WatchedView) (pieces : ℕ) : Type 0 where
-  pub midway : Midway first pids input output faults faulty s
-  pub unrefused : have_refusal midway.fed ≡ false
-  pub pieces_in : pieces ≤ length midway.came
+pub record MidwayLong (first : FeedView) (pids : List ℕ) (input output faults : Device) (faulty : Bool) (s : WatchedView) (l : LinesView) (pieces : ℕ) : Type 0
+  where
+    pub midway : Midway first pids input output faults faulty s l
+    pub unrefused : have_refusal midway.fed ≡ false
+    pub pieces_in : pieces ≤ length midway.came
 
 pub none_came : (first : FeedView) (pids : List ℕ) (input output faults : Port) →
-    MidwayLong first pids (between input input) (between output output) (between faults faults) false (watched_first first) 0
+    MidwayLong first pids (between input input) (between output output) (between faults faults) false (watched_first first) (first_lines pids) 0
+unfolding lines_from after_lines
 none_came first pids input output faults = record {
   midway = record {
     came = [];
@@ -53,16 +56,19 @@ none_came first pids input output faults = record {
     passes = record { read = Consumes-nil input.bytes; written = Appends-nil output.bytes; clean = refl; reports_all = reported_none faults };
     unfailed = refl;
     faulty_is = refl;
+    lines_are = refl;
   };
   unrefused = refl;
   pieces_in = omega arith;
 }
 
-pub long_first : (first : FeedView) (pids : List ℕ) (input output faults : Port) (s : WatchedView) → s ≡ watched_first first →
-    MidwayLong first pids (between input input) (between output output) (between faults faults) false s 0
-long_first first pids input output faults s is =
-    subst (λ (t : WatchedView). MidwayLong first pids (between input input) (between output output) (between faults faults) false t 0) (sym is)
-    (none_came first pids input output faults)
+pub long_first : (first : FeedView) (pids : List ℕ) (input output faults : Port) (s : WatchedView) (l : LinesView) → s ≡ watched_first first →
+    l ≡ first_lines pids →
+    MidwayLong first pids (between input input) (between output output) (between faults faults) false s l 0
+long_first first pids input output faults s l is none =
+    subst (λ (t : WatchedView). MidwayLong first pids (between input input) (between output output) (between faults faults) false t l 0) (sym is)
+    (subst (λ (k : LinesView). MidwayLong first pids (between input input) (between output output) (between faults faults) false (watched_first first) k 0)
+    (sym none) (none_came first pids input output faults))
 
 -- 2. One more piece
 
@@ -73,86 +79,93 @@ all_written before mid after old new a b =
     subst (λ (bytes : List ℕ). Appends before.bytes after.bytes bytes) (sym (flat_append fed_record old new))
     (Appends-trans before.bytes mid.bytes after.bytes (fed_records old) (fed_records new) a b)
 
-pub all_lines_reported : (pids : List ℕ) (before mid after : Port) (old new : List Fed) → ReportsAll before mid (fed_lines pids old) →
-    ReportsAll mid after (fed_lines pids new) →
+pub all_lines_reported : (pids : List ℕ) (l : LinesView) (before mid after : Port) (old new : List Fed) → l ≡ after_lines (first_lines pids) old →
+    ReportsAll before mid (fed_lines pids old) → ReportsAll mid after (lines_from l new) →
     ReportsAll before after (fed_lines pids (old ++ new))
-all_lines_reported pids before mid after old new a b =
-    subst (λ (lines : List (List ℕ)). ReportsAll before after lines) (sym (flat_append (lines_of pids) old new))
-    (reported_all before mid after (fed_lines pids old) (fed_lines pids new) a b)
+all_lines_reported pids l before mid after old new is a b =
+    let more = subst (λ (k : LinesView). ReportsAll mid after (lines_from k new)) is b in
+    subst (λ (lines : List (List ℕ)). ReportsAll before after lines) (sym (lines_append (first_lines pids) old new))
+    (reported_all before mid after (fed_lines pids old) (lines_from (after_lines (first_lines pids) old) new) a more)
+
+all_lines_are : (pids : List ℕ) (l next : LinesView) (old new : List Fed) → l ≡ after_lines (first_lines pids) old → next ≡ after_lines l new →
+    next ≡ after_lines (first_lines pids) (old ++ new)
+all_lines_are pids l next old new is more =
+    more ∙ ap (λ (k : LinesView). after_lines k new) is ∙ sym (state_append (first_lines pids) old new)
 
 pub all_faulty : (early late faulty : Bool) (old new : List Fed) → early ≡ have_fault old → late ≡ have_fault new → faulty ≡ (early || late) →
     faulty ≡ have_fault (old ++ new)
 all_faulty early late faulty old new a b e = e ∙ ap (λ (x : Bool). x || late) a ∙ ap (λ (x : Bool). have_fault old || x) b ∙ sym (any_append has_fault old new)
 
 -- The input of a stream so far extends to the place where the last read ended.
-with_input : (first : FeedView) (pids piece : List ℕ) (i0 i1 i2 : Port) (output faults : Device) (faulty : Bool) (s : WatchedView)
-    (m : Midway first pids (between i0 i1) output faults faulty s) → Consumes i1.bytes i2.bytes piece →
+with_input : (first : FeedView) (pids piece : List ℕ) (i0 i1 i2 : Port) (output faults : Device) (faulty : Bool) (s : WatchedView) (l : LinesView)
+    (m : Midway first pids (between i0 i1) output faults faulty s l) → Consumes i1.bytes i2.bytes piece →
     Passes pids (m.came ++ piece) m.fed (between i0 i2) output faults
-with_input first pids piece i0 i1 i2 output faults faulty s m reads = record {
+with_input first pids piece i0 i1 i2 output faults faulty s l m reads = record {
   read = Consumes-trans i0.bytes i1.bytes i2.bytes m.came piece m.passes.read reads;
   written = m.passes.written;
   clean = m.passes.clean;
   reports_all = m.passes.reports_all;
 }
 
-pub so_far : (first : FeedView) (pids : List ℕ) (input output faults : Device) (faulty : Bool) (s : WatchedView)
-    (m : Midway first pids input output faults faulty s) → IsFedSoFar first m.came m.fed
-so_far first pids input output faults faulty s m = record { state = s; by = m.by; held = m.held }
+pub so_far : (first : FeedView) (pids : List ℕ) (input output faults : Device) (faulty : Bool) (s : WatchedView) (l : LinesView)
+    (m : Midway first pids input output faults faulty s l) → IsFedSoFar first m.came m.fed
+so_far first pids input output faults faulty s l m = record { state = s; by = m.by; held = m.held }
 
 -- Nothing so far shows that the description is of another stream, and then a last piece is read.
-unrefused_before : (first : FeedView) (pids piece : List ℕ) (input output faults : Device) (faulty : Bool) (s : WatchedView)
-    (m : Midway first pids input output faults faulty s) → have_refusal m.fed ≡ false → length piece ≤ longest_piece → IsUnrefused first (m.came ++ piece)
-unrefused_before first pids piece input output faults faulty s m unrefused most = record {
+unrefused_before : (first : FeedView) (pids piece : List ℕ) (input output faults : Device) (faulty : Bool) (s : WatchedView) (l : LinesView)
+    (m : Midway first pids input output faults faulty s l) → have_refusal m.fed ≡ false → length piece ≤ longest_piece → IsUnrefused first (m.came ++ piece)
+unrefused_before first pids piece input output faults faulty s l m unrefused most = record {
   earlier = m.came;
   last = piece;
   came_is = refl;
   most = most;
   before = m.fed;
-  fed_is = so_far first pids input output faults faulty s m;
+  fed_is = so_far first pids input output faults faulty s l m;
   unrefused = unrefused;
 }
 
 -- No byte is read after what is fed.
-unrefused_here : (first : FeedView) (pids : List ℕ) (input output faults : Device) (faulty : Bool) (s : WatchedView)
-    (m : Midway first pids input output faults faulty s) → have_refusal m.fed ≡ false → IsUnrefused first (m.came ++ [])
-unrefused_here first pids input output faults faulty s m unrefused =
-    unrefused_before first pids [] input output faults faulty s m unrefused (omega arith)
+unrefused_here : (first : FeedView) (pids : List ℕ) (input output faults : Device) (faulty : Bool) (s : WatchedView) (l : LinesView)
+    (m : Midway first pids input output faults faulty s l) → have_refusal m.fed ≡ false → IsUnrefused first (m.came ++ [])
+unrefused_here first pids input output faults faulty s l m unrefused =
+    unrefused_before first pids [] input output faults faulty s l m unrefused (omega arith)
 
 -- 3. The end of the pieces
 
-pub pieces_end : (first : FeedView) (pids : List ℕ) (i0 i1 i2 : Port) (output faults : Device) (faulty : Bool) (s : WatchedView)
-    (m : Midway first pids (between i0 i1) output faults faulty s) → have_refusal m.fed ≡ false → Consumes i1.bytes i2.bytes [] →
+pub pieces_end : (first : FeedView) (pids : List ℕ) (i0 i1 i2 : Port) (output faults : Device) (faulty : Bool) (s : WatchedView) (l : LinesView)
+    (m : Midway first pids (between i0 i1) output faults faulty s l) → have_refusal m.fed ≡ false → Consumes i1.bytes i2.bytes [] →
     i2.failed ≡ i1.failed → IsAtEnd i2.bytes →
-    PassesPieces first pids (between i0 i2) output faults (Ok faulty) s
-pieces_end first pids i0 i1 i2 output faults faulty s m unrefused reads clean ends = (
+    PassesPieces first pids (between i0 i2) output faults (Ok faulty) s l
+pieces_end first pids i0 i1 i2 output faults faulty s l m unrefused reads clean ends = (
   record {
     came = m.came;
     fed = m.fed;
     by = m.by;
     held = m.held;
     passes = subst (λ (bytes : List ℕ). Passes pids bytes m.fed (between i0 i2) output faults) (append-nil m.came)
-        (with_input first pids [] i0 i1 i2 output faults faulty s m reads);
+        (with_input first pids [] i0 i1 i2 output faults faulty s l m reads);
     unfailed = clean ∙ m.unfailed;
     faulty_is = m.faulty_is;
+    lines_are = m.lines_are;
   },
   inl ends,
   subst (λ (bytes : List ℕ). IsUnrefused first bytes) (append-nil m.came)
-      (unrefused_here first pids (between i0 i1) output faults faulty s m unrefused),
+      (unrefused_here first pids (between i0 i1) output faults faulty s l m unrefused),
 )
 
 failed_after : (a b c : ℕ) → b ≡ a → CountsOne b c → Failed a c
 failed_after a b c e (inl n) = inl (omega (arith, e, n))
 failed_after a b c e (inr h) = inr (h.0 ∙ e, sym e ∙ h.1)
 
-pub read_fails : (first : FeedView) (pids : List ℕ) (i0 i1 i2 : Port) (output faults : Device) (faulty : Bool) (s : WatchedView)
-    (m : Midway first pids (between i0 i1) output faults faulty s) → have_refusal m.fed ≡ false → Keeps i1.bytes i2.bytes →
-    CountsOne i1.failed i2.failed → PassesPieces first pids (between i0 i2) output faults (Err Read) s
-read_fails first pids i0 i1 i2 output faults faulty s m unrefused keeps counts = record {
+pub read_fails : (first : FeedView) (pids : List ℕ) (i0 i1 i2 : Port) (output faults : Device) (faulty : Bool) (s : WatchedView) (l : LinesView)
+    (m : Midway first pids (between i0 i1) output faults faulty s l) → have_refusal m.fed ≡ false → Keeps i1.bytes i2.bytes →
+    CountsOne i1.failed i2.failed → PassesPieces first pids (between i0 i2) output faults (Err Read) s l
+read_fails first pids i0 i1 i2 output faults faulty s l m unrefused keeps counts = record {
   came = m.came;
   fed = m.fed;
-  fed_is = so_far first pids (between i0 i1) output faults faulty s m;
+  fed_is = so_far first pids (between i0 i1) output faults faulty s l m;
   untaken = [];
-  unrefused = unrefused_here first pids (between i0 i1) output faults faulty s m unrefused;
+  unrefused = unrefused_here first pids (between i0 i1) output faults faulty s l m unrefused;
   passes = record {
     read = subst (λ (bytes : List ℕ). Consumes i0.bytes i2.bytes bytes) (sym (append-nil m.came))
         (Consumes-kept i0.bytes i1.bytes i2.bytes m.came m.passes.read keeps);
@@ -163,50 +176,51 @@ read_fails first pids i0 i1 i2 output faults faulty s m unrefused keeps counts =
   stopped = (refl, inl (failed_after i0.failed i1.failed i2.failed m.unfailed counts));
 }
 
-pub too_long : (first : FeedView) (pids : List ℕ) (input output faults : Device) (faulty : Bool) (s : WatchedView)
-    (m : Midway first pids input output faults faulty s) → have_refusal m.fed ≡ false → 2 ^ 64 - 1 ≤ length m.came →
-    PassesPieces first pids input output faults (Err Read) s
-too_long first pids input output faults faulty s m unrefused long = record {
+pub too_long : (first : FeedView) (pids : List ℕ) (input output faults : Device) (faulty : Bool) (s : WatchedView) (l : LinesView)
+    (m : Midway first pids input output faults faulty s l) → have_refusal m.fed ≡ false → 2 ^ 64 - 1 ≤ length m.came →
+    PassesPieces first pids input output faults (Err Read) s l
+too_long first pids input output faults faulty s l m unrefused long = record {
   came = m.came;
   fed = m.fed;
-  fed_is = so_far first pids input output faults faulty s m;
+  fed_is = so_far first pids input output faults faulty s l m;
   untaken = [];
-  unrefused = unrefused_here first pids input output faults faulty s m unrefused;
+  unrefused = unrefused_here first pids input output faults faulty s l m unrefused;
   passes = subst (λ (bytes : List ℕ). Passes pids bytes m.fed input output faults) (sym (append-nil m.came)) m.passes;
   stopped = (refl, inr long);
 }
 
-pub no_room : (first : FeedView) (pids piece : List ℕ) (i0 i1 i2 : Port) (output faults : Device) (faulty : Bool) (s t : WatchedView)
-    (m : Midway first pids (between i0 i1) output faults faulty s) → have_refusal m.fed ≡ false → Consumes i1.bytes i2.bytes piece →
+pub no_room : (first : FeedView) (pids piece : List ℕ) (i0 i1 i2 : Port) (output faults : Device) (faulty : Bool) (s t : WatchedView) (l k : LinesView)
+    (m : Midway first pids (between i0 i1) output faults faulty s l) → have_refusal m.fed ≡ false → Consumes i1.bytes i2.bytes piece →
     i2.failed ≡ i1.failed → length piece ≤ longest_piece →
-    PassesPieces first pids (between i0 i2) output faults (Err Memory) t
-no_room first pids piece i0 i1 i2 output faults faulty s t m unrefused reads clean most = record {
+    PassesPieces first pids (between i0 i2) output faults (Err Memory) t k
+no_room first pids piece i0 i1 i2 output faults faulty s t l k m unrefused reads clean most = record {
   came = m.came;
   fed = m.fed;
-  fed_is = so_far first pids (between i0 i1) output faults faulty s m;
+  fed_is = so_far first pids (between i0 i1) output faults faulty s l m;
   untaken = piece;
-  unrefused = unrefused_before first pids piece (between i0 i1) output faults faulty s m unrefused most;
-  passes = with_input first pids piece i0 i1 i2 output faults faulty s m reads;
+  unrefused = unrefused_before first pids piece (between i0 i1) output faults faulty s l m unrefused most;
+  passes = with_input first pids piece i0 i1 i2 output faults faulty s l m reads;
   stopped = clean ∙ m.unfailed;
 }
 
 -- Feeding the next piece fails.
-pub feed_fails : (first : FeedView) (pids : List ℕ) (i0 i1 i2 : Port) (output faults : Device) (faulty : Bool) (s t : WatchedView) (fed : List Fed)
-    (halt : Halt) (m : Midway first pids (between i0 i1) output faults faulty s) → have_refusal m.fed ≡ false →
+pub feed_fails : (first : FeedView) (pids : List ℕ) (i0 i1 i2 : Port) (output faults : Device) (faulty : Bool) (s t : WatchedView) (l : LinesView)
+    (fed : List Fed) (halt : Halt) (m : Midway first pids (between i0 i1) output faults faulty s l) → have_refusal m.fed ≡ false →
     FeedsPiece s (between i1 i2) t fed (Err halt) →
-    PassesPieces first pids (between i0 i2) output faults (Err halt) t
-feed_fails first pids i0 i1 i2 output faults faulty s t fed Read m unrefused p =
-    read_fails first pids i0 i1 i2 output faults faulty s m unrefused p.0 p.1
-feed_fails first pids i0 i1 i2 output faults faulty s t fed Write m unrefused p = absurd p
-feed_fails first pids i0 i1 i2 output faults faulty s t fed Memory m unrefused (piece, reads, clean, most) =
-    no_room first pids piece i0 i1 i2 output faults faulty s t m unrefused reads clean most
+    PassesPieces first pids (between i0 i2) output faults (Err halt) t l
+feed_fails first pids i0 i1 i2 output faults faulty s t l fed Read m unrefused p =
+    read_fails first pids i0 i1 i2 output faults faulty s l m unrefused p.0 p.1
+feed_fails first pids i0 i1 i2 output faults faulty s t l fed Write m unrefused p = absurd p
+feed_fails first pids i0 i1 i2 output faults faulty s t l fed Memory m unrefused (piece, reads, clean, most) =
+    no_room first pids piece i0 i1 i2 output faults faulty s t l l m unrefused reads clean most
 
-pub feed_ends : (first : FeedView) (pids : List ℕ) (i0 i1 i2 : Port) (output faults : Device) (faulty : Bool) (s t : WatchedView) (fed : List Fed) →
-    (m : Midway first pids (between i0 i1) output faults faulty s) → have_refusal m.fed ≡ false → FeedsPiece s (between i1 i2) t fed (Ok false) →
-    PassesPieces first pids (between i0 i2) output faults (Ok faulty) t
-feed_ends first pids i0 i1 i2 output faults faulty s t fed m unrefused (reads, clean, ends, same) =
-    subst (λ (v : WatchedView). PassesPieces first pids (between i0 i2) output faults (Ok faulty) v) (sym same)
-    (pieces_end first pids i0 i1 i2 output faults faulty s m unrefused reads clean ends)
+pub feed_ends : (first : FeedView) (pids : List ℕ) (i0 i1 i2 : Port) (output faults : Device) (faulty : Bool) (s t : WatchedView) (l : LinesView)
+    (fed : List Fed) →
+    (m : Midway first pids (between i0 i1) output faults faulty s l) → have_refusal m.fed ≡ false → FeedsPiece s (between i1 i2) t fed (Ok false) →
+    PassesPieces first pids (between i0 i2) output faults (Ok faulty) t l
+feed_ends first pids i0 i1 i2 output faults faulty s t l fed m unrefused (reads, clean, ends, same) =
+    subst (λ (v : WatchedView). PassesPieces first pids (between i0 i2) output faults (Ok faulty) v l) (sym same)
+    (pieces_end first pids i0 i1 i2 output faults faulty s l m unrefused reads clean ends)
 
 pub feeds_some : (s t : WatchedView) (input : Device) (fed : List Fed) (more : Bool) → more ≡ true → FeedsPiece s input t fed (Ok more) →
     FeedsSome s input t fed
@@ -223,11 +237,11 @@ failed_later : (a b c : ℕ) → b ≡ a → Failed b c → Failed a c
 failed_later a b c e f = subst (λ (n : ℕ). Failed n c) e f
 
 -- The writer fails within the records that were fed last, after the earlier records of the stream.
-pub last_fails : (first : FeedView) (pids bytes : List ℕ) (i0 i1 i2 o0 o1 o2 f0 f1 f2 : Port) (faulty : Bool) (s : WatchedView) (new : List Fed)
-    (m : Midway first pids (between i0 i1) (between o0 o1) (between f0 f1) faulty s) → Consumes i0.bytes i2.bytes bytes →
+pub last_fails : (first : FeedView) (pids bytes : List ℕ) (i0 i1 i2 o0 o1 o2 f0 f1 f2 : Port) (faulty : Bool) (s : WatchedView) (l : LinesView) (new : List Fed)
+    (m : Midway first pids (between i0 i1) (between o0 o1) (between f0 f1) faulty s l) → Consumes i0.bytes i2.bytes bytes →
     (IsFedSoFar first bytes (m.fed ++ new) ⊎ IsWatchedOf first bytes (m.fed ++ new)) → IsUnrefused first bytes →
-    GoesOut pids new (between o1 o2) (between f1 f2) (Err Write) → FailsToPass first pids (between i0 i2) (between o0 o2) (between f0 f2)
-last_fails first pids bytes i0 i1 i2 o0 o1 o2 f0 f1 f2 faulty s new m reads is unrefused out = record {
+    GoesOut l new (between o1 o2) (between f1 f2) (Err Write) → FailsToPass first pids (between i0 i2) (between o0 o2) (between f0 f2)
+last_fails first pids bytes i0 i1 i2 o0 o1 o2 f0 f1 f2 faulty s l new m reads is unrefused out = record {
   came = bytes;
   before = m.fed;
   last = new;
@@ -240,17 +254,18 @@ last_fails first pids bytes i0 i1 i2 o0 o1 o2 f0 f1 f2 faulty s new m reads is u
   reports_all = subst (λ (p : Port). ReportsAll f0 p (fed_lines pids m.fed)) (sym out.2) m.passes.reports_all;
 }
 
-pub piece_fails : (first : FeedView) (pids : List ℕ) (i0 i1 i2 o0 o1 o2 f0 f1 f2 : Port) (faulty : Bool) (s t : WatchedView) (new : List Fed) (halt : Halt) →
-    (m : Midway first pids (between i0 i1) (between o0 o1) (between f0 f1) faulty s) → have_refusal m.fed ≡ false → FeedsSome s (between i1 i2) t new →
-    GoesOut pids new (between o1 o2) (between f1 f2) (Err halt) →
-    PassesPieces first pids (between i0 i2) (between o0 o2) (between f0 f2) (Err halt) t
-piece_fails first pids i0 i1 i2 o0 o1 o2 f0 f1 f2 faulty s t new Read m unrefused p out = absurd out
-piece_fails first pids i0 i1 i2 o0 o1 o2 f0 f1 f2 faulty s t new Write m unrefused p out =
-    last_fails first pids (m.came ++ p.piece) i0 i1 i2 o0 o1 o2 f0 f1 f2 faulty s new m
+pub piece_fails : (first : FeedView) (pids : List ℕ) (i0 i1 i2 o0 o1 o2 f0 f1 f2 : Port) (faulty : Bool) (s t : WatchedView) (l k : LinesView)
+    (new : List Fed) (halt : Halt) →
+    (m : Midway first pids (between i0 i1) (between o0 o1) (between f0 f1) faulty s l) → have_refusal m.fed ≡ false → FeedsSome s (between i1 i2) t new →
+    GoesOut l new (between o1 o2) (between f1 f2) (Err halt) →
+    PassesPieces first pids (between i0 i2) (between o0 o2) (between f0 f2) (Err halt) t k
+piece_fails first pids i0 i1 i2 o0 o1 o2 f0 f1 f2 faulty s t l k new Read m unrefused p out = absurd out
+piece_fails first pids i0 i1 i2 o0 o1 o2 f0 f1 f2 faulty s t l k new Write m unrefused p out =
+    last_fails first pids (m.came ++ p.piece) i0 i1 i2 o0 o1 o2 f0 f1 f2 faulty s l new m
     (Consumes-trans i0.bytes i1.bytes i2.bytes m.came p.piece m.passes.read p.read)
     (inl (record { state = t; by = p.taken first m.came m.fed m.by; held = p.held }))
-    (unrefused_before first pids p.piece (between i0 i1) (between o0 o1) (between f0 f1) faulty s m unrefused p.most) out
-piece_fails first pids i0 i1 i2 o0 o1 o2 f0 f1 f2 faulty s t new Memory m unrefused p out = absurd out
+    (unrefused_before first pids p.piece (between i0 i1) (between o0 o1) (between f0 f1) faulty s l m unrefused p.most) out
+piece_fails first pids i0 i1 i2 o0 o1 o2 f0 f1 f2 faulty s t l k new Memory m unrefused p out = absurd out
 
 -- 5. One piece after another
 
@@ -292,11 +307,12 @@ piece_lost s t i1 i2 part n items most within reads clean =
 pub none_read : (a b : Option (List ℕ)) (n : ℕ) (part : List ℕ) → n ≡ 0 → Consumes a b (take n part) → Consumes a b []
 none_read a b n part e h = subst (λ (m : ℕ). Consumes a b (take m part)) e h
 
-more_came : (first : FeedView) (pids : List ℕ) (i0 i1 i2 o0 o1 o2 f0 f1 f2 : Port) (early late faulty : Bool) (s t : WatchedView) (new : List Fed) →
-    Midway first pids (between i0 i1) (between o0 o1) (between f0 f1) early s → FeedsSome s (between i1 i2) t new →
-    GoesOut pids new (between o1 o2) (between f1 f2) (Ok late) → faulty ≡ (early || late) →
-    Midway first pids (between i0 i2) (between o0 o2) (between f0 f2) faulty t
-more_came first pids i0 i1 i2 o0 o1 o2 f0 f1 f2 early late faulty s t new m p out is = record {
+more_came : (first : FeedView) (pids : List ℕ) (i0 i1 i2 o0 o1 o2 f0 f1 f2 : Port) (early late faulty : Bool) (s t : WatchedView) (l k : LinesView)
+    (new : List Fed) →
+    Midway first pids (between i0 i1) (between o0 o1) (between f0 f1) early s l → FeedsSome s (between i1 i2) t new →
+    GoesOut l new (between o1 o2) (between f1 f2) (Ok late) → k ≡ after_lines l new → faulty ≡ (early || late) →
+    Midway first pids (between i0 i2) (between o0 o2) (between f0 f2) faulty t k
+more_came first pids i0 i1 i2 o0 o1 o2 f0 f1 f2 early late faulty s t l k new m p out next is = record {
   came = m.came ++ p.piece;
   fed = m.fed ++ new;
   by = p.taken first m.came m.fed m.by;
@@ -305,43 +321,44 @@ more_came first pids i0 i1 i2 o0 o1 o2 f0 f1 f2 early late faulty s t new m p ou
     read = Consumes-trans i0.bytes i1.bytes i2.bytes m.came p.piece m.passes.read p.read;
     written = all_written o0 o1 o2 m.fed new m.passes.written out.0;
     clean = out.1 ∙ m.passes.clean;
-    reports_all = all_lines_reported pids f0 f1 f2 m.fed new m.passes.reports_all out.2;
+    reports_all = all_lines_reported pids l f0 f1 f2 m.fed new m.lines_are m.passes.reports_all out.2;
   };
   unfailed = p.clean ∙ m.unfailed;
   faulty_is = all_faulty early late faulty m.fed new m.faulty_is out.3 is;
+  lines_are = all_lines_are pids l k m.fed new m.lines_are next;
 }
 
 -- A read that does not show that the description is of another stream
-pub long_more : (first : FeedView) (pids : List ℕ) (i0 i1 i2 o0 o1 o2 f0 f1 f2 : Port) (early late faulty : Bool) (s t : WatchedView) (new : List Fed)
-    (pieces : ℕ) →
-    MidwayLong first pids (between i0 i1) (between o0 o1) (between f0 f1) early s pieces → FeedsSome s (between i1 i2) t new →
-    GoesOut pids new (between o1 o2) (between f1 f2) (Ok late) → faulty ≡ (early || late) → have_refusal new ≡ false →
-    MidwayLong first pids (between i0 i2) (between o0 o2) (between f0 f2) faulty t (pieces + 1)
+pub long_more : (first : FeedView) (pids : List ℕ) (i0 i1 i2 o0 o1 o2 f0 f1 f2 : Port) (early late faulty : Bool) (s t : WatchedView) (l k : LinesView)
+    (new : List Fed) (pieces : ℕ) →
+    MidwayLong first pids (between i0 i1) (between o0 o1) (between f0 f1) early s l pieces → FeedsSome s (between i1 i2) t new →
+    GoesOut l new (between o1 o2) (between f1 f2) (Ok late) → k ≡ after_lines l new → faulty ≡ (early || late) → have_refusal new ≡ false →
+    MidwayLong first pids (between i0 i2) (between o0 o2) (between f0 f2) faulty t k (pieces + 1)
 unfolding more_came
-long_more first pids i0 i1 i2 o0 o1 o2 f0 f1 f2 early late faulty s t new pieces m p out is none =
+long_more first pids i0 i1 i2 o0 o1 o2 f0 f1 f2 early late faulty s t l k new pieces m p out next is none =
     let before = m.midway in
     let some = p.some in
     record {
-      midway = more_came first pids i0 i1 i2 o0 o1 o2 f0 f1 f2 early late faulty s t new before p out is;
+      midway = more_came first pids i0 i1 i2 o0 o1 o2 f0 f1 f2 early late faulty s t l k new before p out next is;
       unrefused = any_append is_refusal before.fed new ∙ ap (λ (b : Bool). b || have_refusal new) m.unrefused ∙ none;
       pieces_in = omega (arith, m.pieces_in, length-append before.came p.piece, some);
     }
 
 -- A read that shows that the description is of another stream
-pub long_refused : (first : FeedView) (pids : List ℕ) (i0 i1 i2 o0 o1 o2 f0 f1 f2 : Port) (early late faulty : Bool) (s t : WatchedView) (new : List Fed)
-    (pieces : ℕ) →
-    MidwayLong first pids (between i0 i1) (between o0 o1) (between f0 f1) early s pieces → FeedsSome s (between i1 i2) t new →
-    GoesOut pids new (between o1 o2) (between f1 f2) (Ok late) → faulty ≡ (early || late) → have_refusal new ≡ true →
-    PassesPieces first pids (between i0 i2) (between o0 o2) (between f0 f2) (Ok faulty) t
+pub long_refused : (first : FeedView) (pids : List ℕ) (i0 i1 i2 o0 o1 o2 f0 f1 f2 : Port) (early late faulty : Bool) (s t : WatchedView) (l k : LinesView)
+    (new : List Fed) (pieces : ℕ) →
+    MidwayLong first pids (between i0 i1) (between o0 o1) (between f0 f1) early s l pieces → FeedsSome s (between i1 i2) t new →
+    GoesOut l new (between o1 o2) (between f1 f2) (Ok late) → k ≡ after_lines l new → faulty ≡ (early || late) → have_refusal new ≡ true →
+    PassesPieces first pids (between i0 i2) (between o0 o2) (between f0 f2) (Ok faulty) t k
 unfolding more_came
-long_refused first pids i0 i1 i2 o0 o1 o2 f0 f1 f2 early late faulty s t new pieces m p out is refused = (
-  more_came first pids i0 i1 i2 o0 o1 o2 f0 f1 f2 early late faulty s t new m.midway p out is,
+long_refused first pids i0 i1 i2 o0 o1 o2 f0 f1 f2 early late faulty s t l k new pieces m p out next is refused = (
+  more_came first pids i0 i1 i2 o0 o1 o2 f0 f1 f2 early late faulty s t l k new m.midway p out next is,
   inr (any_append is_refusal m.midway.fed new ∙ ap (λ (b : Bool). have_refusal m.midway.fed || b) refused ∙ or_true (have_refusal m.midway.fed)),
-  unrefused_before first pids p.piece (between i0 i1) (between o0 o1) (between f0 f1) early s m.midway m.unrefused p.most,
+  unrefused_before first pids p.piece (between i0 i1) (between o0 o1) (between f0 f1) early s l m.midway m.unrefused p.most,
 )
 
-pub long_enough : (first : FeedView) (pids : List ℕ) (input output faults : Device) (faulty : Bool) (s : WatchedView) (pieces : ℕ)
-    (m : MidwayLong first pids input output faults faulty s pieces) →
-    2 ^ 64 - 1 ≤ pieces → PassesPieces first pids input output faults (Err Read) s
-long_enough first pids input output faults faulty s pieces m long =
-    too_long first pids input output faults faulty s m.midway m.unrefused (le_trans long m.pieces_in)
+pub long_enough : (first : FeedView) (pids : List ℕ) (input output faults : Device) (faulty : Bool) (s : WatchedView) (l : LinesView) (pieces : ℕ)
+    (m : MidwayLong first pids input output faults faulty s l pieces) →
+    2 ^ 64 - 1 ≤ pieces → PassesPieces first pids input output faults (Err Read) s l
+long_enough first pids input output faults faulty s l pieces m long =
+    too_long first pids input output faults faulty s l m.midway m.unrefused (le_trans long m.pieces_in)

@@ -1,5 +1,6 @@
 -- A stream, read as it comes, and what goes out of it: the records of its units and of ticks before the next read, and a line for each
--- unit that has no moment, each loss of packets, whatever else cuts units, each new map, each jump of the clock, and bytes in no packet.
+-- unit that has no moment, each loss of packets, whatever else cuts units, each new map, each jump of the clock, and bytes in no packet;
+-- a stream whose DTS do not rise has one line (`StreamLines`).
 use Rattle.std.specs.Prelude.{◌≡◌, ◌⊎◌, ◌<◌, ◌≤◌, ◌-◌, ◌^◌, ℕ, Bool, true, false, if◌then◌else◌, List, [], ◌++◌, length, take, Result, Ok, Err}
 use Rattle.std.specs.Io.KnownBytes.{Consumes, IsAtEnd, Keeps}
 use Rattle.counted_io.specs.Device.{CountsOne}
@@ -10,7 +11,8 @@ use Rattle.devices.specs.declared.halt.Halt.{Halt}
 use Rattle.devices.specs.declared.halt.Halt.TheVariants.{Read, Write, Memory}
 use Rattle.fed_streams.specs.Feeding.{Fed, FeedView}
 use Rattle.es_feed.specs.Watching.{IsWatchedBy, IsWatchedOf, WatchedView}
-use Rattle.es_feed.specs.FedLines.{fed_lines, fed_records, have_fault, have_refusal}
+use Rattle.es_feed.specs.FedLines.{fed_records, have_fault, have_refusal}
+use Rattle.es_records.specs.StreamLines.{LinesView, after_lines, fed_lines, first_lines, lines_from}
 
 -- 1. The records of a stream while it comes
 
@@ -116,15 +118,15 @@ FeedsPiece old input new fed (Err Memory) =
     (piece : List ℕ) × Consumes input.before.bytes input.after.bytes piece × IsClean input × (length piece ≤ longest_piece)
 
 -- the fed records go out, and then a line for everything else; or the writer fails within the records
-abbrev pub GoesOut : List ℕ → List Fed → Device → Device → Result Bool Halt → Type 0
-GoesOut pids fed output faults (Ok faulty) =
-    Takes output (fed_records fed) × IsClean output × ReportsAll faults.before faults.after (fed_lines pids fed) × (faulty ≡ have_fault fed)
-GoesOut pids fed output faults (Err Read) = ⊥
-GoesOut pids fed output faults (Err Write) = Stopped (fed_records fed) output × HasFailed output × IsUntouched faults
-GoesOut pids fed output faults (Err Memory) = ⊥
+abbrev pub GoesOut : LinesView → List Fed → Device → Device → Result Bool Halt → Type 0
+GoesOut lines fed output faults (Ok faulty) =
+    Takes output (fed_records fed) × IsClean output × ReportsAll faults.before faults.after (lines_from lines fed) × (faulty ≡ have_fault fed)
+GoesOut lines fed output faults (Err Read) = ⊥
+GoesOut lines fed output faults (Err Write) = Stopped (fed_records fed) output × HasFailed output × IsUntouched faults
+GoesOut lines fed output faults (Err Memory) = ⊥
 
 -- the stream has come as far as this, and the reader has not failed
-pub record Midway (first : FeedView) (pids : List ℕ) (input output faults : Device) (faulty : Bool) (state : WatchedView) : Type 0 where
+pub record Midway (first : FeedView) (pids : List ℕ) (input output faults : Device) (faulty : Bool) (state : WatchedView) (lines : LinesView) : Type 0 where
   pub came : List ℕ
   pub fed : List Fed
   pub by : IsWatchedBy first came false state fed
@@ -132,22 +134,23 @@ pub record Midway (first : FeedView) (pids : List ℕ) (input output faults : De
   pub passes : Passes pids came fed input output faults
   pub unfailed : IsClean input
   pub faulty_is : faulty ≡ have_fault fed
+  pub lines_are : lines ≡ after_lines (first_lines pids) fed
 
-abbrev pub PassesPieces : FeedView → List ℕ → Device → Device → Device → Result Bool Halt → WatchedView → Type 0
-PassesPieces first pids input output faults (Ok faulty) state =
-    (m : Midway first pids input output faults faulty state) × (IsAtEnd input.after.bytes ⊎ (have_refusal m.fed ≡ true)) × IsUnrefused first m.came
-PassesPieces first pids input output faults (Err Read) state = PassesFront first pids Read input output faults
-PassesPieces first pids input output faults (Err Write) state = FailsToPass first pids input output faults
-PassesPieces first pids input output faults (Err Memory) state = PassesFront first pids Memory input output faults
+abbrev pub PassesPieces : FeedView → List ℕ → Device → Device → Device → Result Bool Halt → WatchedView → LinesView → Type 0
+PassesPieces first pids input output faults (Ok faulty) state lines =
+    (m : Midway first pids input output faults faulty state lines) × (IsAtEnd input.after.bytes ⊎ (have_refusal m.fed ≡ true)) × IsUnrefused first m.came
+PassesPieces first pids input output faults (Err Read) state lines = PassesFront first pids Read input output faults
+PassesPieces first pids input output faults (Err Write) state lines = FailsToPass first pids input output faults
+PassesPieces first pids input output faults (Err Memory) state lines = PassesFront first pids Memory input output faults
 
 -- the records of its end go out; or memory for them is refused
-abbrev pub PassesLast : FeedView → List ℕ → List ℕ → List Fed → Device → Device → Result Bool Halt → Type 0
-PassesLast first pids came before output faults (Ok found) =
-    (last : List Fed) × IsWatchedOf first came (before ++ last) × GoesOut pids last output faults (Ok found)
-PassesLast first pids came before output faults (Err Read) = ⊥
-PassesLast first pids came before output faults (Err Write) =
-    (last : List Fed) × IsWatchedOf first came (before ++ last) × GoesOut pids last output faults (Err Write)
-PassesLast first pids came before output faults (Err Memory) = IsUntouched output × IsUntouched faults
+abbrev pub PassesLast : FeedView → LinesView → List ℕ → List Fed → Device → Device → Result Bool Halt → Type 0
+PassesLast first lines came before output faults (Ok found) =
+    (last : List Fed) × IsWatchedOf first came (before ++ last) × GoesOut lines last output faults (Ok found)
+PassesLast first lines came before output faults (Err Read) = ⊥
+PassesLast first lines came before output faults (Err Write) =
+    (last : List Fed) × IsWatchedOf first came (before ++ last) × GoesOut lines last output faults (Err Write)
+PassesLast first lines came before output faults (Err Memory) = IsUntouched output × IsUntouched faults
 
 -- 4. How the run over a stream ends
 

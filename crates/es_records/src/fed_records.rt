@@ -6,9 +6,11 @@ ghost use Rattle.devices.specs.Devices.{writes};
 ghost use Rattle.devices.specs.Lines.{Reports, ReportsAll, WritesLine};
 ghost use Rattle.es_feed.specs.FedLines as spec;
 ghost use Rattle.es_records.specs.Records.{Puts};
+ghost use Rattle.es_records.specs.StreamLines as stated;
 
 use crate::pending::PendingBytes;
 use crate::records::{flush, put_record};
+use crate::stream_lines::{StreamLines, UNORDERED, is_short_fall, report_unordered};
 use counted_io::Sink;
 use devices::{Halt, report_line};
 use es_moments::StampFault;
@@ -61,16 +63,6 @@ pub(crate) fn write_fed<W: Sink>(
     match put_all_fed(to, &mut pending, fed) {
         Ok(()) => flush(to, &mut pending),
         Err(halt) => Err(halt),
-    }
-}
-
-// The PID of the stream of a number.
-fn pid_at(pids: &[u16], number: u8) -> u16
-    ensures { result ≡ spec.pid_at pids.now number }
-{
-    match pids.get(number as usize) {
-        Some(pid) => *pid,
-        None => 0,
     }
 }
 
@@ -241,36 +233,74 @@ fn report_fault<E: Sink>(faults: &mut E, pid: u16, fault: FeedFault)
     }
 }
 
-// Writes the line of a report, and returns whether it is a report and no unit.
-#[tactic(auto, unfolding(es_feed::specs::EachStream::has_fault))]
-fn report_one<E: Sink>(faults: &mut E, pids: &[u16], fed: &(u8, Result<Unit, FeedFault>)) -> bool
-    ensures reports_all { ReportsAll (writes E.Sink faults.old faults.new).before (writes E.Sink faults.old faults.new).after
-        (spec.lines_of pids.now fed.now) }
+// Writes the line of a unit that falls by at most a second, if it has one.
+#[tactic(auto, unfolding(crate::specs::StreamLines::fall_lines))]
+fn report_fall<E: Sink>(faults: &mut E, fell: u8, pid: u16, fault: FeedFault)
+    ensures { ReportsAll (writes E.Sink faults.old faults.new).before (writes E.Sink faults.old faults.new).after
+        (stated.fall_lines fell pid fault) }
+{
+    if fell == UNORDERED {
+        return;
+    }
+    if fell == 0 {
+        report_fault(faults, pid, fault);
+        return;
+    }
+    report_unordered(faults, pid);
+}
+
+// Writes the line of a report, if it has one.
+#[tactic(auto, unfolding(crate::specs::StreamLines::fault_lines))]
+fn report_by<E: Sink>(faults: &mut E, fell: u8, pid: u16, fault: FeedFault)
+    ensures { ReportsAll (writes E.Sink faults.old faults.new).before (writes E.Sink faults.old faults.new).after
+        (stated.fault_lines fell pid fault) }
+{
+    if is_short_fall(fault) {
+        report_fall(faults, fell, pid, fault);
+        return;
+    }
+    report_fault(faults, pid, fault);
+}
+
+// Writes the line of a report, if it has one, and returns whether it is a report and no unit.
+#[tactic(auto, unfolding(crate::specs::StreamLines::lines_of, es_feed::specs::EachStream::has_fault))]
+fn report_one<E: Sink>(
+    faults: &mut E,
+    lines: &StreamLines<'_>,
+    fed: &(u8, Result<Unit, FeedFault>),
+) -> bool
+    ensures reports_all { ReportsAll (writes E.Sink faults.old faults.new).before
+        (writes E.Sink faults.old faults.new).after
+        (stated.lines_of lines.now.pids (stated.fell_at lines.now fed.now.0) fed.now) }
     ensures found { result ≡ spec.has_fault fed.now }
 {
     match &fed.1 {
         Ok(_) => false,
         Err(fault) => {
-            report_fault(faults, pid_at(pids, fed.0), *fault);
+            report_by(faults, lines.fell_at(fed.0), lines.pid_at(fed.0), *fault);
             true
         }
     }
 }
 
 /// Reports each unit that has no moment, each loss of packets, whatever else cuts units, each new map and each jump of
-/// the clock, and returns whether there is one.
+/// the clock; of units that fall in a stream whose DTS do not rise, the stream. Returns whether there is one.
 pub(crate) fn report_faults<E: Sink>(
     faults: &mut E,
-    pids: &[u16],
+    lines: &mut StreamLines<'_>,
     fed: &[(u8, Result<Unit, FeedFault>)],
 ) -> bool
-    ensures reports_all { ReportsAll (writes E.Sink faults.old faults.new).before (writes E.Sink faults.old faults.new).after
-        (spec.fed_lines pids.now fed.now) }
+    ensures reports_all { ReportsAll (writes E.Sink faults.old faults.new).before
+        (writes E.Sink faults.old faults.new).after
+        (stated.lines_from lines.old fed.now) }
+    ensures lines { lines.new ≡ stated.after_lines lines.old fed.now }
     ensures found { result ≡ spec.have_fault fed.now }
 {
     let mut found = false;
     for one in fed {
-        if report_one(faults, pids, one) {
+        let reported = report_one(faults, lines, one);
+        lines.take(one);
+        if reported {
             found = true;
         }
     }

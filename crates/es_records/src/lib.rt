@@ -10,6 +10,7 @@ mod fed_records;
 mod passing;
 mod pending;
 mod records;
+mod stream_lines;
 
 pub use passing::pass_stream;
 pub use records::write_job;

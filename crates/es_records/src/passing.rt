@@ -1,13 +1,16 @@
 //! A stream, read as it comes; what it feeds goes out before the next read.
 
-ghost use Rattle.std.specs.Prelude.{◌≡◌, ◌<◌, ◌≤◌, ◌||◌, ℕ, List, [], false, length};
+ghost use Rattle.std.specs.Prelude.{◌≡◌, ◌<◌, ◌≤◌, ◌||◌, ℕ, List, [], OnOk, false, length};
 ghost use Rattle.devices.specs.Devices.{reads, writes};
 ghost use Rattle.fed_streams.specs.Feeding.{Fed, FeedView};
 ghost use Rattle.es_feed.specs.Watching.{IsWatchedBy, watched_first};
-ghost use Rattle.es_feed.specs.FedLines as lines;
+ghost use Rattle.es_feed.specs.FedLines as feed_lines;
 ghost use Rattle.es_records.specs.Passing as spec;
+ghost use Rattle.es_records.specs.StreamLines as stated;
+ghost use Rattle.es_records.specs.StreamLines.{first_lines};
 
 use crate::fed_records::{report_faults, write_fed};
+use crate::stream_lines::StreamLines;
 use counted_io::{Sink, Source};
 use devices::{Halt, report_halt};
 use es_feed::UnitFeed;
@@ -21,32 +24,34 @@ const PIECE: usize = 1 << 16;
 
 // Writes the records of units, then a line for each report. Returns whether there is a report.
 fn pass_fed<W: Sink, E: Sink>(
-    pids: &[u16],
+    lines: &mut StreamLines<'_>,
     fed: &[(u8, Result<Unit, FeedFault>)],
     output: &mut W,
     faults: &mut E,
 ) -> Result<bool, Halt>
-    ensures { spec.GoesOut pids.now fed.now (writes W.Sink output.old output.new)
+    ensures goes { spec.GoesOut lines.old fed.now (writes W.Sink output.old output.new)
         (writes E.Sink faults.old faults.new) result }
+    ensures lines { OnOk result (lines.new ≡ stated.after_lines lines.old fed.now) }
 {
     match write_fed(output, fed) {
-        Ok(()) => Ok(report_faults(faults, pids, fed)),
+        Ok(()) => Ok(report_faults(faults, lines, fed)),
         Err(halt) => Err(halt),
     }
 }
 
 // Writes all units and reports that wait. Returns whether there is a report.
 fn let_out<W: Sink, E: Sink>(
-    pids: &[u16],
+    lines: &mut StreamLines<'_>,
     fed: &mut Vec<(u8, Result<Unit, FeedFault>)>,
     output: &mut W,
     faults: &mut E,
 ) -> Result<bool, Halt>
-    ensures goes { spec.GoesOut pids.now fed.old.items (writes W.Sink output.old output.new)
+    ensures goes { spec.GoesOut lines.old fed.old.items (writes W.Sink output.old output.new)
         (writes E.Sink faults.old faults.new) result }
+    ensures lines { OnOk result (lines.new ≡ stated.after_lines lines.old fed.old.items) }
     ensures out { fed.new.items ≡ [] }
 {
-    let result = pass_fed(pids, fed.as_slice(), output, faults);
+    let result = pass_fed(lines, fed.as_slice(), output, faults);
     fed.clear();
     result
 }
@@ -78,7 +83,7 @@ fn feed_piece<R: Source>(
 // Returns whether a report says that the description is of another stream.
 #[tactic(auto, unfolding(es_feed::specs::FedLines::is_refusal, es_feed::specs::FedLines::is_other))]
 fn is_refusal(fed: &(u8, Result<Unit, FeedFault>)) -> bool
-    ensures { result ≡ lines.is_refusal fed.now }
+    ensures { result ≡ feed_lines.is_refusal fed.now }
 {
     match &fed.1 {
         Ok(_) => false,
@@ -87,7 +92,7 @@ fn is_refusal(fed: &(u8, Result<Unit, FeedFault>)) -> bool
 }
 
 fn have_refusal(fed: &[(u8, Result<Unit, FeedFault>)]) -> bool
-    ensures { result ≡ lines.have_refusal fed.now }
+    ensures { result ≡ feed_lines.have_refusal fed.now }
 {
     fed.iter().any(|one| is_refusal(one))
 }
@@ -96,7 +101,7 @@ fn have_refusal(fed: &[(u8, Result<Unit, FeedFault>)]) -> bool
 // reports of each read before the next. Returns whether there is a report.
 fn pass_pieces<R: Source, W: Sink, E: Sink>(
     alloc: Global,
-    pids: &[u16],
+    lines: &mut StreamLines<'_>,
     stream: &mut WatchedFeed,
     piece: &mut [u8],
     input: &mut R,
@@ -105,9 +110,9 @@ fn pass_pieces<R: Source, W: Sink, E: Sink>(
 ) -> Result<bool, Halt>
     requires some { 0 < length piece.old }
     requires most { length piece.old ≤ spec.longest_piece }
-    ensures { (first : FeedView) → stream.old ≡ watched_first first →
-        spec.PassesPieces first pids.now (reads R.Source input.old input.new) (writes W.Sink output.old output.new)
-        (writes E.Sink faults.old faults.new) result stream.new }
+    ensures { (first : FeedView) (pids : List ℕ) → stream.old ≡ watched_first first → lines.old ≡ first_lines pids →
+        spec.PassesPieces first pids (reads R.Source input.old input.new) (writes W.Sink output.old output.new)
+        (writes E.Sink faults.old faults.new) result stream.new lines.new }
 {
     let mut faulty = false;
     let mut fed = Vec::new(alloc);
@@ -120,7 +125,7 @@ fn pass_pieces<R: Source, W: Sink, E: Sink>(
             return Ok(faulty);
         }
         let refused = have_refusal(&fed);
-        let found = match let_out(pids, &mut fed, output, faults) {
+        let found = match let_out(lines, &mut fed, output, faults) {
             Ok(found) => found,
             Err(halt) => return Err(halt),
         };
@@ -137,20 +142,20 @@ fn pass_pieces<R: Source, W: Sink, E: Sink>(
 // Ends the input, and writes the last units and reports. Returns whether there is a report.
 fn pass_last<W: Sink, E: Sink>(
     alloc: Global,
-    pids: &[u16],
+    lines: &mut StreamLines<'_>,
     stream: WatchedFeed,
     output: &mut W,
     faults: &mut E,
 ) -> Result<bool, Halt>
     ensures { (first : FeedView) (came : List ℕ) (before : List Fed) → IsWatchedBy first came false stream before →
-        spec.PassesLast first pids.now came before (writes W.Sink output.old output.new)
+        spec.PassesLast first lines.old came before (writes W.Sink output.old output.new)
         (writes E.Sink faults.old faults.new) result }
 {
     let mut fed = Vec::new(alloc);
     if stream.finish(&mut fed).is_err() {
         return Err(Halt::Memory);
     }
-    pass_fed(pids, &fed, output, faults)
+    pass_fed(lines, &fed, output, faults)
 }
 
 // Returns whether either is true.
@@ -178,14 +183,23 @@ fn pass_all<R: Source, W: Sink, E: Sink>(
         return Err(Halt::Memory);
     };
     let mut stream = WatchedFeed::new(alloc, feed);
-    let early = match pass_pieces(alloc, pids, &mut stream, &mut piece, input, output, faults) {
+    let mut lines = StreamLines::new(pids);
+    let early = match pass_pieces(
+        alloc,
+        &mut lines,
+        &mut stream,
+        &mut piece,
+        input,
+        output,
+        faults,
+    ) {
         Ok(early) => early,
         Err(halt) => {
             drop(stream);
             return Err(halt);
         }
     };
-    match pass_last(alloc, pids, stream, output, faults) {
+    match pass_last(alloc, &mut lines, stream, output, faults) {
         Ok(late) => Ok(is_faulty_pass(early, late)),
         Err(halt) => Err(halt),
     }

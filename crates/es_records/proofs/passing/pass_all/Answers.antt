@@ -18,11 +18,11 @@ returns-in-Err g c =
     (record { bytes = g.W.Write.contents c.pass_pieces.new.output; failed = g.W.Sink.fault_count c.pass_pieces.new.output }))
     (between (record { bytes = g.E.Write.contents c.args.faults.now; failed = g.E.Sink.fault_count c.args.faults.now })
     (record { bytes = g.E.Write.contents c.pass_pieces.new.faults; failed = g.E.Sink.fault_count c.pass_pieces.new.faults }))
-    c.pass_pieces.new.stream c.in-Err.halt (c.in-Err.ensures c.args.feed c.new-stream.ensures)
+    c.pass_pieces.new.stream c.pass_pieces.new.lines c.in-Err.halt (c.in-Err.ensures c.args.feed c.args.pids.now c.new-stream.ensures c.new-lines.ensures)
 
 pub returns-in-Ok-pass_last : goal.returns-in-Ok-pass_last
 returns-in-Ok-pass_last g c =
-    let pieces = c.in-Ok-pass_pieces.ensures c.args.feed c.new-stream.ensures in
+    let pieces = c.in-Ok-pass_pieces.ensures c.args.feed c.args.pids.now c.new-stream.ensures c.new-lines.ensures in
     let m = pieces.0 in
     stream_ends c.args.feed c.args.pids.now
     (between (record { bytes = g.R.Read.remaining c.args.input.now; failed = g.R.Source.fault_count c.args.input.now })
@@ -33,12 +33,12 @@ returns-in-Ok-pass_last g c =
     (record { bytes = g.E.Write.contents c.args.faults.now; failed = g.E.Sink.fault_count c.args.faults.now })
     (record { bytes = g.E.Write.contents c.pass_pieces.new.faults; failed = g.E.Sink.fault_count c.pass_pieces.new.faults })
     (record { bytes = g.E.Write.contents c.pass_last.new.faults; failed = g.E.Sink.fault_count c.pass_last.new.faults })
-    c.in-Ok-pass_pieces.early c.in-Ok-pass_last.late c.is_faulty_pass.result c.pass_pieces.new.stream m pieces.1 pieces.2
+    c.in-Ok-pass_pieces.early c.in-Ok-pass_last.late c.is_faulty_pass.result c.pass_pieces.new.stream c.pass_pieces.new.lines m pieces.1 pieces.2
     (c.in-Ok-pass_last.ensures c.args.feed m.came m.fed m.by) c.is_faulty_pass.ensures
 
 pub returns : goal.returns
 returns g c =
-    let pieces = c.in-Ok-pass_pieces.ensures c.args.feed c.new-stream.ensures in
+    let pieces = c.in-Ok-pass_pieces.ensures c.args.feed c.args.pids.now c.new-stream.ensures c.new-lines.ensures in
     let m = pieces.0 in
     end_fails c.args.feed c.args.pids.now
     (between (record { bytes = g.R.Read.remaining c.args.input.now; failed = g.R.Source.fault_count c.args.input.now })
@@ -49,5 +49,5 @@ returns g c =
     (record { bytes = g.E.Write.contents c.args.faults.now; failed = g.E.Sink.fault_count c.args.faults.now })
     (record { bytes = g.E.Write.contents c.pass_pieces.new.faults; failed = g.E.Sink.fault_count c.pass_pieces.new.faults })
     (record { bytes = g.E.Write.contents c.pass_last.new.faults; failed = g.E.Sink.fault_count c.pass_last.new.faults })
-    c.in-Ok-pass_pieces.early c.pass_pieces.new.stream c.in-Err-pass_last.halt m pieces.2
+    c.in-Ok-pass_pieces.early c.pass_pieces.new.stream c.pass_pieces.new.lines c.in-Err-pass_last.halt m pieces.2
     (c.in-Err-pass_last.ensures c.args.feed m.came m.fed m.by)

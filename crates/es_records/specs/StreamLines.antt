@@ -1,0 +1,90 @@
+-- The lines of fed records, one after another: one for each fault, except that a stream whose DTS do not rise has one line for all its units that
+-- fall. A header without a DTS means the DTS that its PTS gives (ISO/IEC 13818-1, 2.4.3.7), so where a multiplexer leaves DTS out, pictures in another
+-- order than shown fall, each by at most a second. Two such units among 251 of a stream in a row (10 s of 25 pictures a second) show it; one
+-- alone may be a damaged stamp.
+use Rattle.std.specs.Prelude.{ℕ, ◌-◌, ◌++◌, ◌==◌, nat_le, Bool, false, if◌then◌else◌, List, [], ◌∷◌, Ok, Err, codes, decimal, replicate}
+use Rattle.std.specs.Prelude.{slice_get, slice_set, unwrap_or}
+use Rattle.es_moments.specs.declared.stamps.StampFault.{StampFault}
+use Rattle.es_moments.specs.declared.stamps.StampFault.TheVariants.{DtsNotIncreasing, PtsOutOfRange, DtsTooFar}
+use Rattle.es_feed.specs.FedLines.{fault_line, pid_at}
+use Rattle.fed_streams.specs.Feeding.{Fed}
+use Rattle.fed_streams.specs.declared.feed_fault.FeedFault.{FeedFault}
+use Rattle.fed_streams.specs.declared.feed_fault.FeedFault.TheVariants.{Stamp, Ahead, Lost, Cut, Stray, Map, Clock, Other, Packet, Restarted, Silent, Slipped}
+
+-- 1. Units that fall
+
+-- a unit's DTS is the DTS before it, or at most a second before that one
+unfoldable pub is_short : StampFault → Bool
+is_short (DtsNotIncreasing by) = nat_le by 90_000
+is_short (PtsOutOfRange after limit) = false
+is_short DtsTooFar = false
+
+unfoldable pub is_short_fall : FeedFault → Bool
+is_short_fall (Stamp fault) = is_short fault
+is_short_fall (Ahead by) = false
+is_short_fall (Lost loss) = false
+is_short_fall (Cut cut) = false
+is_short_fall (Stray packet) = false
+is_short_fall (Map change) = false
+is_short_fall (Clock jump) = false
+is_short_fall (Other other) = false
+is_short_fall (Packet fault) = false
+is_short_fall (Restarted restart) = false
+is_short_fall (Silent dts) = false
+is_short_fall (Slipped bytes) = false
+
+-- how the units of a stream fell: 0, none of the last 250; 1 to 250, one of them, and for how many more units it counts; 255, its DTS do not rise
+
+unfoldable pub fell_by : ℕ → FeedFault → ℕ
+fell_by fell fault = if is_short_fall fault then (if fell == 0 then 250 else 255) else fell
+
+unfoldable pub fell_with : ℕ → Fed → ℕ
+fell_with fell (n, Ok u) = if fell == 255 then 255 else fell - 1
+fell_with fell (n, Err fault) = fell_by fell fault
+
+-- 2. Lines
+
+-- the stream of a PID has no DTS that rise
+abbrev pub unordered_line : ℕ → List ℕ
+unordered_line pid = (codes "pid " ++ decimal pid) ++ codes " has no DTS that rise: units that fall are left out\n"
+
+-- a unit falls so: the first one has the line of its fault, the second one says that the DTS do not rise, and later ones have no line
+unfoldable pub fall_lines : ℕ → ℕ → FeedFault → List (List ℕ)
+fall_lines fell pid fault = if fell == 0 then fault_line pid fault ∷ [] else (if fell == 255 then [] else unordered_line pid ∷ [])
+
+unfoldable pub fault_lines : ℕ → ℕ → FeedFault → List (List ℕ)
+fault_lines fell pid fault = if is_short_fall fault then fall_lines fell pid fault else fault_line pid fault ∷ []
+
+-- of a record; none for a unit at its moment
+unfoldable pub lines_of : List ℕ → ℕ → Fed → List (List ℕ)
+lines_of pids fell (n, Ok u) = []
+lines_of pids fell (n, Err fault) = fault_lines fell (pid_at pids n) fault
+
+-- 3. Records one after another
+
+-- the PID of each stream of a description, and how the units of the stream with each number fell so far; 255 is the number of no stream
+pub record LinesView : Type 0 where
+  pub pids : List ℕ
+  pub fell : List ℕ
+
+-- before the first record
+abbrev pub first_lines : List ℕ → LinesView
+first_lines pids = record { pids = pids; fell = replicate 256 0 }
+
+abbrev pub fell_at : LinesView → ℕ → ℕ
+fell_at s n = unwrap_or (slice_get s.fell n) 0
+
+abbrev pub after_one : LinesView → Fed → LinesView
+after_one s fed = record { pids = s.pids; fell = slice_set s.fell fed.0 (fell_with (fell_at s fed.0) fed) }
+
+unfoldable pub after_lines : LinesView → List Fed → LinesView
+after_lines s [] = s
+after_lines s (f ∷ fs) = after_lines (after_one s f) fs
+
+unfoldable pub lines_from : LinesView → List Fed → List (List ℕ)
+lines_from s [] = []
+lines_from s (f ∷ fs) = lines_of s.pids (fell_at s f.0) f ++ lines_from (after_one s f) fs
+
+-- the lines of all records of a stream
+abbrev pub fed_lines : List ℕ → List Fed → List (List ℕ)
+fed_lines pids fed = lines_from (first_lines pids) fed
