@@ -4,7 +4,7 @@ use Rattle.std.proofs.Math.Seq.{drop-cons}
 use Rattle.std.proofs.lemmas.List.{drop_all}
 use Rattle.job_programs.specs.declared.refusal.JobRefusal.{JobRefusal}
 use Rattle.job_programs.specs.declared.warning.Warning.{Warning}
-use Rattle.job_inputs.specs.JobInput.{why_nothing, first_why}
+use Rattle.job_inputs.specs.LackingPrograms.{why_nothing, first_why}
 
 pub why_later : (ws : List Warning) (i : ℕ) (d : Warning) → i < length ws → why_nothing (slice_index_or ws i d) ≡ None →
     first_why (drop i ws) ≡ first_why (drop (i + 1) ws)

@@ -5,6 +5,7 @@ pub mod NewNumbersApart
 mod NewNumbersBecome
 mod InputStreams
 mod FirstWhy
+mod LackingPrograms
 pub mod MovedInputs
 pub mod ClockConstants
 mod JoinedSteps

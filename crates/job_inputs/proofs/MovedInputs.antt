@@ -13,7 +13,8 @@ use Rattle.job_units.specs.declared.declarations.StreamChoice.{StreamChoice}
 use Rattle.job_units.specs.Declarations.{UnitCountsView, too_many, too_long, all_measured, all_unit_counts, choices}
 use Rattle.job_units.specs.BufferWarnings.{buffer_warnings}
 use Rattle.job_inputs.specs.JobInput.{JobInputView, job_input, with_association, with_programs, with_pids, with_found, with_streams, with_moved}
-use Rattle.job_inputs.specs.JobInput.{with_unit_counts, job_warnings, named_of, nothing_carried, tables_of}
+use Rattle.job_inputs.specs.JobInput.{with_unit_counts, job_warnings, named_of, tables_of}
+use Rattle.job_inputs.specs.LackingPrograms.{stream_refusal}
 use Rattle.job_programs.specs.Information.{JobInformationView, information_of}
 use Rattle.job_programs.specs.JobOptions.{JobOptionsView}
 use Rattle.job_programs.specs.JobPrograms.{JobProgramView, job_programs, numbers_named}
@@ -93,7 +94,7 @@ moved_of options count findings input is =
     let due = earliest programs tables streams in
     let base = base0_of options.base (first_base due programs streams) in
     let timed = comes (with_moved options information base programs tables warnings) (moved_streams findings due programs streams) input
-    (granted (nothing_carried options.strict warnings streams)
+    (granted (stream_refusal options.strict options.lenient warnings streams)
     (and_then (with_moved options information base programs tables warnings) (moved_streams findings due programs streams))
     input assigned.last_is) in
     let done = made options information base programs tables warnings timed.value input timed.last_is in

@@ -1,8 +1,7 @@
 -- The input of a job: the programs and streams of a transport stream, and the declarations of their units.
-use Rattle.std.specs.Prelude.{ℕ, ◌==◌, ◌||◌, Bool, true, false, if◌then◌else◌, List, [], ◌∷◌, ◌++◌, length, map, filter, flat_map, ok_or, Option, Some}
+use Rattle.std.specs.Prelude.{ℕ, ◌==◌, Bool, true, false, if◌then◌else◌, List, [], ◌∷◌, ◌++◌, length, map, filter, flat_map, ok_or, Option, Some}
 use Rattle.std.specs.Prelude.{None, Result, Ok, ◌≤◌, All}
 use Rattle.std.specs.List.{list_any}
-use Rattle.std.specs.Option.{option_or}
 use Rattle.psi_tables.specs.declared.pat.programs.Program.{Program}
 use Rattle.pid_findings.specs.Views.{FindingView}
 use Rattle.program_tables.specs.Association.{AssociationView, association}
@@ -31,6 +30,7 @@ use Rattle.job_programs.specs.Warnings.{pid_warnings}
 use Rattle.job_units.specs.WireStreams.{wire_streams, all_left_out_warnings}
 use Rattle.job_programs.specs.JobOptions.{JobOptionsView, is_selected_program}
 use Rattle.job_programs.specs.JobTables.{JobTableView, job_tables, reported}
+use Rattle.job_inputs.specs.LackingPrograms.{stream_refusal}
 use Rattle.job_programs.specs.JobStreams.{TimedStreamView, WireStreamView}
 use Rattle.job_programs.specs.FoundUnits.{IsMoved, FitsQueue}
 
@@ -122,26 +122,11 @@ with_moved options information base programs tables all_warnings streams =
       warnings = all_warnings ++ buffer_warnings options.buffers (all_measured streams) all chosen;
     }) streams))
 
--- why a stream is not carried: the first warning of a stream_id that can't be written, or of a stream that is left out for a reason
-unfoldable pub why_nothing : Warning → Option JobRefusal
-why_nothing (warnings.StreamId program pid packet id) = Some (refusals.StreamId packet pid id)
-why_nothing (warnings.LeftOut pid why) = Some why
-why_nothing _ = None
-
-unfoldable pub first_why : List Warning → Option JobRefusal
-first_why [] = None
-first_why (w ∷ ws) = option_or (why_nothing w) (first_why ws)
-
--- the refusal if no stream is carried; if that is asked for, also if one is not carried
-unfoldable pub nothing_carried : Bool → List Warning → List WireStreamView → Option JobRefusal
-nothing_carried strict all_warnings streams =
-    if length streams == 0 || strict then first_why all_warnings else None
-
 -- streams with their units as on the wire
 unfoldable pub with_streams : JobOptionsView → List FindingView → ℕ → List JobProgramView → List JobTableView → List Warning → List WireStreamView →
     Result JobInputView JobRefusal
 with_streams options findings id programs tables all_warnings streams =
-    unless (nothing_carried options.strict all_warnings streams)
+    unless (stream_refusal options.strict options.lenient all_warnings streams)
     (and_then (with_moved options (information_of options id findings programs)
     (base0_of options.base (first_base (earliest programs tables streams) programs streams)) programs tables all_warnings)
     (moved_streams findings (earliest programs tables streams) programs streams))

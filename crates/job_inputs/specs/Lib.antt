@@ -1,4 +1,5 @@
 pub mod NewNumbers
+pub mod LackingPrograms
 pub mod JobInput
 pub mod InputDrafts
 pub mod AskedMarks

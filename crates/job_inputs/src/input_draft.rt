@@ -12,7 +12,7 @@ ghost use Rattle.job_programs.specs.Answers.{Leads};
 
 use crate::earliest::earliest_of;
 use crate::job_tables::{JobTable, job_tables, reported};
-use crate::nothing_carried::nothing_carried;
+use crate::lacking_programs::stream_refusal;
 use es_units::PidLinks;
 use given_values::ServiceName;
 use job_programs::clock_base::base0_of;
@@ -157,7 +157,7 @@ fn with_streams(
     ensures streams { IfOk result (λ d. All (IsMoved options.now.make_dts (map finding_view findings.now))
         (map (moments.timed_stream (map finding_view findings.now)) d.streams)) }
 {
-    if let Some(refusal) = nothing_carried(options.strict, &warnings, &streams) {
+    if let Some(refusal) = stream_refusal(options.strict, options.lenient, &warnings, &streams) {
         return Err(JobError::Refused(refusal));
     }
     let earliest = earliest_of(&programs, &tables, &streams);

@@ -1,10 +1,10 @@
 //! The inputs of a job, alone and joined.
 //!
 //! `mark_as_asked` sets the marks that options ask for on a demultiplexer's findings (`specs/AskedMarks`). `job_input`
-//! says what a job takes from them, its warnings, and what it refuses (`specs/JobInput`): step by step, with the bytes
-//! of units last (`specs/InputDrafts`, `specs/ClockConstants`). `join_inputs` joins several inputs
-//! (`specs/JoinedInputs`): program numbers and PIDs that earlier inputs have are replaced (`specs/NewNumbers`,
-//! `specs/RenumberedInputs`, `specs/NumbersApart`).
+//! says what a job takes from them, its warnings, and what it refuses (`specs/JobInput`,
+//! `specs/LackingPrograms`): step by step, with the bytes of units last (`specs/InputDrafts`, `specs/ClockConstants`).
+//! `join_inputs` joins several inputs (`specs/JoinedInputs`): program numbers and PIDs that earlier inputs have are
+//! replaced (`specs/NewNumbers`, `specs/RenumberedInputs`, `specs/NumbersApart`).
 #![tactic(auto)]
 
 // The input of a job.
@@ -13,6 +13,7 @@ mod earliest;
 mod input;
 mod input_draft;
 pub mod job_tables;
+mod lacking_programs;
 mod nothing_carried;
 
 // Several inputs as one.

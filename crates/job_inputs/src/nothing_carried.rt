@@ -1,22 +1,21 @@
 //! Why no stream is carried, or a stream is not.
 
 ghost use Rattle.std.specs.Prelude.{◌≡◌};
-ghost use Rattle.job_inputs.specs.JobInput as spec;
+ghost use Rattle.job_inputs.specs.LackingPrograms as spec;
 
 use job_programs::{JobRefusal, Warning, WireStream};
 
 // Returns the refusal for a warning that a stream is not carried.
-#[tactic(auto, unfolding(crate::specs::JobInput::why_nothing))]
+#[tactic(auto, unfolding(crate::specs::LackingPrograms::why_nothing))]
 fn why_nothing(warning: Warning) -> Option<JobRefusal>
     ensures { result ≡ spec.why_nothing warning }
 {
     match warning {
-        Warning::StreamId {
-            pid,
+        Warning::StreamId { stream, packet, id } => Some(JobRefusal::StreamId {
             packet,
+            pid: stream.pid,
             id,
-            ..
-        } => Some(JobRefusal::StreamId { packet, pid, id }),
+        }),
         Warning::LeftOut { why, .. } => Some(why),
         _ => None,
     }
@@ -36,7 +35,7 @@ fn first_why(warnings: &[Warning]) -> Option<JobRefusal>
 
 /// Returns the refusal of a transport stream if no stream can be carried: each cannot be written, is scrambled or does
 /// not fit a job. If `strict`, a single stream that is not carried is refused too.
-#[tactic(auto, unfolding(crate::specs::JobInput::nothing_carried))]
+#[tactic(auto, unfolding(crate::specs::LackingPrograms::nothing_carried))]
 pub(crate) fn nothing_carried(
     strict: bool,
     warnings: &[Warning],

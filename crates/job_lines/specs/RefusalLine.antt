@@ -9,9 +9,13 @@ use Rattle.job_programs.specs.JobOptions.{is_among}
 use Rattle.job_programs.specs.declared.refusal.GreaterBuffers.{GreaterBuffers}
 use Rattle.job_programs.specs.declared.refusal.JobRefusal.{JobRefusal}
 use Rattle.job_programs.specs.declared.refusal.NamedNumbers.{NamedNumbers}
+use Rattle.job_programs.specs.declared.refusal.LeftOutCause.{LeftOutCause}
+use Rattle.job_programs.specs.declared.refusal.LeftOutCause.TheVariants as causes
+use Rattle.job_programs.specs.declared.named_stream.StreamKind.{StreamKind}
+use Rattle.job_programs.specs.declared.named_stream.StreamKind.TheVariants.{Picture, Sound}
 use Rattle.job_programs.specs.declared.refusal.JobRefusal.TheVariants.{NoPackets, NoAssociation, NoProgram, NoStream, Scrambled, Programs, Streams, StreamId}
 use Rattle.job_programs.specs.declared.refusal.JobRefusal.TheVariants.{NoStamps, OtherStreamId, Stamps, Dts, Units, Size, Buffers, Pids, Description, Plan}
-use Rattle.job_programs.specs.declared.refusal.JobRefusal.TheVariants.{Declaration}
+use Rattle.job_programs.specs.declared.refusal.JobRefusal.TheVariants.{Declaration, Lacking}
 
 -- time stamps that can't be moments of a run, after the packet and the PID of their unit
 unfoldable pub stamps_text : StampFault → List ℕ
@@ -72,6 +76,20 @@ more_text count = if nat_lt 4 count then codes " and " ++ decimal (count - 4) ++
 unfoldable pub named_text : NamedNumbers → List ℕ
 named_text there = first_text there.first ++ (next_text there.second ++ (next_text there.third ++ (next_text there.fourth ++ more_text there.count)))
 
+-- a program that would be written without a picture, or without sound
+unfoldable pub kind_text : StreamKind → List ℕ
+kind_text Picture = codes "picture"
+kind_text Sound = codes "sound"
+
+unfoldable pub lacking_program : ℕ → List ℕ
+lacking_program program = codes "program " ++ decimal program ++ codes " would have no "
+
+unfoldable pub lenient_text : ℕ → List ℕ
+lenient_text pid = codes ": --lenient leaves pid " ++ decimal pid ++ codes " out\n"
+
+unfoldable pub lacking_line : ℕ → ℕ → StreamKind → List ℕ
+lacking_line program pid kind = lacking_program program ++ (kind_text kind ++ lenient_text pid)
+
 unfoldable pub refusal_line : JobRefusal → List ℕ
 refusal_line NoPackets = codes "not a stream of 188-byte packets\n"
 refusal_line NoAssociation = codes "no PAT: the stream is empty, or names no programs\n"
@@ -90,12 +108,33 @@ refusal_line (Dts pid fault) = codes "pid " ++ decimal pid ++ making_text fault
 refusal_line (Units pid count) = codes "pid " ++ decimal pid ++ codes " has " ++ decimal count ++ codes " units: more than 1048576\n"
 refusal_line (Size pid size) = codes "pid " ++ decimal pid ++ codes " unit of " ++ decimal size ++ codes " bytes is too large\n"
 refusal_line (Buffers pid size rx main way) = unfit_text pid size rx main ++ way_text pid way
+refusal_line (Lacking program pid kind cause) = lacking_line program pid kind
 refusal_line Pids = codes "no PID is left for a PMT or a PCR\n"
 refusal_line (Description fault) = codes "the description is refused: " ++ fault_line [] fault
 refusal_line (Plan rate) = codes "no plan at rate " ++ decimal rate ++ codes ": tsjob why names what prevents one\n"
 refusal_line (Declaration pid) = codes "pid " ++ decimal pid ++ codes " breaks its own declaration\n"
 
 -- the same in a recording that has streams whose clocks go back, and is not taken as joined: then `--joined` takes DTS that fall with the clock
+unfoldable pub reason_in : List ℕ → JobRefusal → List ℕ
+reason_in falling (Stamps packet pid fault mended) = stamps_line (falls_with falling pid fault) packet pid fault mended
+reason_in falling refusal = refusal_line refusal
+
+-- the refusal of a stream that is left out for this cause
+unfoldable pub refusal_of : ℕ → LeftOutCause → JobRefusal
+refusal_of pid causes.Scrambled = Scrambled pid
+refusal_of pid (causes.StreamId packet id) = StreamId packet pid id
+refusal_of pid causes.NoStamps = NoStamps pid
+refusal_of pid (causes.OtherStreamId packet id first) = OtherStreamId packet pid id first
+refusal_of pid (causes.Stamps packet fault mended) = Stamps packet pid fault mended
+refusal_of pid (causes.Dts fault) = Dts pid fault
+refusal_of pid (causes.Units count) = Units pid count
+refusal_of pid (causes.Size size) = Size pid size
+refusal_of pid (causes.Buffers size rx main way) = Buffers pid size rx main way
+
+-- why the stream can't be carried, and what its program would lack
+unfoldable pub lacking_in : List ℕ → ℕ → ℕ → StreamKind → LeftOutCause → List ℕ
+lacking_in falling program pid kind cause = reason_in falling (refusal_of pid cause) ++ lacking_line program pid kind
+
 unfoldable pub refusal_in : List ℕ → JobRefusal → List ℕ
-refusal_in falling (Stamps packet pid fault mended) = stamps_line (falls_with falling pid fault) packet pid fault mended
-refusal_in falling refusal = refusal_line refusal
+refusal_in falling (Lacking program pid kind cause) = lacking_in falling program pid kind cause
+refusal_in falling refusal = reason_in falling refusal

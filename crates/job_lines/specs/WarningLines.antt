@@ -138,14 +138,14 @@ warning_line falling (warning.Program program what) = program_line program what
 warning_line falling (warning.NoSuchStream pid) = codes "pid " ++ decimal pid ++ codes " is no stream\n"
 warning_line falling (warning.Units pid left_out) = unit_line pid left_out
 warning_line falling (warning.NoUnit program pid) = codes "pid " ++ decimal pid ++ codes " of program " ++ decimal program ++ codes " has no unit: left out\n"
-warning_line falling (warning.StreamId program pid packet id) = id_line program pid packet id
+warning_line falling (warning.StreamId stream packet id) = id_line stream.program stream.pid packet id
 warning_line falling warning.UnreadNetwork = codes "name of the network has characters that cannot be read\n"
 warning_line falling (warning.Information about) = information_line about
 warning_line falling (warning.MapMoved program from to) = codes "PMT of program " ++ decimal program ++ codes " moved from pid " ++ decimal from ++ codes " to "
     ++ decimal to ++ codes "\n"
 warning_line falling (warning.HeaderBuffer pid said unit counted) = header_line pid said unit counted
 warning_line falling (warning.Leak pid rate leak) = leak_line pid rate leak
-warning_line falling (warning.LeftOut pid why) = left_out_line falling pid why
+warning_line falling (warning.LeftOut stream why) = left_out_line falling stream.pid why
 warning_line falling (warning.Frames pid frames main) = frames_line pid frames main
 warning_line falling (warning.CrossingFrames pid main) = crossing_line pid main
 warning_line falling (warning.MadeDts pid) = codes "pid " ++ decimal pid ++ codes " has no DTS that rise: made from its PTS\n"

@@ -7,13 +7,14 @@
 //! - `field_lines`: fields that are not written again.
 //! - `table_lines`: tables that no job is made of.
 //! - `warning_lines`: the warnings of a job; `information_lines`: of its service information.
-//! - `refusal_line`: a stream that is refused.
+//! - `refusal_line`: a stream that is refused; `lacking_line`: for what a program would lack.
 //! - `input_lines`: an input, if there are several.
 #![tactic(auto)]
 
 mod field_lines;
 mod information_lines;
 mod input_lines;
+mod lacking_line;
 mod refusal_line;
 mod reporting;
 mod slip_lines;

@@ -4,6 +4,7 @@ ghost use Rattle.std.specs.Prelude.{◌≡◌, ◌++◌, OnOk, string_bytes};
 ghost use Rattle.job_lines.specs.RefusalLine as spec;
 ghost use Rattle.job_programs.specs.declared.refusal.JobRefusal.TheVariants as refusals;
 
+use crate::lacking_line::{write_lacking, write_lacking_in};
 use description_keys::DescFault;
 use diagnosis::write_fault;
 use es_moments::{DtsFault, StampFault};
@@ -308,6 +309,12 @@ pub fn write_refusal(refusal: JobRefusal, text: &mut String) -> Result<(), Alloc
             main,
             way_out,
         } => write_buffers(pid, size, rx, main, way_out, text),
+        JobRefusal::Lacking {
+            program,
+            pid,
+            kind,
+            ..
+        } => write_lacking(program, pid, kind, text),
         JobRefusal::Pids => text.push_str("no PID is left for a PMT or a PCR\n"),
         JobRefusal::Description(fault) => write_description(fault, text),
         JobRefusal::Plan(rate) => write!(
@@ -318,15 +325,15 @@ pub fn write_refusal(refusal: JobRefusal, text: &mut String) -> Result<(), Alloc
     }
 }
 
-/// Appends the line of a refusal in a recording with streams of these PIDs whose clocks go back.
-#[tactic(auto, unfolding(crate::specs::RefusalLine::refusal_in))]
-pub fn write_refusal_in(
+// Appends the line of a refusal of one stream, in a recording with streams of these PIDs whose clocks go back.
+#[tactic(auto, unfolding(crate::specs::RefusalLine::reason_in))]
+pub(crate) fn write_reason_in(
     falling: &[u16],
     refusal: JobRefusal,
     text: &mut String,
 ) -> Result<(), AllocError>
     ensures { OnOk result
-        (string_bytes text.new ≡ string_bytes text.old ++ spec.refusal_in falling.now refusal) }
+        (string_bytes text.new ≡ string_bytes text.old ++ spec.reason_in falling.now refusal) }
 {
     match refusal {
         JobRefusal::Stamps {
@@ -343,5 +350,26 @@ pub fn write_refusal_in(
             text,
         ),
         other => write_refusal(other, text),
+    }
+}
+
+/// Appends the lines of a refusal in a recording with streams of these PIDs whose clocks go back.
+#[tactic(auto, unfolding(crate::specs::RefusalLine::refusal_in))]
+pub fn write_refusal_in(
+    falling: &[u16],
+    refusal: JobRefusal,
+    text: &mut String,
+) -> Result<(), AllocError>
+    ensures { OnOk result
+        (string_bytes text.new ≡ string_bytes text.old ++ spec.refusal_in falling.now refusal) }
+{
+    match refusal {
+        JobRefusal::Lacking {
+            program,
+            pid,
+            kind,
+            cause,
+        } => write_lacking_in(falling, program, pid, kind, cause, text),
+        other => write_reason_in(falling, other, text),
     }
 }

@@ -318,12 +318,9 @@ fn write_warning(falling: &[u16], warning: Warning, text: &mut String) -> Result
             text,
             "pid {pid} of program {program} has no unit: left out\n"
         ),
-        Warning::StreamId {
-            program,
-            pid,
-            packet,
-            id,
-        } => write_id(program, pid, packet, id, text),
+        Warning::StreamId { stream, packet, id } => {
+            write_id(stream.program, stream.pid, packet, id, text)
+        }
         Warning::UnreadNetwork => {
             text.push_str("name of the network has characters that cannot be read\n")
         }
@@ -339,7 +336,7 @@ fn write_warning(falling: &[u16], warning: Warning, text: &mut String) -> Result
             counted,
         } => write_header_buffer(pid, said, unit, counted, text),
         Warning::Leak { pid, rate, leak } => write_leak(pid, rate, leak, text),
-        Warning::LeftOut { pid, why } => write_left_out(falling, pid, why, text),
+        Warning::LeftOut { stream, why } => write_left_out(falling, stream.pid, why, text),
         Warning::Frames { pid, frames, main } => write_frames(pid, frames, main, text),
         Warning::CrossingFrames { pid, main } => write_crossing(pid, main, text),
         Warning::MadeDts { pid } => write!(

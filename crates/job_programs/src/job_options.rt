@@ -26,6 +26,8 @@ pub struct JobOptions<'a> {
     pub make_dts: bool,
     /// Whether a stream that can't be carried refuses the input.
     pub strict: bool,
+    /// Whether a program is written without a picture or sound that can't be carried.
+    pub lenient: bool,
     /// What the system clock shows as the run begins.
     pub base: ClockBase,
     /// The network, in place of the stream's network.
@@ -62,6 +64,7 @@ impl<'a> Model for JobOptions<'a> {
       declare_by = o.declare_by;
       make_dts = o.make_dts;
       strict = o.strict;
+      lenient = o.lenient;
       base = o.base;
       network = option_map network_name_view o.network;
       names = o.names.now;

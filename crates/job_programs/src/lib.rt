@@ -15,6 +15,7 @@ pub mod job_options;
 // Refusals and warnings.
 mod later_programs;
 pub mod named_numbers;
+mod named_stream;
 pub mod option_warnings;
 pub mod packets;
 mod refusal;
@@ -40,6 +41,7 @@ pub use job_options::JobOptions;
 pub use job_programs::JobProgram;
 pub use job_stream::{JobStream, StreamMoments, TimedStream, WireStream};
 pub use named_service::NamedService;
+pub use named_stream::{NamedStream, StreamKind};
 pub use program_clock::ProgramClock;
-pub use refusal::{GreaterBuffers, JobError, JobRefusal, NamedNumbers};
+pub use refusal::{GreaterBuffers, JobError, JobRefusal, LeftOutCause, NamedNumbers};
 pub use warning::{PacketWarning, ProgramWarning, Warning};

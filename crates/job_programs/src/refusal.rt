@@ -3,6 +3,7 @@
 ghost use Rattle.std.specs.Prelude.{◌≡◌};
 ghost use Rattle.job_programs.specs.declared.refusal.JobError.TheVariants.{Memory, Refused};
 
+use crate::named_stream::StreamKind;
 use description_keys::DescFault;
 use es_moments::{DtsFault, StampFault};
 use std::alloc::{AllocError, AllocFailed};
@@ -23,6 +24,36 @@ pub struct NamedNumbers {
     pub third: Option<u16>,
     pub fourth: Option<u16>,
     pub count: usize,
+}
+
+/// Why the only picture or the only sound of a program can't be carried, as a refusal of the stream says it.
+#[derive(Clone, Copy, PartialEq, Eq)]
+pub enum LeftOutCause {
+    Scrambled,
+    StreamId {
+        packet: u64,
+        id: u8,
+    },
+    NoStamps,
+    OtherStreamId {
+        packet: u64,
+        id: u8,
+        first: u8,
+    },
+    Stamps {
+        packet: u64,
+        fault: StampFault,
+        mended: bool,
+    },
+    Dts(DtsFault),
+    Units(usize),
+    Size(usize),
+    Buffers {
+        size: u32,
+        rx: u32,
+        main: u32,
+        way_out: Option<GreaterBuffers>,
+    },
 }
 
 /// Why a transport stream is refused: then nothing is written; or why a stream of it is left out.
@@ -89,6 +120,14 @@ pub enum JobRefusal {
         rx: u32,
         main: u32,
         way_out: Option<GreaterBuffers>,
+    },
+    /// A program would be written without a picture, or without sound: the stream of this PID is its first picture, or
+    /// sound, that can't be carried, and no other of its kind is carried.
+    Lacking {
+        program: u16,
+        pid: u16,
+        kind: StreamKind,
+        cause: LeftOutCause,
     },
     /// There is no PID left for the clock references or the program map table of a program.
     Pids,

@@ -3,6 +3,7 @@
 ghost use Rattle.std.specs.Prelude.{◌≡◌};
 ghost use Rattle.job_programs.specs.Warnings as spec;
 
+use crate::named_stream::NamedStream;
 use crate::refusal::{JobRefusal, NamedNumbers};
 use es_units::UnitWarning;
 use program_tables::MapPart;
@@ -83,8 +84,7 @@ pub enum Warning {
     },
     /// The units of a stream have a stream_id that cannot be written; the first unit begins in this packet.
     StreamId {
-        program: u16,
-        pid: u16,
+        stream: NamedStream,
         packet: u64,
         id: u8,
     },
@@ -112,9 +112,9 @@ pub enum Warning {
         rate: u64,
         leak: u32,
     },
-    /// The stream of this PID is left out: with it there would be no job, for this reason.
+    /// A stream is left out: with it there would be no job, for this reason.
     LeftOut {
-        pid: u16,
+        stream: NamedStream,
         why: JobRefusal,
     },
     /// The units of a stream have up to this number of frames of sound, which its main buffer of this size is not known

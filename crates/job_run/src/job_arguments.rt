@@ -43,6 +43,8 @@ pub struct JobArguments<'a> {
     pub make_dts: bool,
     /// Whether a stream that can't be carried refuses the input.
     pub strict: bool,
+    /// Whether a program is written without a picture or sound that can't be carried.
+    pub lenient: bool,
     /// What the system clock shows as the run begins.
     pub base: ClockBase,
     /// The network, in place of the stream's network.
@@ -83,6 +85,7 @@ impl<'a> Model for JobArguments<'a> {
         declare_by = a.declare_by;
         make_dts = a.make_dts;
         strict = a.strict;
+        lenient = a.lenient;
         base = a.base;
         network = option_map network_name_view a.network;
         names = a.names.items;
@@ -116,6 +119,7 @@ impl JobArguments<'_> {
             declare_by: self.declare_by,
             make_dts: self.make_dts,
             strict: self.strict,
+            lenient: self.lenient,
             base: self.base,
             network: self.network,
             names: &self.names,

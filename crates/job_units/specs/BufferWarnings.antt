@@ -3,8 +3,8 @@ use Rattle.std.specs.Prelude.{ℕ, ◌*◌, ◌/◌, ◌==◌, ◌||◌, ◌++�
 use Rattle.std.specs.Prelude.{option_to_list}
 use Rattle.clock27.specs.Units.{slot_units_at_1bps}
 use Rattle.unit_timing.specs.Shares.{parts}
+use Rattle.unit_timing.specs.declared.framing.Framing.{Framing}
 use Rattle.unit_timing.specs.declared.multiplexing_buffer.MultiplexingBuffer.{MultiplexingBuffer}
-use Rattle.stream_choice.specs.Frames.{keeps_framing}
 use Rattle.stream_choice.specs.declared.choice.Choice.{Choice}
 use Rattle.es_buffers.specs.Buffers.{buffers_of, given_buffers}
 use Rattle.es_buffers.specs.declared.buffers.PidBuffers.{PidBuffers}
@@ -55,12 +55,11 @@ leak_warnings streams all chosen = flat_map leak_warnings_of (zip streams (zip a
 -- 3. Frames of sound that leave a main buffer in whole units, where the options do not give it: frames that it does not hold one by one, that would be in
 -- the buffers for more than a second, or that cross units
 
--- how many a unit has at most, where it has several and the choice does not keep them: they are not declared (`kept_framing`)
-unfoldable pub unkept_frames : UnitCountsView → Choice → Option ℕ
-unkept_frames c choice = elim c.framing [
-  | None ↦ None
-  | Some f ↦ if keeps_framing c.needs f choice.lead choice.share then None else (if nat_lt 1 f.frames then Some f.frames else None)
-]
+-- how many a unit has at most, where it has several and the stream does not declare them
+unfoldable pub unkept_frames : Option Framing → Option Framing → Option ℕ
+unkept_frames None kept = None
+unkept_frames (Some f) (Some other) = None
+unkept_frames (Some f) None = if nat_lt 1 f.frames then Some f.frames else None
 
 -- frames that cross units are not counted
 unfoldable pub crossing_warning : MeasuredView → UnitCountsView → Option Warning
@@ -70,7 +69,7 @@ crossing_warning m c = elim c.framing [
 ]
 
 unfoldable pub whole_warning : MeasuredView × (UnitCountsView × StreamChoice) → Option Warning
-whole_warning s = elim (unkept_frames s.1.0 s.1.1.choice) [
+whole_warning s = elim (unkept_frames s.1.0.framing s.1.1.framing) [
   | None ↦ crossing_warning s.0 s.1.0
   | Some frames ↦ Some (warning.Frames s.0.pid frames s.1.0.needs.main)
 ]

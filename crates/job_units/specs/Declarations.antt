@@ -10,7 +10,8 @@ use Rattle.unit_timing.specs.Shares.{parts}
 use Rattle.unit_timing.specs.declared.framing.Framing.{Framing}
 use Rattle.unit_timing.specs.declared.multiplexing_buffer.MultiplexingBuffer.{MultiplexingBuffer}
 use Rattle.stream_choice.specs.Choices.{groups_choice, preferred}
-use Rattle.stream_choice.specs.Frames.{framed_lead, keeps_framing}
+use Rattle.stream_choice.specs.FramedChoices.{framed_groups}
+use Rattle.stream_choice.specs.Frames.{framed_lead, is_framing, keeps_framing}
 use Rattle.stream_choice.specs.Paces.{pace_choice}
 use Rattle.stream_choice.specs.Ranges.{is_needs, are_max_packets}
 use Rattle.stream_choice.specs.Shares.{delay_before, leaking_needs, least_share}
@@ -35,7 +36,7 @@ use Rattle.job_programs.specs.declared.refusal.JobRefusal.{JobRefusal}
 use Rattle.job_programs.specs.declared.refusal.JobRefusal.TheVariants as refusals
 use Rattle.given_values.specs.declared.declare_by.DeclareBy.{DeclareBy}
 use Rattle.given_values.specs.declared.declare_by.DeclareBy.TheVariants as by
-use Rattle.job_programs.specs.Answers.{unless, each}
+use Rattle.job_programs.specs.Answers.{and_then, unless, each}
 use Rattle.job_programs.specs.JobStreams.{TimedStreamView}
 use Rattle.job_units.specs.CrossingFrames.{do_cross}
 
@@ -240,7 +241,7 @@ choice_of by.Either lead sum buffer units c = preferred (groups_of lead sum buff
 -- it, with the multiplexing buffer that it keeps
 abbrev pub kept : DeclareBy → ℕ → ℕ → Option MultiplexingBuffer → UnitRunsView → UnitCountsView → Option StreamChoice
 kept declare_by lead sum buffer units c =
-    option_map (λ choice. record { choice = choice; multiplexing = buffer }) (choice_of declare_by lead sum buffer units c)
+    option_map (λ choice. record { choice = choice; multiplexing = buffer; framing = None }) (choice_of declare_by lead sum buffer units c)
 
 unfoldable pub first_kept : Option StreamChoice → Option StreamChoice → Option StreamChoice
 first_kept (Some choice) other = Some choice
@@ -286,9 +287,57 @@ chosen declare_by lead sum s =
     ok_or (first_kept (kept declare_by (prompt_lead lead s.1) sum s.1.multiplexing s.0.units.runs s.1) (kept declare_by lead sum None s.0.units.runs s.1))
     (buffers_refusal declare_by lead sum s.0 s.1)
 
-unfoldable pub choices : DeclareBy → ℕ → List MeasuredView → List UnitCountsView → Result (List StreamChoice) JobRefusal
-choices declare_by lead streams all = each (chosen declare_by lead (shares_of all)) (zip streams all)
+-- 6. The declarations of all streams. Each is chosen as if the output had the least shares of its streams. Sound with several access units to a unit
+-- is chosen once more in an output of the shares of these first choices: the faster an output is, the sooner bytes leave the transport buffer
 
--- the access units that a stream declares: none if its choice does not keep them, so that no stream is refused for them
-unfoldable pub kept_framing : UnitCountsView → Choice → Option Framing
-kept_framing c choice = elim c.framing [ None ↦ None | Some f ↦ if keeps_framing c.needs f choice.lead choice.share then Some f else None ]
+-- the share of what recurs for one program: clock references each 40 ms, and a section of a PAT and of a PMT each 500 ms
+abbrev pub recurring_share : ℕ
+recurring_share = parts * 29 / 90_000
+
+-- the sum of the shares of an output with these choices, as a number of 64 bits
+unfoldable pub asked_shares : List StreamChoice → ℕ
+asked_shares chosen = max (min (min (sum_by (λ s. s.choice.share) chosen) (2 ^ 64 - 1) + recurring_share) (2 ^ 64 - 1)) least_output
+
+-- a choice keeps access units in an output whose shares have this sum
+abbrev pub keeps : ℕ → Framing → UnitCountsView → StreamChoice → Bool
+keeps sum f c s = keeps_framing c.needs f s.choice.lead s.choice.share sum
+
+-- the choice by groups, with one main buffer, that keeps them and asks for the least share
+unfoldable pub framed_by_groups : ℕ → ℕ → Framing → UnitCountsView → Option Choice
+framed_by_groups lead sum f c =
+    if is_framing c.needs f && is_countable c.needs c.max_group_packets then framed_groups c.needs f c.max_group_packets sum (min lead 90_000) else None
+
+-- the same, if the options allow groups
+unfoldable pub framed_of : DeclareBy → ℕ → ℕ → Framing → UnitCountsView → Option Choice
+framed_of by.Pace lead sum f c = None
+framed_of by.Groups lead sum f c = framed_by_groups lead sum f c
+framed_of by.Either lead sum f c = framed_by_groups lead sum f c
+
+-- that choice replaces the first one if it asks for less; or, if the first one does not keep them, for at most a 64th more
+abbrev pub replaces : Choice → Choice → Bool → Bool
+replaces c first first_keeps = if first_keeps then nat_lt c.share first.share else nat_le (64 * c.share) (65 * first.share)
+
+-- the first choice, with the access units if it keeps them
+abbrev pub first_framed : Framing → StreamChoice → Bool → StreamChoice
+first_framed f first first_keeps =
+    if first_keeps then record { choice = first.choice; multiplexing = first.multiplexing; framing = Some f } else first
+
+unfoldable pub framed_or : Framing → StreamChoice → Bool → Option Choice → StreamChoice
+framed_or f first first_keeps None = first_framed f first first_keeps
+framed_or f first first_keeps (Some c) =
+    if replaces c first.choice first_keeps then record { choice = c; multiplexing = None; framing = Some f } else first_framed f first first_keeps
+
+-- a stream's choice by its first choice: no stream is refused for its access units
+unfoldable pub with_frames : DeclareBy → ℕ → ℕ → UnitCountsView × StreamChoice → StreamChoice
+with_frames declare_by lead sum s = elim s.0.framing [
+  | None ↦ s.1
+  | Some f ↦ framed_or f s.1 (keeps sum f s.0 s.1) (framed_of declare_by lead sum f s.0)
+]
+
+abbrev pub all_framed : DeclareBy → ℕ → ℕ → List UnitCountsView → List StreamChoice → List StreamChoice
+all_framed declare_by lead sum all first = map (with_frames declare_by lead sum) (zip all first)
+
+unfoldable pub choices : DeclareBy → ℕ → List MeasuredView → List UnitCountsView → Result (List StreamChoice) JobRefusal
+choices declare_by lead streams all =
+    and_then (λ first. Ok (all_framed declare_by lead (asked_shares first) all first))
+    (each (chosen declare_by lead (shares_of all)) (zip streams all))

@@ -15,12 +15,14 @@ use Rattle.es_units.specs.UnitWarnings.{unit_warnings}
 use Rattle.es_units.specs.declared.unit_warning.UnitWarning.{UnitWarning}
 use Rattle.es_units.specs.declared.unit_warning.UnitWarningCause.{UnitWarningCause}
 use Rattle.es_units.specs.declared.unit_warning.UnitWarningCause.TheVariants as causes
+use Rattle.job_programs.specs.declared.named_stream.NamedStream.{NamedStream}
 use Rattle.job_programs.specs.declared.refusal.JobRefusal.{JobRefusal}
 use Rattle.job_programs.specs.declared.refusal.JobRefusal.TheVariants as refusals
 use Rattle.job_programs.specs.declared.warning.Warning.{Warning}
 use Rattle.job_programs.specs.declared.warning.Warning.TheVariants as warnings
 use Rattle.job_programs.specs.Answers.{and_then, unless}
 use Rattle.job_units.specs.OddStreams.{odd_stream}
+use Rattle.job_units.specs.StreamKinds.{named_stream}
 use Rattle.job_programs.specs.Warnings.{pid_warnings}
 use Rattle.job_programs.specs.JobOptions.{JobOptionsView, is_selected_stream}
 use Rattle.job_programs.specs.JobStreams.{WireStreamView}
@@ -132,32 +134,33 @@ why_no_unit pid found =
     else (if list_any is_of_scrambled found then Some (refusals.Scrambled pid) else None)
 
 -- otherwise no PES packet comes on it
-unfoldable pub without_unit : ℕ → ℕ → Option JobRefusal → Warning
-without_unit program pid None = warnings.NoUnit program pid
-without_unit program pid (Some why) = warnings.LeftOut pid why
+unfoldable pub without_unit : NamedStream → Option JobRefusal → Warning
+without_unit stream None = warnings.NoUnit stream.program stream.pid
+without_unit stream (Some why) = warnings.LeftOut stream why
 
-abbrev pub no_unit_warning : ℕ → ℕ → List UnitWarning → Warning
-no_unit_warning program pid found = without_unit program pid (why_no_unit pid found)
+abbrev pub no_unit_warning : NamedStream → List UnitWarning → Warning
+no_unit_warning stream found = without_unit stream (why_no_unit stream.pid found)
 
 -- it has no unit, or a stream_id that can't be written
-unfoldable pub why_not_carried : ℕ → List FindingView → ℕ → ℕ → List CarriedUnit → List Warning
-why_not_carried count findings program pid [] = no_unit_warning program pid (unit_warnings pid count findings) ∷ pid_warnings count findings pid
-why_not_carried count findings program pid (u ∷ us) = warnings.StreamId program pid u.packet u.stream_id ∷ []
+unfoldable pub why_not_carried : ℕ → List FindingView → NamedStream → List CarriedUnit → List Warning
+why_not_carried count findings stream [] =
+    no_unit_warning stream (unit_warnings stream.pid count findings) ∷ pid_warnings count findings stream.pid
+why_not_carried count findings stream (u ∷ us) = warnings.StreamId stream u.packet u.stream_id ∷ []
 
 -- or it is left out for a reason
-unfoldable pub left_out_for : ℕ → Option JobRefusal → List Warning
-left_out_for pid None = []
-left_out_for pid (Some why) = warnings.LeftOut pid why ∷ []
+unfoldable pub left_out_for : NamedStream → Option JobRefusal → List Warning
+left_out_for stream None = []
+left_out_for stream (Some why) = warnings.LeftOut stream why ∷ []
 
 -- its DTS are made without being asked for
 unfoldable pub made_for : ℕ → Bool → List Warning
 made_for pid made = if made then warnings.MadeDts pid ∷ [] else []
 
 unfoldable pub warnings_by : JobOptionsView → ℕ → List FindingView → FoundStreamView → Result (Option WireStreamView) JobRefusal → List Warning
-warnings_by options count findings s (Err why) = left_out_for s.pid (Some why)
-warnings_by options count findings s (Ok None) = why_not_carried count findings s.program s.pid (carried_units s.pid findings)
+warnings_by options count findings s (Err why) = left_out_for (named_stream s) (Some why)
+warnings_by options count findings s (Ok None) = why_not_carried count findings (named_stream s) (carried_units s.pid findings)
 warnings_by options count findings s (Ok (Some w)) =
-    made_for s.pid (makes_itself options (carried_units s.pid findings)) ++ left_out_for s.pid (odd_stream options findings w)
+    made_for s.pid (makes_itself options (carried_units s.pid findings)) ++ left_out_for (named_stream s) (odd_stream options findings w)
 
 unfoldable pub left_out_warnings : JobOptionsView → ℕ → List FindingView → FoundStreamView → List Warning
 left_out_warnings options count findings s = warnings_by options count findings s (found_stream options findings s)

@@ -9,7 +9,8 @@ use clock27::SLOT_UNITS_AT_1BPS;
 use es_buffers::{PidBuffers, buffers_of, given_buffers};
 use job_programs::Warning;
 use std::alloc::AllocError;
-use stream_choice::{Choice, keeps_framing};
+use stream_choice::Choice;
+use unit_timing::framing::Framing;
 use unit_timing::multiplexing_buffer::MultiplexingBuffer;
 use unit_timing::shares::PARTS;
 
@@ -148,18 +149,23 @@ fn push_leak_warnings(
     Ok(())
 }
 
-// Returns the number of access units in a unit that a choice does not keep.
+// Returns the number of access units in a unit of a stream that has several, and does not declare them.
 #[tactic(auto, unfolding(crate::specs::BufferWarnings::unkept_frames))]
-fn unkept_frames(unit_counts: &UnitCounts, choice: Choice) -> Option<u8>
-    ensures { result ≡ spec.unkept_frames unit_counts.now choice }
+fn unkept_frames(found: Option<Framing>, kept: Option<Framing>) -> Option<u8>
+    ensures { result ≡ spec.unkept_frames found kept }
 {
-    let framing = unit_counts.framing?;
-    if keeps_framing(unit_counts.needs, framing, choice.lead, choice.share) {
-        None
-    } else if framing.frames > 1 {
-        Some(framing.frames)
-    } else {
-        None
+    match found {
+        None => None,
+        Some(framing) => match kept {
+            Some(Framing { .. }) => None,
+            None => {
+                if framing.frames > 1 {
+                    Some(framing.frames)
+                } else {
+                    None
+                }
+            }
+        },
     }
 }
 
@@ -190,7 +196,7 @@ fn whole_warning(
 ) -> Option<Warning>
     ensures { result ≡ spec.whole_warning (stream.now, (unit_counts.now, choice)) }
 {
-    match unkept_frames(unit_counts, choice.choice) {
+    match unkept_frames(unit_counts.framing, choice.framing) {
         None => crossing_warning(stream, unit_counts),
         Some(frames) => Some(Warning::Frames {
             pid: stream.pid,

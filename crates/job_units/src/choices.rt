@@ -1,70 +1,34 @@
 //! What a description declares of the packets of a stream's units: by groups or by pace.
 
-ghost use Rattle.std.specs.Prelude.{◌≡◌, ◌≤◌, ◌-◌, ◌^◌, min, sum_by, zip, IfErr, IfOk, IfSome, IsTrue, None, Ok};
+ghost use Rattle.std.specs.Prelude.{◌≡◌, ◌≤◌, ◌-◌, ◌^◌, zip, IfErr, IfOk, IfSome, IsTrue, None, Ok};
 ghost use Rattle.stream_choice.specs.Ranges.{IsNeeds, AreMaxPackets};
 ghost use Rattle.job_programs.specs.Answers.{Answers, Refuses, each};
 ghost use Rattle.job_units.specs.Declarations as spec;
 
 use crate::alike::is_alike;
 use crate::declarations::{StreamChoice, UnitCounts};
+use crate::frame_choices::all_framed;
 use crate::greater_buffers::buffers_refusal;
+use crate::share_sums::{asked_shares, shares_of};
 use crate::stream_measures::StreamMeasures;
-use clock27::{LEAST_RATE, SLOT_UNITS_AT_1BPS};
 use es_moments::UnitRuns;
 use given_values::DeclareBy;
 use job_programs::JobError;
 use std::alloc::Global;
 use stream_choice::{
     Choice, Needs, PacedUnits, are_max_packets, choose_groups, choose_pace, delay_before,
-    framed_lead, leaking_needs, least_share, preferred,
+    framed_lead, leaking_needs, preferred,
 };
 use unit_timing::multiplexing_buffer::MultiplexingBuffer;
-use unit_timing::shares::PARTS;
 
-/// The share of an output of the least rate.
-const LEAST_OUTPUT: u64 = (PARTS as u128 * LEAST_RATE as u128 / SLOT_UNITS_AT_1BPS) as u64;
-
-// Returns whether a stream can be declared with some group.
+/// Returns whether a stream can be declared with some group.
 #[tactic(auto, unfolding(crate::specs::Declarations::is_countable))]
-fn is_countable(needs: Needs, max_group_packets: &[u32]) -> bool
+pub(crate) fn is_countable(needs: Needs, max_group_packets: &[u32]) -> bool
     ensures value { result ≡ spec.is_countable needs max_group_packets.now }
     ensures needs { IsTrue result → IsNeeds needs }
     ensures packets { IsTrue result → AreMaxPackets max_group_packets.now }
 {
     needs.is_in_range() && are_max_packets(max_group_packets)
-}
-
-// Returns the least share that a stream needs.
-#[tactic(auto, unfolding(crate::specs::Declarations::share_of))]
-fn share_of(unit_counts: &UnitCounts) -> u64
-    ensures { result ≡ spec.share_of unit_counts.now }
-{
-    let max_group_packets = unit_counts.max_group_packets.as_slice();
-    if is_countable(unit_counts.needs, max_group_packets) {
-        least_share(unit_counts.needs, max_group_packets)
-    } else {
-        0
-    }
-}
-
-// Returns the sum of the shares, or the greatest number if they are more.
-fn shares_sum(all: &[UnitCounts]) -> u64
-    ensures { result ≡ min (sum_by spec.share_of all.now) (2 ^ 64 - 1) }
-{
-    let mut sum: u64 = 0;
-    for unit_counts in all {
-        sum = sum.saturating_add(share_of(unit_counts));
-    }
-    sum
-}
-
-/// Returns the sum of the shares of the multiplex that these streams need by groups, at least the least output rate.
-#[tactic(auto, unfolding(crate::specs::Declarations::shares_of))]
-pub(crate) fn shares_of(all: &[UnitCounts]) -> u64
-    ensures value { result ≡ spec.shares_of all.now }
-    ensures least { 2 ^ 17 ≤ result }
-{
-    shares_sum(all).max(LEAST_OUTPUT)
 }
 
 // The units of a stream, whose bursts are known at any pace.
@@ -236,6 +200,7 @@ fn kept(
         Some(choice) => Some(StreamChoice {
             choice,
             multiplexing: buffer,
+            framing: None,
         }),
     }
 }
@@ -361,7 +326,7 @@ fn each_choice(
 }
 
 /// Returns what each stream declares.
-#[tactic(auto, unfolding(crate::specs::Declarations::choices))]
+#[tactic(auto, unfolding(crate::specs::Declarations::choices, job_programs::specs::Answers::and_then, job_programs::specs::Answers::Refuses), using(job_programs::proofs::AndThen::then_refuses))]
 pub fn choices(
     alloc: Global,
     declare_by: DeclareBy,
@@ -373,6 +338,9 @@ pub fn choices(
         spec.choices declare_by greatest_lead streams.now all.now ≡ Ok chosen.items) }
     ensures refused { IfErr result (Refuses (spec.choices declare_by greatest_lead streams.now all.now)) }
 {
-    let sum = shares_of(all);
-    each_choice(alloc, declare_by, greatest_lead, sum, streams, all)
+    let least = shares_of(all);
+    let first = each_choice(alloc, declare_by, greatest_lead, least, streams, all)?;
+    let sum = asked_shares(&first);
+    let chosen = all_framed(alloc, declare_by, greatest_lead, sum, all, &first)?;
+    Ok(chosen)
 }

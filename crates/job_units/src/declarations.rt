@@ -38,11 +38,13 @@ pub struct UnitCounts {
     pub max_group_packets: Vec<u32>,
 }
 
-/// What a stream declares of its packets, and the multiplexing buffer that it keeps so, if it declares one.
+/// What a stream declares of its packets, and what it keeps so: the multiplexing buffer and the access units that it
+/// declares, if any.
 #[derive(Clone, Copy)]
 pub struct StreamChoice {
     pub choice: Choice,
     pub multiplexing: Option<MultiplexingBuffer>,
+    pub framing: Option<Framing>,
 }
 
 // A contract sees its packets as a list.

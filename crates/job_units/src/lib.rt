@@ -1,7 +1,7 @@
 //! Units of a job's streams, and what is declared of them.
 //!
 //! `wire_streams::wire_streams` returns the streams with units that a job can carry (`specs/WireStreams`,
-//! `specs/OddStreams`), `moved_streams::moved_streams` their moments (`specs/Moments`), and
+//! `specs/OddStreams`, `specs/StreamKinds`), `moved_streams::moved_streams` their moments (`specs/Moments`), and
 //! `timed_streams::timed_streams` moves the bytes of the units out of the findings (`specs/TakenStreams`).
 //! `declarations::count_units` and `choices::choices` return what a description declares of them
 //! (`specs/Declarations`), `buffer_warnings::push_buffer_warnings` appends the warnings about their buffers
@@ -10,6 +10,7 @@
 
 // Units as on the wire.
 mod odd_streams;
+pub mod stream_kinds;
 pub mod wire_streams;
 
 // Units at moments of a run.
@@ -23,7 +24,9 @@ pub mod buffer_warnings;
 pub mod choices;
 pub mod crossing_frames;
 pub mod declarations;
+mod frame_choices;
 mod greater_buffers;
+mod share_sums;
 pub mod stream_measures;
 
 pub use declarations::{StreamChoice, UnitCounts};

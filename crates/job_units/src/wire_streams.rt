@@ -12,13 +12,14 @@ ghost use Rattle.es_units.specs.CarriedUnits.{carried_units};
 ghost use Rattle.job_programs.specs.FoundUnits.{IsCarried};
 
 use crate::odd_streams::odd_stream;
+use crate::stream_kinds::named_stream;
 use es_moments::{
     DtsError, FoundUnit, apart_units, dts_are_made, first_other, units_with_made_dts, written_id,
 };
 use es_units::{PidLinks, UnitWarning, UnitWarningCause, found_units, unit_warnings};
 use job_programs::job_options::is_among;
 use job_programs::warnings::push_pid_warnings;
-use job_programs::{JobError, JobOptions, JobRefusal, Warning, WireStream};
+use job_programs::{JobError, JobOptions, JobRefusal, NamedStream, Warning, WireStream};
 use pid_findings::Finding;
 use std::alloc::{AllocError, Global};
 use stream_coding::is_ac3;
@@ -203,12 +204,15 @@ fn why_no_unit(pid: u16, found: &[UnitWarning]) -> Option<JobRefusal>
 
 // Returns the warning about a stream without a unit.
 #[tactic(auto, unfolding(crate::specs::WireStreams::without_unit))]
-fn no_unit_warning(program: u16, pid: u16, found: &[UnitWarning]) -> Warning
-    ensures { result ≡ spec.no_unit_warning program pid found.now }
+fn no_unit_warning(stream: NamedStream, found: &[UnitWarning]) -> Warning
+    ensures { result ≡ spec.no_unit_warning stream found.now }
 {
-    match why_no_unit(pid, found) {
-        None => Warning::NoUnit { program, pid },
-        Some(why) => Warning::LeftOut { pid, why },
+    match why_no_unit(stream.pid, found) {
+        None => Warning::NoUnit {
+            program: stream.program,
+            pid: stream.pid,
+        },
+        Some(why) => Warning::LeftOut { stream, why },
     }
 }
 
@@ -217,23 +221,22 @@ fn no_unit_warning(program: u16, pid: u16, found: &[UnitWarning]) -> Warning
 fn push_empty_stream_warnings(
     alloc: Global,
     count: u64,
-    program: u16,
-    pid: u16,
+    stream: NamedStream,
     findings: &[Finding<'_>],
     links: &PidLinks<Global>,
     warnings: &mut Vec<Warning>,
 ) -> Result<(), AllocError>
     requires links { AreLinks links.now (pids_in (map finding_view findings.now)) }
     ensures { OnOk result (warnings.new.items ≡ warnings.old.items
-        ++ spec.why_not_carried count (map finding_view findings.now) program pid
-        (carried_units pid (map finding_view findings.now))) }
+        ++ spec.why_not_carried count (map finding_view findings.now) stream
+        (carried_units stream.pid (map finding_view findings.now))) }
 {
+    let pid = stream.pid;
     let units = found_units(alloc, pid, findings, links)?;
     match units.first() {
         Some(first) => {
             warnings.push(Warning::StreamId {
-                program,
-                pid,
+                stream,
                 packet: first.packet,
                 id: first.stream_id,
             })?;
@@ -241,7 +244,7 @@ fn push_empty_stream_warnings(
         }
         None => {
             let found = unit_warnings(alloc, pid, count, findings, links)?;
-            warnings.push(no_unit_warning(program, pid, &found))?;
+            warnings.push(no_unit_warning(stream, &found))?;
             push_pid_warnings(alloc, pid, count, findings, links, warnings)
         }
     }
@@ -250,16 +253,16 @@ fn push_empty_stream_warnings(
 // Appends the warning about a stream that is left out for a reason.
 #[tactic(auto, unfolding(crate::specs::WireStreams::left_out_for))]
 fn push_left_out(
-    pid: u16,
+    stream: NamedStream,
     why: Option<JobRefusal>,
     warnings: &mut Vec<Warning>,
 ) -> Result<(), AllocError>
-    ensures { OnOk result (warnings.new.items ≡ warnings.old.items ++ spec.left_out_for pid why) }
+    ensures { OnOk result (warnings.new.items ≡ warnings.old.items ++ spec.left_out_for stream why) }
 {
     let Some(why) = why else {
         return Ok(());
     };
-    warnings.push(Warning::LeftOut { pid, why })?;
+    warnings.push(Warning::LeftOut { stream, why })?;
     Ok(())
 }
 
@@ -293,7 +296,7 @@ fn push_unless<'f>(
 fn push_unless_odd<'f>(
     alloc: Global,
     options: &JobOptions<'_>,
-    pid: u16,
+    named: NamedStream,
     stream: WireStream<'f>,
     findings: &[Finding<'_>],
     links: &PidLinks<Global>,
@@ -304,10 +307,10 @@ fn push_unless_odd<'f>(
     ensures streams { OnOk result (streams.new.items ≡ streams.old.items ++ option_to_list
         (spec.unless_odd (odd_stream options.now (map finding_view findings.now) stream.entry) stream.entry)) }
     ensures warnings { OnOk result (warnings.new.items ≡ warnings.old.items
-        ++ spec.left_out_for pid (odd_stream options.now (map finding_view findings.now) stream.entry)) }
+        ++ spec.left_out_for named (odd_stream options.now (map finding_view findings.now) stream.entry)) }
 {
     let odd = odd_stream(alloc, options, &stream, findings, links)?;
-    push_left_out(pid, odd, warnings)?;
+    push_left_out(named, odd, warnings)?;
     push_unless(odd, stream, streams)
 }
 
@@ -329,20 +332,19 @@ fn push_stream<'f>(
     ensures warnings { OnOk result (warnings.new.items ≡ warnings.old.items
         ++ spec.left_out_warnings options.now count (map finding_view findings.now) stream) }
 {
-    let (program, pid) = (stream.program, stream.pid);
+    let named = named_stream(&stream);
+    let pid = stream.pid;
     let units = found_units(alloc, pid, findings, links)?;
     let made = makes_itself(alloc, options, &units)?;
     match stream_if_any(alloc, options.make_dts || made, stream, units) {
         Ok(Some(stream)) => {
             push_made(pid, made, warnings)?;
             push_unless_odd(
-                alloc, options, pid, stream, findings, links, streams, warnings,
+                alloc, options, named, stream, findings, links, streams, warnings,
             )
         }
-        Ok(None) => push_empty_stream_warnings(
-            alloc, count, program, pid, findings, links, warnings,
-        ),
-        Err(JobError::Refused(why)) => push_left_out(pid, Some(why), warnings),
+        Ok(None) => { push_empty_stream_warnings(alloc, count, named, findings, links, warnings) }
+        Err(JobError::Refused(why)) => push_left_out(named, Some(why), warnings),
         Err(JobError::Memory) => Err(AllocError),
     }
 }

@@ -23,6 +23,7 @@ use Rattle.job_programs.specs.JobTables.{JobTableView, reported, is_reported}
 use Rattle.job_programs.specs.Packets.{no_packets}
 use Rattle.job_programs.specs.Warnings.{packet_warning, packet_warning_of, packet_warnings, pid_warnings}
 use Rattle.job_programs.specs.declared.warning.PacketWarning.TheVariants.{Bad, Errored}
+use Rattle.job_programs.specs.declared.named_stream.NamedStream.{NamedStream}
 use Rattle.job_programs.specs.declared.refusal.JobRefusal.{JobRefusal}
 use Rattle.job_programs.specs.declared.refusal.JobRefusal.TheVariants as refusals
 use Rattle.job_programs.specs.declared.warning.Warning.{Warning}
@@ -33,12 +34,14 @@ use Rattle.job_units.specs.BufferWarnings.{buffer_warnings}
 use Rattle.job_units.specs.Declarations.{UnitCountsView, too_many, too_long, all_measured, all_unit_counts, choices}
 use Rattle.job_units.specs.Moments.{earliest, first_base, firsts, moved_by, moved_stream, moved_streams, with_moments}
 use Rattle.job_units.specs.OddStreams.{odd_stream}
+use Rattle.job_units.specs.StreamKinds.{named_stream}
 use Rattle.job_units.specs.WireStreams.{selected, wire_streams, carried_stream, carried_streams, found_stream, kept_stream, unless_odd, stream_if_any}
 use Rattle.job_units.specs.WireStreams.{is_written, made_for, makes_dts, makes_itself, stream_of, with_units, with_stamps, common_id, no_unit_warning}
 use Rattle.job_units.specs.WireStreams.{why_not_carried, left_out_for, warnings_by, left_out_warnings, all_left_out_warnings, why_no_unit, without_unit}
 use Rattle.job_inputs.specs.JobInput.{JobInputView, job_input, with_association, with_programs, with_pids, with_found, with_streams, with_moved}
 use Rattle.job_inputs.specs.JobInput.{with_unit_counts, change_warnings, table_warnings, stream_warnings, service_warnings, job_warnings}
-use Rattle.job_inputs.specs.JobInput.{named_of, nothing_carried, tables_of}
+use Rattle.job_inputs.specs.JobInput.{named_of, tables_of}
+use Rattle.job_inputs.specs.LackingPrograms.{stream_refusal}
 use Rattle.laws_job.specs.JobLines.{is_about, IsNamed, pids_of, JobLinesLaw}
 
 -- 1. Elements of lists
@@ -110,17 +113,17 @@ record IsKept (pid : ℕ) (ws : List WireStreamView) : Type 0 where
 named_first : (pid : ℕ) (line : Warning) (more : List Warning) → is_about pid line ≡ true → IsNamed pid (line ∷ more)
 named_first pid line more is = record { line = line; among = (zero, omega arith, refl); about = is }
 
-about_none : (pid program : ℕ) (why : Option JobRefusal) → is_about pid (without_unit program pid why) ≡ true
+about_none : (s : NamedStream) (why : Option JobRefusal) → is_about s.pid (without_unit s why) ≡ true
 unfolding is_about without_unit
-about_none pid program None = eq-eqb pid pid refl
-about_none pid program (Some why) = eq-eqb pid pid refl
+about_none s None = eq-eqb s.pid s.pid refl
+about_none s (Some why) = eq-eqb s.pid s.pid refl
 
-why_named : (count : ℕ) (findings : List FindingView) (program pid : ℕ) (us : List CarriedUnit) → IsNamed pid (why_not_carried count findings program pid us)
+why_named : (count : ℕ) (findings : List FindingView) (s : NamedStream) (us : List CarriedUnit) → IsNamed s.pid (why_not_carried count findings s us)
 unfolding why_not_carried is_about
-why_named count findings program pid [] =
-    named_first pid (no_unit_warning program pid (unit_warnings pid count findings)) (pid_warnings count findings pid)
-    (about_none pid program (why_no_unit pid (unit_warnings pid count findings)))
-why_named count findings program pid (u ∷ us) = named_first pid (warnings.StreamId program pid u.packet u.stream_id) [] (eq-eqb pid pid refl)
+why_named count findings s [] =
+    named_first s.pid (no_unit_warning s (unit_warnings s.pid count findings)) (pid_warnings count findings s.pid)
+    (about_none s (why_no_unit s.pid (unit_warnings s.pid count findings)))
+why_named count findings s (u ∷ us) = named_first s.pid (warnings.StreamId s u.packet u.stream_id) [] (eq-eqb s.pid s.pid refl)
 
 wire_pid : (made : Bool) (cs : List CarriedUnit) (s : FoundStreamView) (w : WireStreamView) → stream_of made s cs ≡ Ok w → w.pid ≡ s.pid
 unfolding stream_of with_units
@@ -138,11 +141,11 @@ some_pid made cs s w true is =
     let same : there.value ≡ w = cc in
     ap (λ (x : WireStreamView). x.pid) (sym same) ∙ wire_pid made cs s there.value there.first_is
 
-by_odd : (pid : ℕ) (w : WireStreamView) (odd : Option JobRefusal) → w.pid ≡ pid →
-    IsKept pid (option_to_list (unless_odd odd w)) ⊎ IsNamed pid (left_out_for pid odd)
+by_odd : (s : NamedStream) (w : WireStreamView) (odd : Option JobRefusal) → w.pid ≡ s.pid →
+    IsKept s.pid (option_to_list (unless_odd odd w)) ⊎ IsNamed s.pid (left_out_for s odd)
 unfolding unless_odd left_out_for is_about
-by_odd pid w None same = inl (record { stream = w; among = (zero, omega arith, refl); pid_is = same })
-by_odd pid w (Some why) same = inr (named_first pid (warnings.LeftOut pid why) [] (eq-eqb pid pid refl))
+by_odd s w None same = inl (record { stream = w; among = (zero, omega arith, refl); pid_is = same })
+by_odd s w (Some why) same = inr (named_first s.pid (warnings.LeftOut s why) [] (eq-eqb s.pid s.pid refl))
 
 after_made : (pid : ℕ) (made : Bool) (lines : List Warning) → IsNamed pid lines → IsNamed pid (made_for pid made ++ lines)
 unfolding made_for
@@ -156,12 +159,13 @@ by_result : (options : JobOptionsView) (count : ℕ) (findings : List FindingVie
     ((w : WireStreamView) → r ≡ Ok (Some w) → w.pid ≡ s.pid) →
     IsKept s.pid (option_to_list (kept_stream options findings r)) ⊎ IsNamed s.pid (warnings_by options count findings s r)
 unfolding kept_stream warnings_by left_out_for is_about
-by_result options count findings s (Err why) keeps = inr (named_first s.pid (warnings.LeftOut s.pid why) [] (eq-eqb s.pid s.pid refl))
-by_result options count findings s (Ok None) keeps = inr (why_named count findings s.program s.pid (carried_units s.pid findings))
+by_result options count findings s (Err why) keeps = inr (named_first s.pid (warnings.LeftOut (named_stream s) why) [] (eq-eqb s.pid s.pid refl))
+by_result options count findings s (Ok None) keeps = inr (why_named count findings (named_stream s) (carried_units s.pid findings))
 by_result options count findings s (Ok (Some w)) keeps =
     ⊎_elim (λ kept. inl kept)
-    (λ named. inr (after_made s.pid (makes_itself options (carried_units s.pid findings)) (left_out_for s.pid (odd_stream options findings w)) named))
-    (by_odd s.pid w (odd_stream options findings w) (keeps w refl))
+    (λ named. inr
+    (after_made s.pid (makes_itself options (carried_units s.pid findings)) (left_out_for (named_stream s) (odd_stream options findings w)) named))
+    (by_odd (named_stream s) w (odd_stream options findings w) (keeps w refl))
 
 one_stream : (options : JobOptionsView) (count : ℕ) (findings : List FindingView) (s : FoundStreamView) →
     IsKept s.pid (carried_stream options findings s) ⊎ IsNamed s.pid (left_out_warnings options count findings s)
@@ -252,7 +256,7 @@ lined options count findings input is =
     let due = earliest programs tables streams in
     let base = base0_of options.base (first_base due programs streams) in
     let timed = comes (with_moved options information base programs tables (reported tables all)) (moved_streams findings due programs streams) input
-    (granted (nothing_carried options.strict (reported tables all) streams)
+    (granted (stream_refusal options.strict options.lenient (reported tables all) streams)
     (and_then (with_moved options information base programs tables (reported tables all)) (moved_streams findings due programs streams))
     input assigned.last_is) in
     let done = made options information base programs tables (reported tables all) timed.value input timed.last_is in

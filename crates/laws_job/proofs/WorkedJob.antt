@@ -19,8 +19,9 @@ use Rattle.es_units.specs.CarriedUnits.{is_part, is_split, is_unstamped as carri
 use Rattle.es_units.specs.CarriedUnits.{units_from, units_in}
 use Rattle.es_units.specs.UnitWarnings.{cause_of, cause_of_what, current_after, first_cause, id_of as unit_warnings_id_of, pes_cause, unstamped_cause}
 use Rattle.es_units.specs.UnitWarnings.{warning_list, warnings_from}
-use Rattle.job_inputs.specs.JobInput.{change_warnings, first_why, job_input, job_warnings, nothing_carried, service_warnings, stream_warnings}
-use Rattle.job_inputs.specs.JobInput.{table_warnings, tables_of, why_nothing, with_association, with_found, with_moved, with_pids}
+use Rattle.job_inputs.specs.JobInput.{change_warnings, job_input, job_warnings, service_warnings, stream_warnings}
+use Rattle.job_inputs.specs.LackingPrograms.{first_lacking, first_why, nothing_carried, stream_refusal}
+use Rattle.job_inputs.specs.JobInput.{table_warnings, tables_of, with_association, with_found, with_moved, with_pids}
 use Rattle.job_inputs.specs.JobInput.{with_programs as job_input_with_programs, with_streams as job_input_with_streams, with_unit_counts}
 use Rattle.job_programs.specs.Answers.{and_then, each, unless}
 use Rattle.job_programs.specs.ClockBases.{base0_of, lasts}
@@ -42,6 +43,7 @@ use Rattle.job_programs.specs.Warnings.{pid_option_warning, pid_warnings, select
 use Rattle.job_units.specs.BufferWarnings.{asked_rate, crossing_warning, frame_warning, frame_warnings_of, header_warning, leak_warning, leak_warnings_of}
 use Rattle.job_units.specs.BufferWarnings.{unkept_frames, unkept_leak, whole_warning}
 use Rattle.job_units.specs.CrossingFrames.{begin_later, crosses, crosses_into, do_cross, has_cut, is_cut as crossing_frames_is_cut}
+use Rattle.job_units.specs.Declarations.{asked_shares, with_frames}
 use Rattle.job_units.specs.Declarations.{buffers_for, buffers_refusal, choices, chosen, coding_for, crossing_for, first_bytes, first_kept, framing_for}
 use Rattle.job_units.specs.Declarations.{framing_of, groups_of, header_of, is_countable, is_declared, is_too_long, length_refusal, max_group_packets, measured}
 use Rattle.job_units.specs.Declarations.{most_header, multiplexing_for, needs_of, packets_of_group, prompt_lead, share_of, shares_of, size_refusal}
@@ -131,8 +133,8 @@ unfolding descriptors_from descriptors_in first_descriptor has_ca has_of_multipl
     nearest placed with_dts distance dts_at dts_not_increasing fault_or first_fault min_distance moved or_fault unit_at first_other_at written_id
     greatest_over steps_after unit_runs continuation continued_by end_of first_id carried_units_first_packet is_access_point is_cut is_part is_split
     carried_units_is_unstamped more_bytes pes_role role_of role_of_what start_id units_from units_in cause_of cause_of_what current_after first_cause
-    unit_warnings_id_of pes_cause unstamped_cause warning_list warnings_from change_warnings first_why job_input job_warnings nothing_carried
-    service_warnings stream_warnings table_warnings tables_of why_nothing with_association with_found with_moved with_pids job_input_with_programs
+    unit_warnings_id_of pes_cause unstamped_cause warning_list warnings_from change_warnings first_lacking first_why job_input job_warnings nothing_carried
+    service_warnings stream_refusal stream_warnings table_warnings tables_of with_association with_found with_moved with_pids job_input_with_programs
     job_input_with_streams with_unit_counts and_then each unless base0_of lasts event_part first_start job_events start_found start_of name_given
     original_given has_service has_services information_of named_service information_network_found network_of network_or original_of renamed
     service_with job_options_is_among is_selected_program is_selected_stream clock_if clock_in job_programs_has_stream is_unread numbers_named
@@ -142,7 +144,7 @@ unfolding descriptors_from descriptors_in first_descriptor has_ca has_of_multipl
     unread_network asked_rate crossing_warning frame_warning frame_warnings_of header_warning leak_warning leak_warnings_of unkept_frames unkept_leak
     whole_warning crosses has_cut crossing_frames_is_cut buffers_for buffers_refusal choices chosen coding_for crossing_for first_bytes first_kept
     framing_for framing_of groups_of header_of is_countable is_declared is_too_long length_refusal max_group_packets measured most_header
-    multiplexing_for needs_of packets_of_group prompt_lead share_of shares_of size_refusal too_long too_many unit_counts units_refusal way_out
+    asked_shares with_frames multiplexing_for needs_of packets_of_group prompt_lead share_of shares_of size_refusal too_long too_many unit_counts units_refusal way_out
     with_buffers without_header base_for base_of base_of_first earliest entry_size first_base first_dts first_dts_of is_long_map is_mended is_on_clock
     map_size moved_by moved_stream moved_streams packet_of stamps_refusal table_size with_moments alone first_odd odd_buffers odd_bytes odd_counts
     odd_stamps odd_stream odd_units own_base carried_stream common_id dts_refusal wire_streams_id_of wire_streams_is_unstamped is_unstamped_cause

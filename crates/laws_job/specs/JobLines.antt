@@ -15,9 +15,9 @@ use Rattle.job_units.specs.WireStreams.{selected}
 
 -- a line says that the stream of this PID is left out: for a reason, because it has no unit, or because its stream_id can't be written
 unfoldable pub is_about : ℕ → Warning → Bool
-is_about pid (warnings.LeftOut other why) = other == pid
+is_about pid (warnings.LeftOut stream why) = stream.pid == pid
 is_about pid (warnings.NoUnit program other) = other == pid
-is_about pid (warnings.StreamId program other packet id) = other == pid
+is_about pid (warnings.StreamId stream packet id) = stream.pid == pid
 is_about pid _ = false
 
 pub record IsNamed (pid : ℕ) (lines : List Warning) : Type 0 where

@@ -65,6 +65,7 @@ worked_options = record {
   declare_by = Groups;
   make_dts = false;
   strict = false;
+  lenient = false;
   base = Lasting;
   network = None;
   names = [];
@@ -120,7 +121,7 @@ worked_counts = record {
 
 -- a packet for each unit, at most 167.5 ms before the unit is due
 abbrev pub worked_choice : StreamChoice
-worked_choice = record { choice = record { allowance = UnitGroups 1 1; lead = 15_076; share = 203_049_239 }; multiplexing = None }
+worked_choice = record { choice = record { allowance = UnitGroups 1 1; lead = 15_076; share = 203_049_239 }; multiplexing = None; framing = None }
 
 -- one program and one stream, without a warning
 abbrev pub worked_input : JobInputView

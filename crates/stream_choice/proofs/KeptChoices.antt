@@ -28,7 +28,7 @@ same x y e = cc
 nothing : (x : Choice) → ◌≡◌ {A = Option Choice} None (Some x) → ⊥
 nothing x e = cc
 
-choice_kept : (needs : Needs) (group packets delay lead : ℕ) (c : Choice) → choice_of needs group packets delay lead ≡ Some c →
+pub choice_kept : (needs : Needs) (group packets delay lead : ℕ) (c : Choice) → choice_of needs group packets delay lead ≡ Some c →
     IsKept needs delay group packets lead c
 choice_kept needs group packets delay lead c e = step (lead_share needs group packets delay lead) refl e
   where

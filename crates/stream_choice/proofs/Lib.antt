@@ -8,3 +8,4 @@ pub mod ShareProof
 pub mod Halving
 pub mod PaceFacts
 mod FramesHeld
+pub mod FramedFacts

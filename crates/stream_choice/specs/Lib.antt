@@ -4,6 +4,7 @@ pub mod Leads
 pub mod Buffers
 pub mod Frames
 pub mod Choices
+pub mod FramedChoices
 pub mod Paces
 pub mod Rates
 pub mod ShareLaws

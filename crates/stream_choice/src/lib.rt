@@ -10,14 +10,16 @@
 //! `PacedUnits` answers how many packets the units have over a pace. It prefers groups to a pace if groups ask for
 //! little more. The shares of all streams, PCRs and tables give the least rate of an output that has slots enough for
 //! them (`specs/Rates`). It can also check that the main buffer holds the bytes that wait if the access units of a unit
-//! leave one by one (`specs/Frames`). A law says that own slots of a share, even enough, keep the conditions on packets
-//! in the long run and on units in a row (`specs/ShareLaws`).
+//! leave one by one (`specs/Frames`), and choose a group and a lead with which it does (`specs/FramedChoices`). A law
+//! says that own slots of a share, even enough, keep the conditions on packets in the long run and on units in a row
+//! (`specs/ShareLaws`).
 //!
 //! Everything is in plain numbers, and nothing here takes memory.
 #![tactic(auto)]
 
 mod buffers;
 mod choice;
+mod framed_selection;
 mod frames;
 pub mod laws;
 mod leads;
@@ -30,7 +32,8 @@ mod selection;
 mod shares;
 
 pub use choice::{Choice, preferred};
-pub use frames::{framed_lead, keeps_framing};
+pub use framed_selection::choose_framed;
+pub use frames::{framed_lead, is_framing, keeps_framing};
 pub use needs::Needs;
 pub use pace_selection::{PacedUnits, choose_pace};
 pub use ranges::are_max_packets;

@@ -13,7 +13,7 @@ use crate::shares::lead_share;
 use unit_timing::allowance::Allowance;
 
 /// Returns the choice of a group and a lead; None if the lead is too short or a buffer does not hold the units.
-fn choice_of(needs: Needs, group: u8, packets: u32, delay: u32, lead: u32) -> Option<Choice>
+pub fn choice_of(needs: Needs, group: u8, packets: u32, delay: u32, lead: u32) -> Option<Choice>
     requires ranges { IsNeeds needs }
     requires group { IsGroup group packets }
     requires lead { lead ≤ 90000 }

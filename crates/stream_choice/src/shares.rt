@@ -177,8 +177,7 @@ pub fn leaking_needs(buffer: Option<MultiplexingBuffer>, needs: Needs) -> Needs
 }
 
 /// Returns the longest time from a packet's slot to its end in the last buffer before the units' buffer, in units of 90
-/// kHz: until all bytes that wait in it are drained at `rx` bits/s, and three slots of an output of that share. The
-/// share is the sum of the least shares of its streams, so the delay does not depend on their choices.
+/// kHz: until all bytes that wait in it are drained at `rx` bits/s, and three slots of an output of that share.
 pub fn delay_before(buffer: Option<MultiplexingBuffer>, needs: Needs, share: u64) -> u32
     requires rx { 1 ≤ needs.rx }
     requires share { 2 ^ 17 ≤ share }

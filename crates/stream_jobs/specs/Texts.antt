@@ -4,7 +4,7 @@ use Rattle.job_text.specs.DescriptionParts.{HeadingView, ProgramPartView, Stream
 use Rattle.job_text.specs.Texts.{heading_text, network_if_any, program_text, stream_text}
 use Rattle.ts_services.specs.Services.{FoundServiceView}
 use Rattle.job_units.specs.declared.declarations.StreamChoice.{StreamChoice}
-use Rattle.job_units.specs.Declarations.{UnitCountsView, kept_framing, said_profile}
+use Rattle.job_units.specs.Declarations.{UnitCountsView, said_profile}
 use Rattle.job_programs.specs.JobPrograms.{JobProgramView}
 use Rattle.job_inputs.specs.JobInput.{JobInputView}
 use Rattle.job_programs.specs.JobOptions.{JobOptionsView}
@@ -62,7 +62,7 @@ stream_part s = record {
   allowance = s.1.1.choice.allowance;
   shared_with = s.0.shared_with;
   multiplexing = s.1.1.multiplexing;
-  framing = kept_framing s.1.0 s.1.1.choice;
+  framing = s.1.1.framing;
   said = said_profile s.0;
 }
 

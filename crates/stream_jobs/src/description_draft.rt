@@ -2,7 +2,6 @@
 
 ghost use Rattle.std.specs.Prelude.{◌≡◌, ◌++◌, IfOk, IfErr, OnOk, Ok, string_bytes};
 ghost use Rattle.job_text.specs.Texts.{heading_text, program_text, stream_text};
-ghost use Rattle.job_units.specs.Declarations.{kept_framing};
 ghost use Rattle.stream_jobs.specs.Rates.{IsText};
 ghost use Rattle.stream_jobs.specs.Texts as spec;
 ghost use Rattle.stream_jobs.specs.WhyNoJob.{IsWhyNotRead};
@@ -19,8 +18,6 @@ use job_units::pts_limit::declared_limit;
 use job_units::stream_measures::said_profile;
 use job_units::{StreamChoice, UnitCounts};
 use std::alloc::{AllocError, Global};
-use stream_choice::{Choice, keeps_framing};
-use unit_timing::framing::Framing;
 
 /// All that the description of a job says but for its rate.
 #[derive(Clone, Copy)]
@@ -126,19 +123,6 @@ fn write_programs(
     Ok(())
 }
 
-// Returns the framing that a stream declares: the framing of its units, if its choice keeps it.
-#[tactic(auto, unfolding(job_units::specs::Declarations::kept_framing))]
-fn kept_framing(unit_counts: &UnitCounts, choice: Choice) -> Option<Framing>
-    ensures { result ≡ kept_framing unit_counts.now choice }
-{
-    let framing = unit_counts.framing?;
-    if keeps_framing(unit_counts.needs, framing, choice.lead, choice.share) {
-        Some(framing)
-    } else {
-        None
-    }
-}
-
 #[tactic(auto, unfolding(crate::specs::Texts::stream_part))]
 fn write_stream(
     stream: &TimedStream,
@@ -164,7 +148,7 @@ fn write_stream(
         allowance: choice.choice.allowance,
         shared_with: &stream.shared_with,
         multiplexing: choice.multiplexing,
-        framing: kept_framing(unit_counts, choice.choice),
+        framing: choice.framing,
         said: said_profile(stream),
     };
     entry.write_text(text)

@@ -59,8 +59,9 @@ reporting_in rows = record {
 -- 2. All of them
 
 -- arguments with empty lists
-abbrev pub plain : Subcommand → Option Text → Reporting → Option ℕ → Option Text → ℕ → ℕ → DeclareBy → Bool → Bool → Bool → Bool → ClockBase → JobArgumentsView
-plain subcommand stream reporting rate start pcr_limit lead declare_by make_dts mark_access joined strict base = record {
+abbrev pub plain : Subcommand → Option Text → Reporting → Option ℕ → Option Text → ℕ → ℕ → DeclareBy → Bool → Bool → Bool → Bool → Bool → ClockBase →
+    JobArgumentsView
+plain subcommand stream reporting rate start pcr_limit lead declare_by make_dts mark_access joined strict lenient base = record {
   subcommand = subcommand;
   stream = stream;
   reporting = reporting;
@@ -72,6 +73,7 @@ plain subcommand stream reporting rate start pcr_limit lead declare_by make_dts 
     declare_by = declare_by;
     make_dts = make_dts;
     strict = strict;
+    lenient = lenient;
     base = base;
     network = None;
     names = [];
@@ -98,7 +100,7 @@ values_of rows =
     Some (plain subcommand stream (reporting_in rows) rate start pcr_limit lead declare_by (is_given (first_of (codes "make-dts") rows))
     (is_given (first_of (codes "mark-access") rows))
     (is_given (first_of (codes "joined") rows))
-    (is_given (first_of (codes "strict") rows)) base)))))))))
+    (is_given (first_of (codes "strict") rows)) (is_given (first_of (codes "lenient") rows)) base)))))))))
 
 -- arguments with lists
 abbrev pub with_lists : List ℕ → List ℕ → List PidBuffers → Option NetworkNameView → List ServiceNameView → List ℕ → JobArgumentsView → JobArgumentsView

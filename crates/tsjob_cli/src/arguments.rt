@@ -154,6 +154,7 @@ fn values_of<'a>(alloc: Global, matches: &ArgMatches<'a>) -> Option<JobArguments
         declare_by,
         make_dts: is_given(text_of(matches, "make-dts")),
         strict: is_given(text_of(matches, "strict")),
+        lenient: is_given(text_of(matches, "lenient")),
         base,
         network: None,
         names: Vec::new(alloc),

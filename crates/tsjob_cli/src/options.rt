@@ -6,14 +6,14 @@ ghost use Rattle.word_faults.specs.KnownWords.{known_of};
 use crate::arguments::subcommand_of;
 use crate::file_mark::has_mark;
 use crate::rows::{
-    ALIGNED, BASE, BUFFERS, DECLARE, HELP, JOINED, LEAD, MAKE_DTS, MARK_ACCESS, NAME, NETWORK,
-    OUTPUT, PCR, PROGRAM, PROGRESS, QUIET, RATE, START, STRICT, VERBOSE, VERSION, WITHOUT,
+    ALIGNED, BASE, BUFFERS, DECLARE, HELP, JOINED, LEAD, LENIENT, MAKE_DTS, MARK_ACCESS, NAME,
+    NETWORK, OUTPUT, PCR, PROGRAM, PROGRESS, QUIET, RATE, START, STRICT, VERBOSE, VERSION, WITHOUT,
 };
 use job_run::Subcommand;
 use word_faults::{KnownWords, OptionRow, ValueKind, word_beside};
 
 /// The options and the subcommand. The reader, the first faulty word and the usage follow these rows.
-pub(crate) const OPTIONS: [OptionRow; 25] = [
+pub(crate) const OPTIONS: [OptionRow; 26] = [
     OptionRow {
         name: "subcommand",
         value: ValueKind::Word,
@@ -38,6 +38,7 @@ pub(crate) const OPTIONS: [OptionRow; 25] = [
     MARK_ACCESS,
     ALIGNED,
     STRICT,
+    LENIENT,
     OptionRow {
         name: "whole",
         value: ValueKind::Flag,
@@ -86,6 +87,7 @@ const USAGE: &str = "usage: tsjob [describe|units|why] [OPTIONS] [FILE..|-] [-o 
   --mark-access                  units at which a decoder may begin have random_access_indicator
   --aligned PID,..               PIDs whose units have data_alignment_indicator
   --strict                       a stream that cannot be carried refuses the input; else it is left out
+  --lenient                      a program may lose its only picture or sound; else that refuses the input
   --whole                        the input is no capture: its last PES packets are whole
   --stream FILE                  with units: those of the streams of this description, while the stream comes
   --output FILE                  or -o: the file that is written; else standard output

@@ -174,8 +174,18 @@ pub const STRICT: OptionRow = OptionRow {
     value: ValueKind::Flag,
     form: "",
     unit: "",
-    apart: "",
+    apart: "--lenient",
     help: "a stream that cannot be carried refuses the input; else it is left out",
+};
+
+/// Whether a program is written without a picture or sound that can't be carried.
+pub const LENIENT: OptionRow = OptionRow {
+    name: "lenient",
+    value: ValueKind::Flag,
+    form: "",
+    unit: "",
+    apart: "--strict",
+    help: "a program may lose its only picture or sound; else that refuses the input",
 };
 
 /// The file that is written.

@@ -4,8 +4,8 @@ ghost use Rattle.tsremux_cli.specs.Options as spec;
 ghost use Rattle.word_faults.specs.KnownWords.{known_of};
 
 use tsjob_cli::rows::{
-    ALIGNED, BASE, BUFFERS, DECLARE, HELP, JOINED, LEAD, MAKE_DTS, MARK_ACCESS, NAME, NETWORK,
-    OUTPUT, PCR, PROGRAM, PROGRESS, QUIET, RATE, START, STRICT, VERBOSE, VERSION, WITHOUT,
+    ALIGNED, BASE, BUFFERS, DECLARE, HELP, JOINED, LEAD, LENIENT, MAKE_DTS, MARK_ACCESS, NAME,
+    NETWORK, OUTPUT, PCR, PROGRAM, PROGRESS, QUIET, RATE, START, STRICT, VERBOSE, VERSION, WITHOUT,
 };
 use word_faults::{KnownWords, OptionRow, ValueKind};
 
@@ -40,7 +40,7 @@ const RECORDS: OptionRow = OptionRow {
 };
 
 /// The options. Which word is a fault, and the usage, follow these rows.
-pub(crate) const OPTIONS: [OptionRow; 25] = [
+pub(crate) const OPTIONS: [OptionRow; 26] = [
     RATE,
     PROGRAM,
     WITHOUT,
@@ -57,6 +57,7 @@ pub(crate) const OPTIONS: [OptionRow; 25] = [
     MARK_ACCESS,
     ALIGNED,
     STRICT,
+    LENIENT,
     DESCRIPTION,
     PLAN,
     RECORDS,
@@ -101,6 +102,7 @@ const USAGE: &str = "usage: tsremux [OPTIONS] [FILE..|-] -o OUT
   --mark-access                  units at which a decoder may begin have random_access_indicator
   --aligned PID,..               PIDs whose units have data_alignment_indicator
   --strict                       a stream that cannot be carried refuses the input; else it is left out
+  --lenient                      a program may lose its only picture or sound; else that refuses the input
   --description FILE             a service by hand: its description; beside it --plan, --records, -o and -q
   --plan FILE                    with --description: its plan; else a plan is made
   --records FILE                 with --description: the records of its access units; else they are the input

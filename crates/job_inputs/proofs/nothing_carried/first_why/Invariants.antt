@@ -1,5 +1,5 @@
 use Rattle.std.proofs.Common.{◌≡◌, drop}
-use Rattle.job_inputs.specs.JobInput.{first_why}
+use Rattle.job_inputs.specs.LackingPrograms.{first_why}
 use Rattle.job_inputs.proofs.nothing_carried.first_why.Given as goal
 
 abbrev pub invariant-loop-warning : goal.invariant-loop-warning

@@ -3,9 +3,9 @@ use Rattle.stream_choice.proofs.FramesHeld.{held_none, held_more}
 use Rattle.stream_choice.proofs.frames.frames_hold.Goals as goal
 
 pub loop-before-init : goal.loop-before-init
-loop-before-init c = sym (held_none c.args.needs c.args.framing c.args.lead c.args.share)
+loop-before-init c = sym (held_none c.args.needs c.args.framing c.args.lead c.args.share c.args.sum)
 
 pub loop-before-preserved : goal.loop-before-preserved
 loop-before-preserved c =
     c.both-holds.ensures ∙ ap₂ (λ (a b : Bool). a && b) c.loop-before.invariant c.holds_after-fits.ensures
-    ∙ sym (held_more c.args.needs c.args.framing c.args.lead c.args.share c.loop-before.before)
+    ∙ sym (held_more c.args.needs c.args.framing c.args.lead c.args.share c.args.sum c.loop-before.before)
