@@ -6,6 +6,9 @@ TSAIR = crates/tsair/out/tsair
 TSVIEW = crates/tsview/out/tsview
 TSREMUX = crates/tsremux/out/tsremux
 
+# Programs beside them that need Python 3.11: for chains on air.
+ON_AIR = examples/on-air/merge-records examples/on-air/frame-records examples/on-air/share-records examples/on-air/pace-by-clock examples/on-air/tsview-metrics tools/pcr-rate
+
 PROGRAM ?= tsmux
 PREFIX ?= /usr/local
 
@@ -44,11 +47,12 @@ try:
 	cd crates/tsmux && rt try -- plan < ../../examples/radio/radio.toml
 endif
 
-install: ## Copy the programs that are built to PREFIX/bin, manual pages and completions to PREFIX/share (default /usr/local).
+install: ## Copy the programs that are built, and those of ON_AIR, to PREFIX/bin, manual pages and completions to PREFIX/share (default /usr/local).
 	@test -x $(BINARY) || test -x $(TSJOB) || test -x $(TSREMUX) || test -x $(TSAIR) || test -x $(TSVIEW) || { echo "nothing is built: make run, make tsremux tsjob tsair tsview"; exit 1; }
 	mkdir -p $(PREFIX)/bin
 	@for program in $(BINARY) $(TSJOB) $(TSAIR) $(TSVIEW) $(TSREMUX); do \
 	    if test -x $$program; then install -m 755 $$program $(PREFIX)/bin/ && echo $(PREFIX)/bin/$${program##*/}; fi; done
+	install -m 755 $(ON_AIR) $(PREFIX)/bin/
 	tools/options --write $(PREFIX)/share
 
 dist: ## Make a tarball of the five built programs, manual pages, completions and documents in out/dist.
@@ -61,7 +65,7 @@ deb: dist ## The same, as a Debian package.
 
 # With no words and no input tsmux does nothing.
 binary: ## Prove and build tsmux.
-	cd crates/tsmux && rt run < /dev/null
+	tools/gate-progress tsmux sh -c 'cd crates/tsmux && exec rt run < /dev/null'
 
 # With empty input tsjob prints `no PAT` and exits with status 1.
 tsjob: ## Prove and build tsjob (27 minutes after tsmux).
@@ -97,10 +101,11 @@ picture: binary tsjob tsview ## Draw the picture of the README (ffmpeg and Chrom
 any-stream: binary tsjob ## Take streams of ffmpeg and GStreamer through tsjob and tsmux (examples/README.md).
 	sh examples/any-stream/run.sh $(TSJOB) $(BINARY)
 
-# `rt ci` runs every proof, the must-fail edits, each test, and each program as two compilers make it. As many checks run at once as there
-# are processors: without RT_JOBS `rt ci` would also wait for memory that a check may take, and no check takes as much (GATE).
+# `rt ci` runs every proof, each test, and each program as two compilers make it; then the prover refuses wrong bodies. As many checks run at
+# once as there are processors: without RT_JOBS `rt ci` would also wait for memory that a check may take, and no check takes as much (GATE).
 test: ## The merge gate: all proofs and tests (docs/GATE.md).
-	RT_JOBS=$${RT_JOBS:-$$(nproc)} rt ci
+	RT_JOBS=$${RT_JOBS:-$$(nproc)} tools/gate-progress all rt ci
+	tools/try-edits --gate
 	tools/run-tests crates/tsmux/out/tsmux crates/tsjob/out/tsjob crates/tsair/out/tsair crates/tsview/out/tsview crates/tsremux/out/tsremux
 
 check-docs: ## Check the documents: links, words of commands, claims, generated tables, messages, options, plain English.
@@ -113,7 +118,7 @@ check-docs: ## Check the documents: links, words of commands, claims, generated 
 	tools/gate-times --check
 	tools/plain-words
 
-edits: ## Try the wrong bodies that the gate does not try (before a release).
+edits: ## Try all wrong bodies, also those that the gate does not try (before a release).
 	tools/try-edits
 
 # Needs python3 and cc.
@@ -127,6 +132,7 @@ bench: binary tsjob tsair tsview ## Measure speed and how full a multiplex can b
 	python3 bench/monitor.py $(BINARY)
 	python3 bench/tsjob.py $(TSJOB) $(BINARY)
 	python3 bench/tsview.py $(TSVIEW) $(BINARY)
+	python3 bench/instructions.py $(BINARY) $(TSJOB) $(TSAIR) $(TSVIEW)
 	python3 bench/packets.py
 	python3 bench/check.py
 	python3 bench/measure.py

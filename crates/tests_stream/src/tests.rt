@@ -7,8 +7,6 @@ mod descriptors;
 mod frames;
 mod information;
 mod job_texts;
-mod jobs;
-mod monitoring;
 mod order;
 mod packets;
 mod programs;

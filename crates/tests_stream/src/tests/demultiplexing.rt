@@ -1,6 +1,5 @@
 //! Worked streams. The expected findings were worked out by hand from the rules of the standard.
 
-mod limits;
 mod memory;
 mod rows;
 mod streams;

@@ -1,7 +1,7 @@
 //! Frames of sound in units, worked by hand.
 
 use sound_frames::{frame_kind, unit_frames};
-use stream_choice::{Needs, keeps_framing};
+use stream_choice::{Needs, are_max_packets, choose_framed, keeps_framing};
 use unit_timing::framing::Framing;
 
 // Two frames of layer III, 24 kHz and 8 kbit/s, of 24 bytes.
@@ -59,8 +59,9 @@ fn are_frames(row: &Row) -> bool {
 }
 
 // Five frames of 576 bytes in a unit of 2,880, 16 packets to a unit: when one to four frames have left the main buffer,
-// 3,408, 3,384, 3,544 and 3,475 bytes wait.
-fn are_kept(main: u32, frame: u32) -> bool {
+// 3,408, 3,384, 3,544 and 3,475 bytes wait in a large output, and 3,224, 3,200, 3,360 and 3,336 where ten of eleven
+// packets are the stream's.
+fn are_kept(main: u32, frame: u32, sum: u64) -> bool {
     let needs = Needs {
         interval: 10_800,
         size: 2_880,
@@ -72,7 +73,31 @@ fn are_kept(main: u32, frame: u32) -> bool {
         frame,
         frame_size: 576,
     };
-    keeps_framing(needs, framing, 11_796, 1_628_906_116)
+    keeps_framing(needs, framing, 11_796, 1_628_906_116, sum)
+}
+
+// The lead and the share of three frames of 960 bytes in a unit of 2,880: the slower output keeps them with a shorter
+// lead alone.
+fn framed(sum: u64) -> (u32, u64) {
+    let needs = Needs {
+        interval: 6_480,
+        size: 2_880,
+        rx: 2_000_000,
+        main: 3_584,
+    };
+    let framing = Framing {
+        frames: 3,
+        frame: 2_160,
+        frame_size: 960,
+    };
+    let most: [u32; 1] = [16];
+    if !needs.is_in_range() || !are_max_packets(&most) || sum < 1 << 17 {
+        return (0, 0);
+    }
+    match choose_framed(needs, framing, &most, sum, 90_000) {
+        Some(choice) => (choice.lead, choice.share),
+        None => (0, 0),
+    }
 }
 
 #[test]
@@ -80,6 +105,9 @@ fn frames(rt: HostRuntime) {
     for row in &UNITS {
         assert!(rt; are_frames(row));
     }
-    assert!(rt; are_kept(3_544, 2_160));
-    assert!(rt; !are_kept(3_543, 2_160) && !are_kept(3_584, 2_701));
+    assert!(rt; are_kept(3_544, 2_160, u64::MAX));
+    assert!(rt; !are_kept(3_543, 2_160, u64::MAX) && !are_kept(3_584, 2_701, u64::MAX));
+    assert!(rt; are_kept(3_360, 2_160, 1_791_796_728) && !are_kept(3_359, 2_160, 1_791_796_728));
+    assert!(rt; framed(3_000_000_000) == (6_075, 3_918_081_525));
+    assert!(rt; framed(3_300_000_000) == (6_480, 3_543_953_676));
 }
