@@ -115,6 +115,7 @@ check-docs: ## Check the documents: links, words of commands, claims, generated 
 	tools/crate-map --check
 	tools/messages
 	tools/options --check
+	tools/keys --check
 	tools/gate-times --check
 	tools/plain-words
 

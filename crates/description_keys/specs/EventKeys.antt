@@ -1,11 +1,11 @@
 -- The keys of a table of the array `event`.
-use Rattle.std.specs.Prelude.{ℕ, pos, Bool, not, List, [], ◌∷◌, Option, codes, is_none}
+use Rattle.std.specs.Prelude.{ℕ, pos, not, List, [], ◌∷◌, Option, codes}
 use Rattle.toml.specs.Data.{Data}
 use Rattle.description_values.specs.Values.{integer_at, text_at, language_at}
 use Rattle.description_values.specs.Moments.{moment_at}
+use Rattle.description_keys.specs.Rules.{Rule, needs, rule}
 use Rattle.description_keys.specs.StreamKeys.{has_owner}
-use Rattle.description_keys.specs.declared.event_keys.EventKey.{EventKey}
-use Rattle.description_keys.specs.declared.event_keys.EventKey.TheVariants.{Program, Id, Start, Duration, Language, Name, Text}
+use Rattle.description_keys.specs.declared.key_row.KeyPart.TheVariants as part
 
 -- event_id (EN 300 468, 5.2.4)
 abbrev pub event_id : Data → Option ℕ
@@ -27,16 +27,9 @@ event_name = text_at 100 (codes "name")
 abbrev pub event_text : Data → Option (List ℕ)
 event_text = text_at 150 (codes "text")
 
--- the names of the keys
-abbrev pub event_key_names : List (List ℕ)
-event_key_names = codes "program" ∷ codes "id" ∷ codes "start" ∷ codes "duration" ∷ codes "language" ∷ codes "name" ∷ codes "text" ∷ []
-
--- what each key refuses
-abbrev pub refuses_event : EventKey → Data → Data → Bool
-refuses_event Program document event = not (has_owner document event)
-refuses_event Id document event = is_none (event_id event)
-refuses_event Start document event = is_none (event_start event)
-refuses_event Duration document event = is_none (event_duration event)
-refuses_event Language document event = is_none (event_language event)
-refuses_event Name document event = is_none (event_name event)
-refuses_event Text document event = is_none (event_text event)
+-- the rules of the keys, by their numbers
+abbrev pub event_rules : List Rule
+event_rules = rule part.Event 61 (codes "program") (λ document event. not (has_owner document event))
+    ∷ needs part.Event 62 (codes "id") event_id ∷ needs part.Event 63 (codes "start") event_start
+    ∷ needs part.Event 64 (codes "duration") event_duration ∷ needs part.Event 65 (codes "language") event_language
+    ∷ needs part.Event 66 (codes "name") event_name ∷ needs part.Event 67 (codes "text") event_text ∷ []

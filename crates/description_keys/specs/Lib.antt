@@ -1,3 +1,4 @@
+pub mod Rules
 pub mod TopKeys
 pub mod NetworkKeys
 pub mod ProgramKeys
@@ -6,3 +7,4 @@ pub mod EventKeys
 pub mod TableKeys
 pub mod Refusals
 pub mod Codes
+pub mod KeyRows

@@ -1,9 +1,9 @@
 -- The keys of a table of the array `program`.
-use Rattle.std.specs.Prelude.{ℕ, pos, Bool, List, [], ◌∷◌, Option, codes, is_none}
+use Rattle.std.specs.Prelude.{ℕ, pos, List, [], ◌∷◌, Option, codes}
 use Rattle.toml.specs.Data.{Data}
 use Rattle.description_values.specs.Values.{integer_at, integer_or, text_or, descriptors_or_none}
-use Rattle.description_keys.specs.declared.program_keys.ProgramKey.{ProgramKey}
-use Rattle.description_keys.specs.declared.program_keys.ProgramKey.TheVariants.{Number, PmtPid, PcrPid, PcrLimit, Descriptors, ServiceType, Provider, Name}
+use Rattle.description_keys.specs.Rules.{Rule, needs}
+use Rattle.description_keys.specs.declared.key_row.KeyPart.TheVariants as part
 
 -- program_number, a program's and therefore not 0 (ISO/IEC 13818-1, 2.4.4.5)
 abbrev pub program_number : Data → Option ℕ
@@ -32,18 +32,12 @@ program_provider = text_or 100 (codes "provider")
 abbrev pub program_name : Data → Option (List ℕ)
 program_name = text_or 100 (codes "name")
 
--- the names of the keys
-abbrev pub program_key_names : List (List ℕ)
-program_key_names = codes "number" ∷ codes "pmt_pid" ∷ codes "pcr_pid" ∷ codes "pcr_limit"
-    ∷ codes "descriptors" ∷ codes "service_type" ∷ codes "provider" ∷ codes "name" ∷ []
-
--- what each key refuses
-abbrev pub refuses_program : ProgramKey → Data → Data → Bool
-refuses_program Number document program = is_none (program_number program)
-refuses_program PmtPid document program = is_none (program_pmt_pid program)
-refuses_program PcrPid document program = is_none (program_pcr_pid program)
-refuses_program PcrLimit document program = is_none (program_pcr_limit program)
-refuses_program Descriptors document program = is_none (program_descriptors program)
-refuses_program ServiceType document program = is_none (program_service_type program)
-refuses_program Provider document program = is_none (program_provider program)
-refuses_program Name document program = is_none (program_name program)
+-- the rules of the keys, by their numbers
+abbrev pub program_rules : List Rule
+program_rules = needs part.Program 31 (codes "number") program_number
+    ∷ needs part.Program 32 (codes "pmt_pid") program_pmt_pid
+    ∷ needs part.Program 33 (codes "pcr_pid") program_pcr_pid
+    ∷ needs part.Program 34 (codes "pcr_limit") program_pcr_limit
+    ∷ needs part.Program 35 (codes "descriptors") program_descriptors
+    ∷ needs part.Program 36 (codes "service_type") program_service_type
+    ∷ needs part.Program 37 (codes "provider") program_provider ∷ needs part.Program 38 (codes "name") program_name ∷ []

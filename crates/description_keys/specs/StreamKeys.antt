@@ -10,10 +10,8 @@ use Rattle.unit_timing.specs.declared.multiplexing_buffer.MultiplexingBuffer.{Mu
 use Rattle.description_values.specs.Values.{at_key, integer_in, integer_at, integer_or, optional_integer, optional_language, descriptors_or_none, elements}
 use Rattle.description_values.specs.Values.{array_in, is_distinct}
 use Rattle.description_keys.specs.ProgramKeys.{program_number}
-use Rattle.description_keys.specs.declared.stream_keys.StreamKey.{StreamKey}
-use Rattle.description_keys.specs.declared.stream_keys.StreamKey.TheVariants.{Program, Pid, StreamId, StreamType, Interval, Size, Lead, Rx, Main, Tag, Language}
-use Rattle.description_keys.specs.declared.stream_keys.StreamKey.TheVariants.{Descriptors, Group, GroupPackets, BurstPackets, Pace, SharedWith, Rbx, Mb, Frames}
-use Rattle.description_keys.specs.declared.stream_keys.StreamKey.TheVariants.{Frame, FrameSize, PtsLimit}
+use Rattle.description_keys.specs.Rules.{Rule, needs, rule}
+use Rattle.description_keys.specs.declared.key_row.KeyPart.TheVariants as part
 
 -- the number of the program that a stream or an event belongs to
 abbrev pub owner_number : Data → Option ℕ
@@ -239,35 +237,23 @@ refuses_frame stream = has_framing stream && is_none (stream_frame stream)
 abbrev pub refuses_frame_size : Data → Bool
 refuses_frame_size stream = has_framing stream && is_none (stream_frame_size stream)
 
--- the names of the keys
-abbrev pub stream_key_names : List (List ℕ)
-stream_key_names = codes "program" ∷ codes "pid" ∷ codes "id" ∷ codes "type" ∷ codes "interval" ∷ codes "size" ∷ codes "lead"
-    ∷ codes "rx" ∷ codes "main" ∷ codes "tag" ∷ codes "language" ∷ codes "descriptors" ∷ codes "group" ∷ codes "group_packets"
-    ∷ codes "burst_packets" ∷ codes "pace" ∷ codes "shared_with" ∷ codes "rbx" ∷ codes "mb"
-    ∷ codes "frames" ∷ codes "frame" ∷ codes "frame_size" ∷ codes "pts_limit" ∷ []
-
--- what each key refuses
-abbrev pub refuses_stream : StreamKey → Data → Data → Bool
-refuses_stream Program document stream = not (has_owner document stream)
-refuses_stream Pid document stream = is_none (stream_pid stream)
-refuses_stream StreamId document stream = is_none (stream_id stream)
-refuses_stream StreamType document stream = is_none (stream_type stream)
-refuses_stream Interval document stream = is_none (stream_interval stream)
-refuses_stream Size document stream = is_none (stream_size stream)
-refuses_stream Lead document stream = is_none (stream_lead stream)
-refuses_stream Rx document stream = is_none (stream_rx stream)
-refuses_stream Main document stream = is_none (stream_main stream)
-refuses_stream Tag document stream = is_none (stream_tag stream)
-refuses_stream Language document stream = is_none (stream_language stream)
-refuses_stream Descriptors document stream = is_none (stream_descriptors stream)
-refuses_stream Group document stream = refuses_group stream
-refuses_stream GroupPackets document stream = refuses_group_packets stream
-refuses_stream BurstPackets document stream = refuses_burst_packets stream
-refuses_stream Pace document stream = refuses_pace stream
-refuses_stream SharedWith document stream = not (has_sharers document stream)
-refuses_stream Rbx document stream = refuses_rbx stream
-refuses_stream Mb document stream = refuses_mb stream
-refuses_stream Frames document stream = refuses_frames stream
-refuses_stream Frame document stream = refuses_frame stream
-refuses_stream FrameSize document stream = refuses_frame_size stream
-refuses_stream PtsLimit document stream = is_none (stream_pts_limit stream)
+-- the rules of the keys, by their numbers but for those from 84 on
+abbrev pub stream_rules : List Rule
+stream_rules = rule part.Stream 41 (codes "program") (λ document stream. not (has_owner document stream))
+    ∷ needs part.Stream 42 (codes "pid") stream_pid ∷ needs part.Stream 43 (codes "id") stream_id
+    ∷ needs part.Stream 44 (codes "type") stream_type ∷ needs part.Stream 45 (codes "interval") stream_interval
+    ∷ needs part.Stream 46 (codes "size") stream_size ∷ needs part.Stream 47 (codes "lead") stream_lead
+    ∷ needs part.Stream 48 (codes "rx") stream_rx ∷ needs part.Stream 49 (codes "main") stream_main
+    ∷ needs part.Stream 50 (codes "tag") stream_tag ∷ needs part.Stream 51 (codes "language") stream_language
+    ∷ needs part.Stream 52 (codes "descriptors") stream_descriptors
+    ∷ rule part.Stream 53 (codes "group") (λ document stream. refuses_group stream)
+    ∷ rule part.Stream 54 (codes "group_packets") (λ document stream. refuses_group_packets stream)
+    ∷ rule part.Stream 55 (codes "burst_packets") (λ document stream. refuses_burst_packets stream)
+    ∷ rule part.Stream 56 (codes "pace") (λ document stream. refuses_pace stream)
+    ∷ rule part.Stream 57 (codes "shared_with") (λ document stream. not (has_sharers document stream))
+    ∷ rule part.Stream 58 (codes "rbx") (λ document stream. refuses_rbx stream)
+    ∷ rule part.Stream 59 (codes "mb") (λ document stream. refuses_mb stream)
+    ∷ rule part.Stream 84 (codes "frames") (λ document stream. refuses_frames stream)
+    ∷ rule part.Stream 85 (codes "frame") (λ document stream. refuses_frame stream)
+    ∷ rule part.Stream 86 (codes "frame_size") (λ document stream. refuses_frame_size stream)
+    ∷ needs part.Stream 87 (codes "pts_limit") stream_pts_limit ∷ []

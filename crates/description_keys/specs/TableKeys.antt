@@ -2,9 +2,9 @@
 use Rattle.std.specs.Prelude.{ℕ, pos, Bool, not, ◌&&◌, ◌||◌, List, [], ◌∷◌, Option, codes, is_none, is_some}
 use Rattle.toml.specs.Data.{Data, get}
 use Rattle.description_values.specs.Values.{integer_at, sections_at, descriptors_at}
+use Rattle.description_keys.specs.Rules.{Rule, needs, rule}
 use Rattle.description_keys.specs.StreamKeys.{has_owner}
-use Rattle.description_keys.specs.declared.table_keys.TableKey.{TableKey}
-use Rattle.description_keys.specs.declared.table_keys.TableKey.TheVariants.{Pid, Limit, Sections, Program, StreamType, Descriptors}
+use Rattle.description_keys.specs.declared.key_row.KeyPart.TheVariants as part
 
 abbrev pub private_pid : Data → Option ℕ
 private_pid = integer_at (codes "pid") (pos 32) (pos 8190)
@@ -27,15 +27,10 @@ entry_type = integer_at (codes "stream_type") (pos 1) (pos 255)
 abbrev pub entry_descriptors : Data → Option (List ℕ)
 entry_descriptors = descriptors_at (codes "descriptors")
 
--- the names of the keys
-abbrev pub table_key_names : List (List ℕ)
-table_key_names = codes "pid" ∷ codes "limit" ∷ codes "sections" ∷ codes "program" ∷ codes "stream_type" ∷ codes "descriptors" ∷ []
-
--- what each key refuses
-abbrev pub refuses_table : TableKey → Data → Data → Bool
-refuses_table Pid document part = is_none (private_pid part)
-refuses_table Limit document part = is_none (private_limit part)
-refuses_table Sections document part = not (has_sections part)
-refuses_table Program document part = is_listed part && not (has_owner document part)
-refuses_table StreamType document part = is_listed part && is_none (entry_type part)
-refuses_table Descriptors document part = is_listed part && is_none (entry_descriptors part)
+-- the rules of the keys, by their numbers
+abbrev pub table_rules : List Rule
+table_rules = needs part.Table 71 (codes "pid") private_pid ∷ needs part.Table 72 (codes "limit") private_limit
+    ∷ rule part.Table 73 (codes "sections") (λ document d. not (has_sections d))
+    ∷ rule part.Table 74 (codes "program") (λ document d. is_listed d && not (has_owner document d))
+    ∷ rule part.Table 75 (codes "stream_type") (λ document d. is_listed d && is_none (entry_type d))
+    ∷ rule part.Table 76 (codes "descriptors") (λ document d. is_listed d && is_none (entry_descriptors d)) ∷ []

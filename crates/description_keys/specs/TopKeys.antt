@@ -1,10 +1,10 @@
 -- The keys of the document itself, but for its arrays.
-use Rattle.std.specs.Prelude.{ℕ, pos, Bool, false, List, [], ◌∷◌, Option, codes, is_none}
+use Rattle.std.specs.Prelude.{ℕ, pos, Bool, false, List, [], ◌∷◌, Option, codes}
 use Rattle.toml.specs.Data.{Data}
 use Rattle.description_values.specs.Values.{integer_at, integer_or, boolean_or}
 use Rattle.description_values.specs.Moments.{moment_at}
-use Rattle.description_keys.specs.declared.top_keys.TopKey.{TopKey}
-use Rattle.description_keys.specs.declared.top_keys.TopKey.TheVariants.{Rate, Start, Base0, TsId, OriginalNetworkId, Sdt, Tdt}
+use Rattle.description_keys.specs.Rules.{Rule, needs}
+use Rattle.description_keys.specs.declared.key_row.KeyPart.TheVariants as part
 
 -- the rate of the transport stream, in bits a second
 abbrev pub rate : Data → Option ℕ
@@ -33,17 +33,9 @@ has_sdt = boolean_or false (codes "sdt")
 abbrev pub has_tdt : Data → Option Bool
 has_tdt = boolean_or false (codes "tdt")
 
--- the names of the keys
-abbrev pub top_key_names : List (List ℕ)
-top_key_names = codes "rate" ∷ codes "start" ∷ codes "base0" ∷ codes "ts_id" ∷ codes "original_network_id" ∷ codes "sdt" ∷ codes "tdt"
-    ∷ codes "network" ∷ codes "program" ∷ codes "stream" ∷ codes "event" ∷ codes "table" ∷ []
-
--- what each key refuses
-abbrev pub refuses_top : TopKey → Data → Bool
-refuses_top Rate document = is_none (rate document)
-refuses_top Start document = is_none (start document)
-refuses_top Base0 document = is_none (base0 document)
-refuses_top TsId document = is_none (transport_stream_id document)
-refuses_top OriginalNetworkId document = is_none (original_network_id document)
-refuses_top Sdt document = is_none (has_sdt document)
-refuses_top Tdt document = is_none (has_tdt document)
+-- the rules of the keys, by their numbers
+abbrev pub top_rules : List Rule
+top_rules = needs part.Document 10 (codes "rate") rate ∷ needs part.Document 11 (codes "start") start
+    ∷ needs part.Document 12 (codes "base0") base0 ∷ needs part.Document 13 (codes "ts_id") transport_stream_id
+    ∷ needs part.Document 14 (codes "original_network_id") original_network_id
+    ∷ needs part.Document 15 (codes "sdt") has_sdt ∷ needs part.Document 16 (codes "tdt") has_tdt ∷ []

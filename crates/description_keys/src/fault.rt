@@ -2,44 +2,19 @@
 
 ghost use Rattle.std.specs.Prelude.{◌≡◌};
 
-use crate::event_keys::EventKey;
-use crate::network_keys::NetworkKey;
-use crate::program_keys::ProgramKey;
-use crate::stream_keys::StreamKey;
-use crate::table_keys::TableKey;
-use crate::top_keys::TopKey;
 use thiserror::Error;
 
-/// Why a description is refused. A number is the place of the program, stream, event or private table
-/// in its array, from 0.
+/// Why a description is refused.
 #[derive(Clone, Copy, Debug, PartialEq, Eq, Error)]
 pub enum DescFault {
     #[error("the text is not TOML")]
     Text,
     #[error("a key is not one of a description")]
     UnknownKey,
-    #[error("a key of the document is missing, of another type or out of range")]
-    Top(TopKey),
-    #[error("network is not a table")]
-    Network,
-    #[error("a key of the network is missing, of another type or out of range")]
-    NetworkKey(NetworkKey),
-    #[error("program is not an array of 1 to 16 tables")]
-    Programs,
-    #[error("a key of a program is missing, of another type or out of range")]
-    Program(ProgramKey, usize),
-    #[error("stream is not an array of up to 32 tables")]
-    Streams,
-    #[error("a key of a stream is missing, of another type or out of range")]
-    Stream(StreamKey, usize),
-    #[error("event is not an array of up to 256 tables")]
-    Events,
-    #[error("a key of an event is missing, of another type or out of range")]
-    Event(EventKey, usize),
-    #[error("table is not an array of up to 16 tables")]
-    Tables,
-    #[error("a key of a private table is missing, of another type or out of range")]
-    Table(TableKey, usize),
+    /// A key by the number of its refusal, and the place of the program, stream, event or private table in its array,
+    /// from 0; 0 for the document and its network.
+    #[error("a key is missing, of another type or out of range")]
+    Key(u8, usize),
     #[error("two PIDs are equal")]
     EqualPids,
     #[error("two program numbers are equal")]
@@ -60,17 +35,7 @@ impl DescFault {
         match self {
             DescFault::Text => 1,
             DescFault::UnknownKey => 2,
-            DescFault::Top(key) => key.code(),
-            DescFault::Network => 20,
-            DescFault::NetworkKey(key) => key.code(),
-            DescFault::Programs => 30,
-            DescFault::Program(key, _) => key.code(),
-            DescFault::Streams => 40,
-            DescFault::Stream(key, _) => key.code(),
-            DescFault::Events => 60,
-            DescFault::Event(key, _) => key.code(),
-            DescFault::Tables => 70,
-            DescFault::Table(key, _) => key.code(),
+            DescFault::Key(code, _) => code,
             DescFault::EqualPids => 80,
             DescFault::EqualNumbers => 81,
             DescFault::EventOrder(_) => 82,
@@ -84,12 +49,8 @@ impl DescFault {
         ensures { result ≡ fault_item self }
     {
         match self {
-            DescFault::Program(_, item)
-            | DescFault::Stream(_, item)
-            | DescFault::Event(_, item)
-            | DescFault::Table(_, item)
-            | DescFault::EventOrder(item)
-            | DescFault::TooLong(item) => item,
+            DescFault::Key(_, item) | DescFault::EventOrder(item) | DescFault::TooLong(item) =>
+                item,
             _ => 0,
         }
     }

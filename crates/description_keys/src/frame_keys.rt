@@ -39,7 +39,7 @@ fn greatest_frame(stream: &Value) -> u32
 fn frame(stream: &Value) -> Option<u32>
     ensures { result ≡ stream_frame (view stream.now) }
 {
-    Some(integer_at(stream, "frame", 1, greatest_frame(stream) as i64)? as u32)
+    Some(integer_at(stream, "frame", 1, greatest_frame(stream) as u64)? as u32)
 }
 
 // Returns the greatest size of an access unit: a whole unit.
@@ -53,7 +53,7 @@ fn greatest_frame_size(stream: &Value) -> u32
 fn frame_size(stream: &Value) -> Option<u32>
     ensures { result ≡ stream_frame_size (view stream.now) }
 {
-    Some(integer_at(stream, "frame_size", 1, greatest_frame_size(stream) as i64)? as u32)
+    Some(integer_at(stream, "frame_size", 1, greatest_frame_size(stream) as u64)? as u32)
 }
 
 // Returns the access units; a key that is refused has the least value: one access unit, of one byte, and no time.

@@ -1,31 +1,27 @@
 //! The keys of a service description, their ranges and refusals.
 //!
-//! A module for each part has a reader of each key. `refusals::key_fault` returns the first refusal of a
-//! key in a document, in the order of the numbers.
+//! `keys::KEYS` has a row for each key, and `refusals::key_fault` returns the first refusal of a key in a document, in the
+//! order of the rows. The modules of a stream and of a table read keys whose values depend on other keys.
 #![tactic(auto)]
 
-// The keys of each part, with their ranges.
-pub mod event_keys;
+// Keys whose values depend on other keys, and the program of a part.
 pub mod frame_keys;
 pub mod multiplexing_keys;
-pub mod network_keys;
 pub mod owner;
-pub mod program_keys;
 mod program_numbers;
 pub mod sharers;
 pub mod stream_keys;
 pub mod table_keys;
-pub mod top_keys;
 
-// Refusals.
+// The keys by rows, the names of a part's keys, and refusals.
 mod fault;
+pub mod key_row;
+pub mod keys;
+pub mod known_keys;
+mod parts;
 pub mod refusals;
+mod rules;
 
-pub use event_keys::EventKey;
 pub use fault::{DescError, DescFault};
-pub use network_keys::NetworkKey;
-pub use program_keys::ProgramKey;
+pub use key_row::{KeyKind, KeyPart, KeyRow};
 pub use program_numbers::ProgramNumbers;
-pub use stream_keys::StreamKey;
-pub use table_keys::TableKey;
-pub use top_keys::TopKey;

@@ -29,7 +29,7 @@ fn greatest_rbx(stream: &Value) -> u32
 fn rbx(stream: &Value) -> Option<u32>
     ensures { result ≡ stream_rbx (view stream.now) }
 {
-    Some(integer_at(stream, "rbx", 64_000, greatest_rbx(stream) as i64)? as u32)
+    Some(integer_at(stream, "rbx", 64_000, greatest_rbx(stream) as u64)? as u32)
 }
 
 fn mb(stream: &Value) -> Option<u32>

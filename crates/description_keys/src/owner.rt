@@ -3,12 +3,19 @@
 ghost use Rattle.std.specs.Prelude.{◌≡◌};
 ghost use Rattle.std.specs.List.{list_any};
 ghost use Rattle.toml.specs.View.{view};
+ghost use Rattle.description_keys.specs.ProgramKeys.{program_number};
 ghost use Rattle.description_keys.specs.StreamKeys.{owner_number, has_number, declares, has_owner, is_owned_by};
 
-use crate::program_keys;
 use description_values::arrays::elements;
 use description_values::values::integer_at;
 use toml::Value;
+
+/// Returns program_number (ISO/IEC 13818-1, 2.4.4.5): 1 to 65,535; `None` if the key is refused.
+pub fn program_number(program: &Value) -> Option<u16>
+    ensures { result ≡ program_number (view program.now) }
+{
+    Some(integer_at(program, "number", 1, 65_535)? as u16)
+}
 
 /// Returns the number of the program that a stream or an event names.
 pub fn owner_number(part: &Value) -> Option<u16>
@@ -20,7 +27,7 @@ pub fn owner_number(part: &Value) -> Option<u16>
 fn has_number(number: u16, program: &Value) -> bool
     ensures { result ≡ has_number number (view program.now) }
 {
-    program_keys::number(program) == Some(number)
+    program_number(program) == Some(number)
 }
 
 fn one_has_number(number: u16, programs: &[Value]) -> bool

@@ -1,5 +1,5 @@
 -- If all keys of a document are in range, the document has as many parts as a description may have.
-use Rattle.std.proofs.Common.{◌≡◌, ℕ, get_or, inl, inr, suc, ◌≤◌, ◌&&◌, not, nat_le, Bool, true, false, List, [], ◌∷◌, length, Option, None, Some, unwrap_or}
+use Rattle.std.proofs.Common.{◌≡◌, ℕ, get_or, inl, inr, suc, ◌≤◌, ◌<◌, ◌&&◌, not, nat_le, Bool, true, false, List, [], ◌∷◌, ◌++◌, length, Option, None, Some, unwrap_or}
 use Rattle.std.proofs.Common.{option_map, refl, ap, sym, ◌∙◌, arith, if◌then◌else◌, All, position, codes, is_some}
 use Rattle.std.proofs.lemmas.Bool.{and_parts, cases_lt, leb-true}
 use Rattle.std.proofs.lemmas.List.Sums.{prefix_len_passes}
@@ -14,46 +14,26 @@ use Rattle.description_values.specs.Values.{section_in}
 use Rattle.description_parts.specs.Contents.{described, described_sections, described_table, described_program, described_stream}
 use Rattle.description_parts.specs.Described.{Described}
 use Rattle.description_parts.specs.Ranges.{HasCounts}
-use Rattle.description_values.specs.KnownKeys.{first_refused}
-use Rattle.description_keys.specs.Refusals.{unknown_key_fault, top_fault, network_fault, program_fault, stream_fault, event_fault, table_fault, key_fault}
-use Rattle.description_keys.specs.Refusals.{programs_of, streams_of, tables_of, table_keys}
-use Rattle.description_keys.specs.TableKeys.{refuses_table}
+use Rattle.description_keys.specs.EventKeys.{event_rules}
+use Rattle.description_keys.specs.NetworkKeys.{network_rules}
+use Rattle.description_keys.specs.ProgramKeys.{program_rules}
+use Rattle.description_keys.specs.StreamKeys.{stream_rules}
+use Rattle.description_keys.specs.TableKeys.{table_rules}
+use Rattle.description_keys.specs.TopKeys.{top_rules}
+use Rattle.description_keys.specs.Rules.{Rule}
+use Rattle.description_keys.specs.Refusals.{array_rule, first_fault, key_fault, network_rule, parts_of, programs_of, rules, streams_of, tables_of}
+use Rattle.description_keys.specs.Refusals.{unknown_key_fault}
 use Rattle.description_keys.specs.declared.fault.DescFault.{DescFault}
-use Rattle.description_keys.specs.declared.fault.DescFault.TheVariants.{Programs, Streams, Tables, Table}
+use Rattle.description_keys.specs.declared.fault.DescFault.TheVariants.{Key}
 
 -- If the choice of two options is `None`, both options are `None`.
 pub or_none : {X : Type 0} (a b : Option X) → option_or a b ≡ None → (a ≡ None) × (b ≡ None)
 or_none None b h = (refl, h)
 or_none (Some x) b h = absurd (cc)
 
--- No key of the document is refused.
-pub record NoFault (d : Data) : Type 0 where
-  pub top : top_fault d ≡ None
-  pub network : network_fault d ≡ None
-  pub program : program_fault d ≡ None
-  pub stream : stream_fault d ≡ None
-  pub event : event_fault d ≡ None
-  pub table : table_fault d ≡ None
-
-pub no_fault : (d : Data) → key_fault d ≡ None → NoFault d
-no_fault d h =
-    let before_network : Option DescFault = option_or (unknown_key_fault d) (top_fault d) in
-    let before_programs : Option DescFault = option_or before_network (network_fault d) in
-    let before_streams : Option DescFault = option_or before_programs (program_fault d) in
-    let before_events : Option DescFault = option_or before_streams (stream_fault d) in
-    let before_tables : Option DescFault = option_or before_events (event_fault d) in
-    let seven = or_none before_tables (table_fault d) h in
-    let six = or_none before_events (event_fault d) seven.0 in
-    let five = or_none before_streams (stream_fault d) six.0 in
-    let four = or_none before_programs (program_fault d) five.0 in
-    let three = or_none before_network (network_fault d) four.0 in
-    let two = or_none (unknown_key_fault d) (top_fault d) three.0 in
-    record { top = two.1; network = three.1; program = four.1; stream = five.1; event = six.1; table = seven.1 }
-
--- If neither a test nor the result after it refuses, the test passed.
-pub if_none : {X : Type 0} (b : Bool) (a : Option X) (x : X) → (if b then a else Some x) ≡ None → (b ≡ true) × (a ≡ None)
-if_none true a x h = (refl, h)
-if_none false a x h = absurd (cc)
+-- No part refuses a key.
+abbrev pub Accepts : Data → List Rule → Type 0
+Accepts d rules = AllByRecursion (λ rule. All (λ part. rule.refuses d part ≡ false) (parts_of rule.part d)) rules
 
 -- The number of elements of an array of `low` to `high` tables
 pub record HasLength (low high n : ℕ) : Type 0 where
@@ -85,10 +65,6 @@ pub map_none : {X Y : Type 0} (f : X → Y) (o : Option X) → option_map f o �
 map_none f None h = refl
 map_none f (Some x) h = absurd (cc)
 
--- Every key accepts every part.
-abbrev pub AllAccept : {K : Type 0} → (K → Data → Bool) → List K → List Data → Type 0
-AllAccept refuses keys parts = AllByRecursion (λ key. All (λ part. refuses key part ≡ false) parts) keys
-
 pub not_true : (b : Bool) → not b ≡ true → b ≡ false
 not_true true h = absurd (cc)
 not_true false h = refl
@@ -102,18 +78,62 @@ no_position p xs h = λ k d within.
           not_true (p (get_or xs k d)) passes
     ]
 
-first_none : {K : Type 0} (key : K) (o : Option ℕ) (rest : Option (K × ℕ)) →
-    (elim o as (λ _. Option (K × ℕ)) [ None ↦ rest | Some place ↦ Some (key, place) ]) ≡ None
-    → (o ≡ None) × (rest ≡ None)
-first_none key None rest h = (refl, h)
-first_none key (Some place) rest h = absurd (cc)
+first_none : (o : Option ℕ) (rest : Option DescFault) (fault : ℕ → DescFault)
+    → (elim o as (λ _. Option DescFault) [ None ↦ rest | Some place ↦ Some (fault place) ]) ≡ None → (o ≡ None) × (rest ≡ None)
+first_none None rest fault h = (refl, h)
+first_none (Some place) rest fault h = absurd (cc)
 
-pub all_accept : {K : Type 0} (refuses : K → Data → Bool) (keys : List K) (parts : List Data) → first_refused refuses keys parts ≡ None
-    → AllAccept refuses keys parts
-all_accept refuses [] parts h = tt
-all_accept refuses (key ∷ keys) parts h =
-    let both = first_none key (position (refuses key) parts) (first_refused refuses keys parts) h in
-    (no_position (refuses key) parts both.0, all_accept refuses keys parts both.1)
+accepts : (d : Data) (rules : List Rule) → first_fault rules d ≡ None → Accepts d rules
+accepts d [] h = tt
+accepts d (rule ∷ rules) h =
+    let both = first_none (position (rule.refuses d) (parts_of rule.part d)) (first_fault rules d) (λ place. Key rule.code place) h in
+    (no_position (rule.refuses d) (parts_of rule.part d) both.0, accepts d rules both.1)
+
+-- The first of two lists of rules, and the second, refuse no part if neither does.
+two_parts : (d : Data) (a b : List Rule) → Accepts d (a ++ b) → Accepts d a × Accepts d b
+two_parts d [] b h = (tt, h)
+two_parts d (rule ∷ a) b h = let rest = two_parts d a b h.1 in ((h.0, rest.0), rest.1)
+
+pub not_false : (b : Bool) → not b ≡ false → b ≡ true
+not_false true h = refl
+not_false false h = absurd (cc)
+
+-- A number of tables that is accepted is in its range.
+in_array : (d : Data) (code : ℕ) (absent : Bool) (name : List ℕ) (low high : ℕ) (rules : List Rule)
+    → Accepts d (array_rule code absent name low high ∷ rules) → tables_at absent name low high d ≡ true
+in_array d code absent name low high rules h = let here : 0 < 1 = omega arith in not_false (tables_at absent name low high d) (h.0 0 d here)
+
+-- No key of the document is refused.
+pub record NoFault (d : Data) : Type 0 where
+  pub programs : tables_at false (codes "program") 1 16 d ≡ true
+  pub streams : tables_at true (codes "stream") 0 32 d ≡ true
+  pub stream : Accepts d stream_rules
+  pub events : tables_at true (codes "event") 0 256 d ≡ true
+  pub tables : tables_at true (codes "table") 0 16 d ≡ true
+  pub table : Accepts d table_rules
+
+pub no_fault : (d : Data) → key_fault d ≡ None → NoFault d
+unfolding rules
+no_fault d h =
+    let tables : List Rule = array_rule 70 true (codes "table") 0 16 ∷ table_rules in
+    let events : List Rule = array_rule 60 true (codes "event") 0 256 ∷ event_rules in
+    let streams : List Rule = array_rule 40 true (codes "stream") 0 32 ∷ stream_rules in
+    let programs : List Rule = array_rule 30 false (codes "program") 1 16 ∷ program_rules in
+    let network : List Rule = network_rule ∷ network_rules in
+    let all = accepts d rules (or_none (unknown_key_fault d) (first_fault rules d) h).1 in
+    let one = two_parts d top_rules (network ++ (programs ++ (streams ++ (events ++ tables)))) all in
+    let two = two_parts d network (programs ++ (streams ++ (events ++ tables))) one.1 in
+    let three = two_parts d programs (streams ++ (events ++ tables)) two.1 in
+    let four = two_parts d streams (events ++ tables) three.1 in
+    let five = two_parts d events tables four.1 in
+    record {
+      programs = in_array d 30 false (codes "program") 1 16 program_rules three.0;
+      streams = in_array d 40 true (codes "stream") 0 32 stream_rules four.0;
+      stream = four.0.1;
+      events = in_array d 60 true (codes "event") 0 256 event_rules five.0;
+      tables = in_array d 70 true (codes "table") 0 16 table_rules five.1;
+      table = five.1.1;
+    }
 
 -- An array of sections
 pub record AreSections (ds : List Data) : Type 0 where
@@ -149,30 +169,18 @@ sections-length part h =
     let same = filtered_length (elements (codes "sections") part) are.sections in
     record { least = omega (arith, same, are.counted.least); most = omega (arith, same, are.counted.most) }
 
-pub not_false : (b : Bool) → not b ≡ false → b ≡ true
-not_false true h = refl
-not_false false h = absurd (cc)
-
--- No key of a table is refused.
-pub tables_accepted : (d : Data) → NoFault d → AllAccept (λ key. refuses_table key d) table_keys (tables_of d)
-tables_accepted d none =
-    let arrays = if_none (tables_at true (codes "table") 0 16 d)
-    (option_map (λ p. Table p.0 p.1) (first_refused (λ key. refuses_table key d) table_keys (tables_of d))) Tables none.table in
-    all_accept (λ key. refuses_table key d) table_keys (tables_of d)
-    (map_none (λ p. Table p.0 p.1) (first_refused (λ key. refuses_table key d) table_keys (tables_of d)) arrays.1)
-
 pub table_sections : (d : Data) → NoFault d → All (λ part. HasLength 1 8 (length (described_sections part))) (tables_of d)
 table_sections d none =
     λ k other within. sections-length (get_or (tables_of d) k other)
-    (not_false (sections_at (codes "sections") (get_or (tables_of d) k other)) ((tables_accepted d none).1.1.0 k other within))
+    (not_false (sections_at (codes "sections") (get_or (tables_of d) k other)) (none.table.1.1.0 k other within))
 
 -- The numbers of programs, streams and tables are in range.
 pub has_counts : (d : Data) → NoFault d → HasCounts (described d)
 has_counts d none =
     let programs =
-    elements-length false (codes "program") 1 16 d (λ e. absurd (cc)) (if_none (tables_at false (codes "program") 1 16 d) _ Programs none.program).0 in
-    let streams = elements-length true (codes "stream") 0 32 d (λ e. refl) (if_none (tables_at true (codes "stream") 0 32 d) _ Streams none.stream).0 in
-    let tables = elements-length true (codes "table") 0 16 d (λ e. refl) (if_none (tables_at true (codes "table") 0 16 d) _ Tables none.table).0 in
+    elements-length false (codes "program") 1 16 d (λ e. absurd (cc)) none.programs in
+    let streams = elements-length true (codes "stream") 0 32 d (λ e. refl) none.streams in
+    let tables = elements-length true (codes "table") 0 16 d (λ e. refl) none.tables in
     let p = length-map (programs_of d) (described_program d) in
     let s = length-map (streams_of d) described_stream in
     let t = length-map (tables_of d) described_table in

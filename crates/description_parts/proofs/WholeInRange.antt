@@ -13,20 +13,19 @@ use Rattle.description_parts.specs.Described.{Described, DescribedNetwork}
 use Rattle.description_parts.specs.Ranges.{IsInRange, IsNetwork, IsProgram, IsStream, IsTable, IsListed, IsSharing, named_pids, program_numbers}
 use Rattle.description_parts.specs.Ranges.{longest_section}
 use Rattle.description_parts.specs.Tables.{only_if, has_event, service_tables, table_kinds, pmt_length, nit_length, sdt_length, numbers_from}
-use Rattle.description_values.specs.Values.{tables_at, is_distinct}
+use Rattle.description_values.specs.Values.{is_distinct}
 use Rattle.description_keys.specs.ProgramKeys.{program_number}
-use Rattle.description_keys.specs.StreamKeys.{owner_number, has_number, declares, has_owner, has_sharers, stream_sharers, refuses_stream}
+use Rattle.description_keys.specs.StreamKeys.{owner_number, has_number, declares, has_owner, has_sharers, stream_sharers}
 use Rattle.description_parts.specs.Contents.{described, described_network, described_program, described_stream, described_entry, described_table}
 use Rattle.description_keys.specs.TableKeys.{is_listed}
 use Rattle.description_parts.specs.Consistency.{is_too_long, first_place, equal_pids_fault, equal_numbers_fault, event_order_fault, too_long_fault, joint_fault}
-use Rattle.description_values.specs.KnownKeys.{first_refused}
-use Rattle.description_keys.specs.Refusals.{key_fault, programs_of, streams_of, tables_of, network_of, stream_keys}
+use Rattle.description_keys.specs.Refusals.{key_fault, programs_of, streams_of, tables_of, network_of}
 use Rattle.description_keys.specs.declared.fault.DescFault.{DescFault}
-use Rattle.description_keys.specs.declared.fault.DescFault.TheVariants.{Streams, Stream, Events, EqualPids, EqualNumbers, TooLong}
+use Rattle.description_keys.specs.declared.fault.DescFault.TheVariants.{EqualPids, EqualNumbers, TooLong}
 use Rattle.description_parts.specs.declared.table_kind.TableKind.{TableKind}
 use Rattle.description_parts.specs.declared.table_kind.TableKind.TheVariants.{Pat, Pmt, Nit, Sdt, Eit, Tdt, Private}
 use Rattle.description_parts.proofs.KeyRanges.{integer_at-within, integer_or-within, moment_at-within}
-use Rattle.description_parts.proofs.Counts.{NoFault, no_fault, or_none, if_none, map_none, all_accept, AllAccept, not_false, has_counts, tables_accepted}
+use Rattle.description_parts.proofs.Counts.{NoFault, no_fault, or_none, map_none, not_false, has_counts}
 use Rattle.description_parts.proofs.Counts.{table_sections, elements-length}
 use Rattle.description_parts.proofs.PartsInRange.{network_is, program_is, stream_is, table_is}
 use Rattle.description_parts.proofs.Declared.{owner_declared}
@@ -120,15 +119,8 @@ services_fit d h =
     }
 
 -- The program of each stream is declared, and so are the programs that share the stream.
-streams_accepted : (d : Data) → NoFault d → AllAccept (λ key. refuses_stream key d) stream_keys (streams_of d)
-streams_accepted d none =
-    let arrays = if_none (tables_at true (codes "stream") 0 32 d)
-    (option_map (λ p. Stream p.0 p.1) (first_refused (λ key. refuses_stream key d) stream_keys (streams_of d))) Streams none.stream in
-    all_accept (λ key. refuses_stream key d) stream_keys (streams_of d)
-    (map_none (λ p. Stream p.0 p.1) (first_refused (λ key. refuses_stream key d) stream_keys (streams_of d)) arrays.1)
-
 owners_there : (d : Data) → NoFault d → All (λ part. has_owner d part ≡ true) (streams_of d)
-owners_there d none = λ k other within. not_false (has_owner d (get_or (streams_of d) k other)) ((streams_accepted d none).0 k other within)
+owners_there d none = λ k other within. not_false (has_owner d (get_or (streams_of d) k other)) (none.stream.0 k other within)
 
 streams_declared : (d : Data) → NoFault d → All (λ part. Contains (program_numbers (described d)) (unwrap_or (owner_number part) 1)) (streams_of d)
 streams_declared d none = λ k other within. owner_declared d (owner_number (get_or (streams_of d) k other)) (owners_there d none k other within)
@@ -139,7 +131,7 @@ sharing_of document part are = record { declared = are.declared; others = are.ot
 streams_shared : (d : Data) → NoFault d → All (λ part. IsSharing (described d) (described_stream part)) (streams_of d)
 streams_shared d none = λ k other within.
     let part = get_or (streams_of d) k other in
-    let there : has_sharers d part ≡ true = not_false (has_sharers d part) ((streams_accepted d none).1.1.1.1.1.1.1.1.1.1.1.1.1.1.1.1.0 k other within) in
+    let there : has_sharers d part ≡ true = not_false (has_sharers d part) (none.stream.1.1.1.1.1.1.1.1.1.1.1.1.1.1.1.1.0 k other within) in
     sharing_of d part (sharers_are d part (owners_there d none k other within) there)
 
 -- The program of each table's entry is declared.
@@ -154,7 +146,7 @@ listed_declared document part true h =
 tables_declared : (d : Data) → NoFault d → All (λ part. IsListed (described d) (described_table part)) (tables_of d)
 tables_declared d none =
     λ k other within. listed_declared d (get_or (tables_of d) k other) (is_listed (get_or (tables_of d) k other))
-    ((tables_accepted d none).1.1.1.0 k other within)
+    (none.table.1.1.1.0 k other within)
 
 within_trans : {a b c : ℕ} → a ≤ b → b ≤ c → a ≤ c
 within_trans h k = omega arith
@@ -172,8 +164,7 @@ described-in_range document keys joint =
     let rate = integer_at-within (codes "rate") 100000 100000000 100000 document (omega arith) (omega arith) in
     let base0 = (integer_or-within (codes "base0") 0 8589934591 0 0 document (omega arith) (omega arith) (omega arith) (omega arith)).most in
     let numbers = IsDistinct-is (program_numbers (described document)) parts.numbers in
-    let events = (elements-length true (codes "event") 0 256 document (λ e. refl)
-    (if_none (tables_at true (codes "event") 0 256 document) _ Events none.event).0).most in
+    let events = (elements-length true (codes "event") 0 256 document (λ e. refl) none.events).most in
     let few = most_events document (programs_of document) numbers in
     let services = services_fit (described document) parts.lengths in
     record {

@@ -18,12 +18,17 @@ use crate::stream::StreamDescription;
 use clock27::Rate;
 use description_keys::frame_keys::framing;
 use description_keys::multiplexing_keys::multiplexing;
-use description_keys::owner::{is_owned_by, owner_number};
+use description_keys::owner::{is_owned_by, owner_number, program_number};
 use description_keys::sharers::sharers;
-use description_keys::{event_keys, network_keys, program_keys, stream_keys, table_keys, top_keys};
+use description_keys::{stream_keys, table_keys};
 use description_values::arrays::elements;
+use description_values::descriptors::descriptors_or_none;
+use description_values::moments::moment_at;
 use description_values::private_section::section_of;
-use description_values::texts::empty_text;
+use description_values::texts::{
+    empty_text, language_at, optional_language, text_at, text_or_empty,
+};
+use description_values::values::{boolean_or, number_at, number_or};
 use description_values::{DescriptorLoop, PrivateSection};
 use dvb_tables::Event;
 use std::alloc::{AllocError, Global};
@@ -33,9 +38,9 @@ fn network_of(network: &Value) -> Network
     ensures { result ≡ spec.described_network (view network.now) }
 {
     Network {
-        id: network_keys::id(network).unwrap_or(0),
-        name: network_keys::name(network).unwrap_or(empty_text()),
-        descriptors: network_keys::descriptors(network).unwrap_or(DescriptorLoop::none()),
+        id: number_at(network, "id", 0, 65_535) as u16,
+        name: text_at(network, "name").unwrap_or(empty_text()),
+        descriptors: descriptors_or_none(network, "descriptors").unwrap_or(DescriptorLoop::none()),
     }
 }
 
@@ -43,12 +48,12 @@ fn event_of(event: &Value) -> Event
     ensures { event_view result ≡ spec.described_event (view event.now) }
 {
     Event {
-        id: event_keys::id(event).unwrap_or(0),
-        start: event_keys::start(event).unwrap_or(0),
-        duration: event_keys::duration(event).unwrap_or(1),
-        language: event_keys::language(event).unwrap_or(*b"und"),
-        name: event_keys::name(event).unwrap_or(empty_text()),
-        text: event_keys::text(event).unwrap_or(empty_text()),
+        id: number_at(event, "id", 0, 65_535) as u16,
+        start: moment_at(event, "start").unwrap_or(0),
+        duration: number_at(event, "duration", 1, 359_999) as u32,
+        language: language_at(event, "language").unwrap_or(*b"und"),
+        name: text_at(event, "name").unwrap_or(empty_text()),
+        text: text_at(event, "text").unwrap_or(empty_text()),
     }
 }
 
@@ -71,17 +76,17 @@ fn program_of(
 ) -> Result<ProgramDescription, AllocError>
     ensures { IfOk result (λ p. p ≡ spec.described_program (view document.now) (view program.now)) }
 {
-    let number = program_keys::number(program).unwrap_or(1);
+    let number = program_number(program).unwrap_or(1);
     let events = events_of(alloc, number, elements(document, "event"))?;
     Ok(ProgramDescription {
         number,
-        pmt_pid: program_keys::pmt_pid(program).unwrap_or(32),
-        pcr_pid: program_keys::pcr_pid(program).unwrap_or(32),
-        pcr_limit: program_keys::pcr_limit(program).unwrap_or(1),
-        descriptors: program_keys::descriptors(program).unwrap_or(DescriptorLoop::none()),
-        service_type: program_keys::service_type(program).unwrap_or(0),
-        provider: program_keys::provider(program).unwrap_or(empty_text()),
-        name: program_keys::name(program).unwrap_or(empty_text()),
+        pmt_pid: number_at(program, "pmt_pid", 32, 8_190) as u16,
+        pcr_pid: number_at(program, "pcr_pid", 32, 8_190) as u16,
+        pcr_limit: number_or(40, program, "pcr_limit", 1, 100) as u8,
+        descriptors: descriptors_or_none(program, "descriptors").unwrap_or(DescriptorLoop::none()),
+        service_type: number_or(1, program, "service_type", 0, 255) as u8,
+        provider: text_or_empty(program, "provider").unwrap_or(empty_text()),
+        name: text_or_empty(program, "name").unwrap_or(empty_text()),
         events,
     })
 }
@@ -105,18 +110,18 @@ fn stream_of(stream: &Value) -> StreamDescription
 {
     StreamDescription {
         program: owner_number(stream).unwrap_or(1),
-        pid: stream_keys::pid(stream).unwrap_or(32),
+        pid: number_at(stream, "pid", 32, 8_190) as u16,
         stream_id: stream_keys::id_or_private(stream),
-        stream_type: stream_keys::stream_type(stream).unwrap_or(0),
+        stream_type: number_at(stream, "type", 0, 255) as u8,
         interval: stream_keys::interval(stream).unwrap_or(1),
         size: stream_keys::size(stream).unwrap_or(1),
-        lead: stream_keys::lead(stream).unwrap_or(1),
-        pts_limit: stream_keys::pts_limit(stream).unwrap_or(1),
+        lead: number_at(stream, "lead", 1, 90_000) as u32,
+        pts_limit: number_or(90_000, stream, "pts_limit", 1, 5_400_000) as u32,
         rx: stream_keys::rx(stream).unwrap_or(64_000),
         main: stream_keys::main_buffer(stream).unwrap_or(1),
         tag: stream_keys::tag(stream).unwrap_or(None),
-        language: stream_keys::language(stream).unwrap_or(None),
-        descriptors: stream_keys::descriptors(stream).unwrap_or(DescriptorLoop::none()),
+        language: optional_language(stream, "language").unwrap_or(None),
+        descriptors: descriptors_or_none(stream, "descriptors").unwrap_or(DescriptorLoop::none()),
         allowance: stream_keys::allowance(stream),
         shared_with: sharers(stream),
         multiplexing: multiplexing(stream),
@@ -171,8 +176,8 @@ fn table_of(alloc: Global, table: &Value) -> Result<PrivateTable, AllocError>
 {
     let sections = sections_of(alloc, elements(table, "sections"))?;
     Ok(PrivateTable {
-        pid: table_keys::pid(table).unwrap_or(32),
-        limit: table_keys::limit(table).unwrap_or(1),
+        pid: number_at(table, "pid", 32, 8_190) as u16,
+        limit: number_at(table, "limit", 1, 30_000) as u16,
         sections,
         entry: entry_if_listed(table),
     })
@@ -200,8 +205,7 @@ fn network_in(document: &Value) -> Option<Network>
 fn rate_of(document: &Value) -> Rate
     ensures { result ≡ unwrap_or (top.rate (view document.now)) 100000 }
 {
-    let bits_per_second = top_keys::rate(document).unwrap_or(100_000);
-    match Rate::new(bits_per_second as u64) {
+    match Rate::new(number_at(document, "rate", 100_000, 100_000_000)) {
         Ok(rate) => rate,
         Err(_) => unreachable!(),
     }
@@ -217,12 +221,12 @@ pub fn contents_of(alloc: Global, document: &Value) -> Result<Contents, AllocErr
     let tables = tables_of(alloc, elements(document, "table"))?;
     Ok(Contents {
         rate: rate_of(document),
-        start: top_keys::start(document).unwrap_or(0),
-        base0: top_keys::base0(document).unwrap_or(0),
-        transport_stream_id: top_keys::ts_id(document).unwrap_or(0),
-        original_network_id: top_keys::original_network_id(document).unwrap_or(0),
-        has_sdt: top_keys::sdt(document).unwrap_or(false),
-        has_tdt: top_keys::tdt(document).unwrap_or(false),
+        start: moment_at(document, "start").unwrap_or(0),
+        base0: number_or(0, document, "base0", 0, 0x1_ffff_ffff),
+        transport_stream_id: number_at(document, "ts_id", 0, 65_535) as u16,
+        original_network_id: number_at(document, "original_network_id", 0, 65_535) as u16,
+        has_sdt: boolean_or(false, document, "sdt").unwrap_or(false),
+        has_tdt: boolean_or(false, document, "tdt").unwrap_or(false),
         network: network_in(document),
         programs,
         streams,

@@ -14,10 +14,11 @@ use crate::program::ProgramDescription;
 use crate::stream::StreamDescription;
 use crate::table_kind::TableKind;
 use arrayvec::ArrayVec;
+use description_keys::DescFault;
 use description_keys::owner::owner_number;
-use description_keys::{DescFault, event_keys};
 use description_values::arrays::elements;
-use description_values::values::is_distinct;
+use description_values::moments::moment_at;
+use description_values::values::{is_distinct, number_at};
 use toml::Value;
 
 fn push_pmt_pids(pids: &mut ArrayVec<u16, 80>, programs: &[ProgramDescription])
@@ -104,14 +105,14 @@ fn event_begin(event: &Value) -> u64
     ensures value { result ≡ spec.event_begin (view event.now) }
     ensures bound { result ≤ last_moment }
 {
-    event_keys::start(event).unwrap_or(0)
+    moment_at(event, "start").unwrap_or(0)
 }
 
 // Returns whether an event begins before an earlier event of its program ends.
 fn overlaps(event: &Value, earlier: &Value) -> bool
     ensures { result ≡ spec.overlaps (view event.now) (view earlier.now) }
 {
-    let duration = event_keys::duration(earlier).unwrap_or(1) as u64;
+    let duration = number_at(earlier, "duration", 1, 359_999);
     let is_of_its_program = owner_number(earlier).unwrap_or(1) == owner_number(event).unwrap_or(1);
     is_of_its_program && event_begin(event) < event_begin(earlier) + duration
 }

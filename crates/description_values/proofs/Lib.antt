@@ -5,3 +5,4 @@ pub mod HexBytes
 pub mod Elements
 pub mod MemberKeys
 pub mod Octets
+pub mod TextLengths

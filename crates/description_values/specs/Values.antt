@@ -44,6 +44,11 @@ are_octets most bytes = nat_le (length bytes) most && list_all is_octet bytes
 abbrev pub text_in : ℕ → Data → Option (List ℕ)
 text_in most d = elim (as_str d) [ None ↦ None | Some text ↦ if are_octets most (text_bytes text) then Some (text_bytes text) else None ]
 
+-- no text, or one of more bytes
+abbrev pub is_beyond : ℕ → Option (List ℕ) → Bool
+is_beyond most None = true
+is_beyond most (Some bytes) = nat_lt most (length bytes)
+
 abbrev pub text_at : ℕ → List ℕ → Data → Option (List ℕ)
 text_at most key = at_key key None (text_in most)
 

@@ -11,7 +11,7 @@ use jiff::civil::DateTime;
 use toml::Value;
 
 // The last moment that a description can name, 2037-12-31T23:59:59.
-const LAST_MOMENT: i64 = 2_145_916_799;
+const LAST_MOMENT: u64 = 2_145_916_799;
 
 fn is_digit(text: &[u8], place: usize) -> bool
     requires { place < length text.now }

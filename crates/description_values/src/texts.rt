@@ -1,9 +1,9 @@
 //! Texts and languages as a description gives them.
 
-ghost use Rattle.std.specs.Prelude.{◌≡◌, [], true};
+ghost use Rattle.std.specs.Prelude.{◌≡◌, ◌≤◌, [], is_none, true};
 ghost use Rattle.std.specs.List.{list_all};
 ghost use Rattle.toml.specs.View.{view};
-ghost use Rattle.description_values.specs.Values.{is_octet, text_in, text_at, text_or, is_letter, language_of};
+ghost use Rattle.description_values.specs.Values.{is_octet, is_beyond, text_in, text_at, text_or, is_letter, language_of};
 ghost use Rattle.description_values.specs.Values.{language_in};
 ghost use Rattle.description_values.specs.Values.{language_at, optional_language};
 
@@ -58,6 +58,44 @@ pub fn text_or_empty<const N: usize>(table: &Value, key: &str) -> Option<Text<N>
     match table.get(key) {
         None => Some(empty_text()),
         Some(value) => text(value),
+    }
+}
+
+// Returns whether there is no text, or one of more than `most` bytes.
+fn is_beyond(text: Option<Text<255>>, most: usize) -> bool
+    ensures { result ≡ is_beyond most text }
+{
+    match text {
+        None => true,
+        Some(text) => text.as_bytes().len() > most,
+    }
+}
+
+// Returns whether a value is no text of up to `most` bytes, as a descriptor has them.
+fn is_no_text(value: &Value, most: usize) -> bool
+    requires { most ≤ 255 }
+    ensures { result ≡ is_none (text_in most (view value.now)) }
+{
+    is_beyond(text::<255>(value), most)
+}
+
+/// Returns whether there is no such text at a key.
+pub fn has_no_text(table: &Value, key: &str, most: u8) -> bool
+    ensures { result ≡ is_none (text_at most key.now (view table.now)) }
+{
+    match table.get(key) {
+        None => true,
+        Some(value) => is_no_text(value, most as usize),
+    }
+}
+
+/// Returns whether there is another value than such a text at a key.
+pub fn has_other_text(table: &Value, key: &str, most: u8) -> bool
+    ensures { result ≡ is_none (text_or most key.now (view table.now)) }
+{
+    match table.get(key) {
+        None => false,
+        Some(value) => is_no_text(value, most as usize),
     }
 }
 

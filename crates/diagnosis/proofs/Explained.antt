@@ -1,5 +1,5 @@
 -- What the report says of the parts of a text, by the reader of each part
-use Rattle.std.proofs.Common.{◌≡◌, ◌∙◌, ℕ, List, [], Bool, true, false, Result, Ok, Err, drop, sym, ap, subst}
+use Rattle.std.proofs.Common.{◌≡◌, ◌∙◌, ℕ, List, [], Bool, true, false, Option, Result, Ok, Err, drop, sym, ap, subst}
 use Rattle.std.specs.Prelude.{if◌then◌else◌}
 use Rattle.std.specs.Str.{IsUtf8, is_utf8}
 use Rattle.std.proofs.lemmas.Str.{IsUtf8-from_is_utf8, is_utf8-from_IsUtf8}
@@ -13,7 +13,7 @@ use Rattle.checked_jobs.proofs.JobReaders.{names_line, planned_front}
 use Rattle.diagnosis.specs.Explained.{bad_line_words, plan_words, served_words, text_lines}
 use Rattle.diagnosis.specs.KeyPlaces.{lines_of}
 use Rattle.diagnosis.specs.UnknownWords.{named_words, unnamed_words, word_words}
-use Rattle.diagnosis.specs.declared.unknown_words.Head.{Head}
+use Rattle.description_keys.specs.declared.key_row.KeyPart.{KeyPart}
 
 -- 1. The lines of a description
 
@@ -30,13 +30,13 @@ no_lines bytes n =
 
 -- The words of a line
 
-pub named_text : (head : Head) (bytes word : List ℕ) → word ≡ bytes → IsUtf8 bytes → named_words head word ≡ word_words head bytes
-named_text head bytes word e u =
-    ap (named_words head) e ∙ sym (ap (λ (b : Bool). if b then named_words head bytes else unnamed_words) (is_utf8-from_IsUtf8 bytes u))
+pub named_text : (part : Option KeyPart) (bytes word : List ℕ) → word ≡ bytes → IsUtf8 bytes → named_words part word ≡ word_words part bytes
+named_text part bytes word e u =
+    ap (named_words part) e ∙ sym (ap (λ (b : Bool). if b then named_words part bytes else unnamed_words) (is_utf8-from_IsUtf8 bytes u))
 
-pub unnamed_bytes : (head : Head) (bytes : List ℕ) → ¬ (IsUtf8 bytes) → unnamed_words ≡ word_words head bytes
-unnamed_bytes head bytes n =
-    sym (ap (λ (b : Bool). if b then named_words head bytes else unnamed_words)
+pub unnamed_bytes : (part : Option KeyPart) (bytes : List ℕ) → ¬ (IsUtf8 bytes) → unnamed_words ≡ word_words part bytes
+unnamed_bytes part bytes n =
+    sym (ap (λ (b : Bool). if b then named_words part bytes else unnamed_words)
     (not_utf8 bytes (is_utf8 bytes) (let same : is_utf8 bytes ≡ is_utf8 bytes = cc in same) n))
 
 -- 2. The words of a plan

@@ -1,74 +1,123 @@
 //! The line for why a description is refused.
 
 ghost use Rattle.std.specs.Prelude.{◌≡◌, ◌++◌, OnOk, map, string_bytes};
+ghost use Rattle.description_keys.specs.KeyRows.{row_of as key_of, view};
 ghost use Rattle.diagnosis.specs.FaultLines as spec;
 
 use crate::equal_keys::{EqualKeys, write_equal};
 use crate::key_places::write_row;
-use crate::key_tables::{KeyTable, row_of, write_table};
-use crate::key_words::{
-    KeyWords, event_words, network_words, program_words, stream_words, table_words, top_words,
-};
-use description_keys::DescFault;
+use crate::key_tables::{row_of, write_table};
+use crate::key_words::write_values;
+use description_keys::{DescFault, KeyKind, KeyRow, keys};
 use std::alloc::AllocError;
 use std::fmt::Write;
 
-// Appends a key and what it has to be.
-fn write_rule(name: &str, values: &str, text: &mut String) -> Result<(), AllocError>
-    ensures { OnOk result (string_bytes text.new ≡ string_bytes text.old ++ spec.rule_words name.now values.now) }
+// Appends the name of a key, words, and the values that the key may have.
+#[tactic(auto, unfolding(crate::specs::FaultLines::said_words))]
+fn write_said(front: &str, row: &KeyRow, text: &mut String) -> Result<(), AllocError>
+    ensures { OnOk result (string_bytes text.new ≡ string_bytes text.old ++ spec.said_words front.now (view row.now)) }
 {
-    write!(text, "{name} has to be {values}\n")
+    text.push_str(row.2)?;
+    text.push_str(front)?;
+    write_values(row, text)?;
+    text.push_str("\n")
 }
 
-// Appends a key that has no line of its own, and what it has to be.
-fn write_missing(name: &str, values: &str, text: &mut String) -> Result<(), AllocError>
-    ensures { OnOk result (string_bytes text.new ≡ string_bytes text.old ++ spec.missing_words name.now values.now) }
+// Appends a key and what it has to be.
+#[tactic(auto, unfolding(crate::specs::FaultLines::rule_words))]
+fn write_rule(row: &KeyRow, text: &mut String) -> Result<(), AllocError>
+    ensures { OnOk result (string_bytes text.new ≡ string_bytes text.old ++ spec.rule_words (view row.now)) }
 {
-    write!(
-        text,
-        "{name} is missing, or not on a line of its own: it has to be {values}\n"
-    )
+    write_said(" has to be ", row, text)
 }
 
 // Appends what a key has to be, if it is on no line of the text, or the description has no text.
-fn write_absent(
-    textless: bool,
-    name: &str,
-    values: &str,
-    text: &mut String,
-) -> Result<(), AllocError>
-    ensures { OnOk result (string_bytes text.new
-        ≡ string_bytes text.old ++ spec.absent_words textless name.now values.now) }
+#[tactic(auto, unfolding(crate::specs::FaultLines::missing_words))]
+fn write_absent(textless: bool, row: &KeyRow, text: &mut String) -> Result<(), AllocError>
+    ensures { OnOk result (string_bytes text.new ≡ string_bytes text.old ++ spec.absent_words textless (view row.now)) }
 {
     if textless {
-        write_rule(name, values, text)
+        write_rule(row, text)
     } else {
-        write_missing(name, values, text)
+        write_said(
+            " is missing, or not on a line of its own: it has to be ",
+            row,
+            text,
+        )
     }
 }
 
-// Appends the line of a key of a table.
+// Appends the line of a key of a part, of the one with a number in its array.
 #[tactic(auto, unfolding(crate::specs::FaultLines::key_line, crate::specs::FaultLines::row_line))]
-fn write_key(
+fn write_key(lines: &[&str], row: &KeyRow, item: usize, text: &mut String) -> Result<(), AllocError>
+    ensures { OnOk result (string_bytes text.new ≡ string_bytes text.old
+        ++ spec.key_line (map (λ s. s.now) lines.now) (view row.now) item) }
+{
+    match row_of(row.0, item, row.2, lines) {
+        Some(place) => {
+            write_row(Some(place), text)?;
+            write_table(row.0, item, text)?;
+            write_rule(row, text)
+        }
+        None => {
+            write_table(row.0, item, text)?;
+            write_absent(lines.is_empty(), row, text)
+        }
+    }
+}
+
+// Appends that an array of tables has too many tables.
+fn write_most(most: usize, name: &str, text: &mut String) -> Result<(), AllocError>
+    ensures { OnOk result (string_bytes text.new ≡ string_bytes text.old ++ spec.most_words most name.now) }
+{
+    write!(text, "expected at most {most} [[{name}]] tables\n")
+}
+
+// Appends that an array of tables has too few or too many tables.
+fn write_some(least: usize, most: usize, name: &str, text: &mut String) -> Result<(), AllocError>
+    ensures { OnOk result (string_bytes text.new ≡ string_bytes text.old ++ spec.some_words least most name.now) }
+{
+    write!(text, "expected {least} to {most} [[{name}]] tables\n")
+}
+
+// Appends how many tables of an array are expected.
+fn write_tables(least: usize, most: usize, name: &str, text: &mut String) -> Result<(), AllocError>
+    ensures { OnOk result (string_bytes text.new ≡ string_bytes text.old ++ spec.tables_words least most name.now) }
+{
+    if least == 0 {
+        write_most(most, name, text)
+    } else {
+        write_some(least, most, name, text)
+    }
+}
+
+// Appends the line of a key's row, of the table with a number in its array.
+#[tactic(auto, unfolding(crate::specs::FaultLines::kind_line, crate::specs::FaultLines::kind_line_by))]
+fn write_kind(
     lines: &[&str],
-    table: KeyTable,
-    words: KeyWords,
+    row: &KeyRow,
+    item: usize,
     text: &mut String,
 ) -> Result<(), AllocError>
     ensures { OnOk result (string_bytes text.new ≡ string_bytes text.old
-        ++ spec.key_line (map (λ s. s.now) lines.now) table (words.entry.0.now, words.entry.1.now)) }
+        ++ spec.kind_line (map (λ s. s.now) lines.now) (view row.now) item) }
 {
-    let (name, values) = words;
-    match row_of(table, name, lines) {
-        Some(row) => {
-            write_row(Some(row), text)?;
-            write_table(table, text)?;
-            write_rule(name, values, text)
-        }
-        None => {
-            write_table(table, text)?;
-            write_absent(lines.is_empty(), name, values, text)
-        }
+    match row.3 {
+        KeyKind::OneTable => write_rule(row, text),
+        KeyKind::Tables(least, most) => write_tables(least, most, row.2, text),
+        _ => write_key(lines, row, item, text),
+    }
+}
+
+// Appends the line of the key whose refusal has this number.
+#[tactic(auto, unfolding(crate::specs::FaultLines::code_line))]
+fn write_code(lines: &[&str], code: u8, item: usize, text: &mut String) -> Result<(), AllocError>
+    ensures { OnOk result (string_bytes text.new ≡ string_bytes text.old
+        ++ spec.code_line (map (λ s. s.now) lines.now) (key_of code) item) }
+{
+    match keys::row_of(code) {
+        None => Ok(()),
+        Some(row) => write_kind(lines, row, item, text),
     }
 }
 
@@ -81,25 +130,7 @@ pub fn write_fault(lines: &[&str], fault: DescFault, text: &mut String) -> Resul
     match fault {
         DescFault::Text => text.push_str("the description is not valid TOML\n"),
         DescFault::UnknownKey => text.push_str("unknown key\n"),
-        DescFault::Top(key) => write_key(lines, KeyTable::Document, top_words(key), text),
-        DescFault::Network => text.push_str("network has to be a table\n"),
-        DescFault::NetworkKey(key) => write_key(lines, KeyTable::Network, network_words(key), text),
-        DescFault::Programs => text.push_str("expected 1 to 16 [[program]] tables\n"),
-        DescFault::Program(key, item) => {
-            write_key(lines, KeyTable::Program(item), program_words(key), text)
-        }
-        DescFault::Streams => text.push_str("expected at most 32 [[stream]] tables\n"),
-        DescFault::Stream(key, item) => {
-            write_key(lines, KeyTable::Stream(item), stream_words(key), text)
-        }
-        DescFault::Events => text.push_str("expected at most 256 [[event]] tables\n"),
-        DescFault::Event(key, item) => {
-            write_key(lines, KeyTable::Event(item), event_words(key), text)
-        }
-        DescFault::Tables => text.push_str("expected at most 16 [[table]] tables\n"),
-        DescFault::Table(key, item) => {
-            write_key(lines, KeyTable::Private(item), table_words(key), text)
-        }
+        DescFault::Key(code, item) => write_code(lines, code, item, text),
         DescFault::EqualPids => write_equal(lines, EqualKeys::Pids, text),
         DescFault::EqualNumbers => write_equal(lines, EqualKeys::Numbers, text),
         DescFault::EventOrder(item) => write!(

@@ -1,136 +1,40 @@
 //! The first key or table of a text that no description has.
 
-ghost use Rattle.std.specs.Prelude.{◌≡◌, ◌+◌, ◌++◌, IfOk, OnOk, [], drop, map, option_map, string_bytes};
-ghost use Rattle.std.specs.List.{list_any};
-ghost use Rattle.std.specs.Str.{bytes_eq};
+ghost use Rattle.std.specs.Prelude.{◌≡◌, ◌+◌, ◌++◌, IfOk, OnOk, [], map, option_map, string_bytes};
+ghost use Rattle.description_keys.specs.KeyRows.{rule_of, view};
+ghost use Rattle.description_keys.specs.Rules.{names_in};
 ghost use Rattle.word_faults.specs.Hints.{nearest as nearest_of};
 ghost use Rattle.diagnosis.specs.UnknownWords as spec;
 
 use crate::equal_keys::first_word;
 use crate::key_places::{begins, unindented, write_row};
+use description_keys::keys::keys;
+use description_keys::known_keys::is_known;
+use description_keys::{KeyPart, KeyRow};
 use std::alloc::{AllocError, Global};
 use std::fmt::Write;
 use std::str;
 use word_faults::nearest;
 
-/// The tables of a description by their heads.
-#[derive(Clone, Copy)]
-pub(crate) enum Head {
-    Document,
-    Network,
-    Program,
-    Stream,
-    Event,
-    Private,
-    Unknown,
-}
+/// The number of a line, from 1, the line, and the part that it is in; no part if its head is unknown.
+type UnknownRow<'a> = (usize, &'a str, Option<KeyPart>);
 
-/// The number of a line, from 1, the line, and the table that it is in; a head itself is in no table.
-type UnknownRow<'a> = (usize, &'a str, Head);
-
-// Returns the keys of a table.
-#[tactic(auto, unfolding(crate::specs::UnknownWords::names_of))]
-fn names_of(head: Head) -> &'static [&'static str]
-    ensures { map (λ s. s.now) result.now ≡ spec.names_of head }
-{
-    match head {
-        Head::Document => &[
-            "rate",
-            "start",
-            "base0",
-            "ts_id",
-            "original_network_id",
-            "sdt",
-            "tdt",
-            "network",
-            "program",
-            "stream",
-            "event",
-            "table",
-        ],
-        Head::Network => &["id", "name", "descriptors"],
-        Head::Program => &[
-            "number",
-            "pmt_pid",
-            "pcr_pid",
-            "pcr_limit",
-            "descriptors",
-            "service_type",
-            "provider",
-            "name",
-        ],
-        Head::Stream => &[
-            "program",
-            "pid",
-            "id",
-            "type",
-            "interval",
-            "size",
-            "lead",
-            "rx",
-            "main",
-            "tag",
-            "language",
-            "descriptors",
-            "group",
-            "group_packets",
-            "burst_packets",
-            "pace",
-            "shared_with",
-            "rbx",
-            "mb",
-            "frames",
-            "frame",
-            "frame_size",
-            "pts_limit",
-        ],
-        Head::Event => &[
-            "program", "id", "start", "duration", "language", "name", "text",
-        ],
-        Head::Private => &[
-            "pid",
-            "limit",
-            "sections",
-            "program",
-            "stream_type",
-            "descriptors",
-        ],
-        Head::Unknown => &[
-            "[network]",
-            "[[program]]",
-            "[[stream]]",
-            "[[event]]",
-            "[[table]]",
-        ],
-    }
-}
-
-// Returns the table of a head.
-fn head_on(word: &[u8]) -> Head
-    ensures { result ≡ spec.head_on word.now }
+// Returns the part that a head begins, if a description has this head.
+fn part_on(word: &[u8]) -> Option<KeyPart>
+    ensures { result ≡ spec.part_on word.now }
 {
     if word == b"[network]".as_slice() {
-        Head::Network
+        Some(KeyPart::Network)
     } else if word == b"[[program]]".as_slice() {
-        Head::Program
+        Some(KeyPart::Program)
     } else if word == b"[[stream]]".as_slice() {
-        Head::Stream
+        Some(KeyPart::Stream)
     } else if word == b"[[event]]".as_slice() {
-        Head::Event
+        Some(KeyPart::Event)
     } else if word == b"[[table]]".as_slice() {
-        Head::Private
+        Some(KeyPart::Table)
     } else {
-        Head::Unknown
-    }
-}
-
-// Returns whether no description has this head.
-fn is_unknown_head(head: Head) -> bool
-    ensures { result ≡ spec.is_unknown_head head }
-{
-    match head {
-        Head::Unknown => true,
-        _ => false,
+        None
     }
 }
 
@@ -168,43 +72,30 @@ fn is_bare(word: &[u8]) -> bool
     }
 }
 
-fn is_one_of(names: &[&str], word: &[u8]) -> bool
-    ensures { result ≡ list_any (λ name. bytes_eq name.now word.now) names.now }
+// Returns whether a part has no key with the name of a word.
+fn has_unknown_key(part: KeyPart, word: &[u8]) -> bool
+    ensures { result ≡ spec.has_unknown_key part word.now }
 {
-    names.iter().any(|name| name.as_bytes() == word)
+    is_bare(word) && !is_known(part, word)
 }
 
-// Returns whether a word is among these names.
-fn is_among(names: &[&str], word: &[u8]) -> bool
-    ensures { result ≡ spec.is_among (map (λ s. s.now) names.now) word.now }
-{
-    is_one_of(names, word)
-}
-
-// Returns whether a line of a table has a key that is unknown in the table.
-fn has_unknown_key(head: Head, word: &[u8]) -> bool
-    ensures { result ≡ spec.has_unknown_key head word.now }
-{
-    is_bare(word) && !is_among(names_of(head), word)
-}
-
-// Returns the first line with a key or a head that no description has, of lines in the table of a head.
+// Returns the first line with a key or a head that no description has.
 #[tactic(auto, unfolding(crate::specs::UnknownWords::unknown_row))]
 fn unknown_row<'a>(lines: &[&'a str]) -> Option<UnknownRow<'a>>
     ensures { option_map (λ row. (row.0, (row.1.now, row.2))) result
         ≡ spec.unknown_row spec.document 1 (map (λ s. s.now) lines.now) }
 {
-    let mut head = Head::Document;
+    let mut part = KeyPart::Document;
     for i in 0..lines.len() {
         let line = lines[i];
         let word = word_on(line);
         if begins(line.as_bytes(), b"[") {
-            head = head_on(word);
-            if is_unknown_head(head) {
-                return Some((i + 1, line, head));
+            match part_on(word) {
+                None => return Some((i + 1, line, None)),
+                Some(next) => part = next,
             }
-        } else if has_unknown_key(head, word) {
-            return Some((i + 1, line, head));
+        } else if has_unknown_key(part, word) {
+            return Some((i + 1, line, Some(part)));
         }
     }
     None
@@ -223,6 +114,42 @@ fn copies_of(alloc: Global, names: &[&str]) -> Result<Vec<String>, AllocError>
     Ok(all)
 }
 
+// Copies of the names of a part's keys, among these rows.
+fn key_names(alloc: Global, part: KeyPart, rows: &[KeyRow]) -> Result<Vec<String>, AllocError>
+    ensures { IfOk result (λ all. map (λ s. string_bytes s) all.items
+        ≡ names_in part (map (λ row. rule_of (view row)) rows.now)) }
+{
+    let mut all = Vec::new(alloc);
+    for row in rows {
+        if row.0.is_part(part) {
+            let mut copy = String::new(alloc);
+            copy.push_str(row.2)?;
+            all.push(copy)?;
+        }
+    }
+    Ok(all)
+}
+
+// Copies of the names that may be meant in a part; of heads if there is no part.
+#[tactic(auto, unfolding(crate::specs::UnknownWords::names_of))]
+fn meant_names(alloc: Global, part: Option<KeyPart>) -> Result<Vec<String>, AllocError>
+    ensures { IfOk result (λ all. map (λ s. string_bytes s) all.items ≡ spec.names_of part) }
+{
+    match part {
+        None => copies_of(
+            alloc,
+            &[
+                "[network]",
+                "[[program]]",
+                "[[stream]]",
+                "[[event]]",
+                "[[table]]",
+            ],
+        ),
+        Some(part) => key_names(alloc, part, keys()),
+    }
+}
+
 // Appends the name that may be meant, and the end of the line.
 #[tactic(auto, unfolding(crate::specs::UnknownWords::meant_words))]
 fn write_meant(near: Option<&str>, text: &mut String) -> Result<(), AllocError>
@@ -235,28 +162,27 @@ fn write_meant(near: Option<&str>, text: &mut String) -> Result<(), AllocError>
     }
 }
 
-// Appends the nearest of these names, if one is near, and the end of the line.
+// Appends the nearest name that may be meant, if one is near, and the end of the line.
 fn write_near(
     alloc: Global,
-    names: &[&str],
+    part: Option<KeyPart>,
     word: &str,
     text: &mut String,
 ) -> Result<(), AllocError>
     ensures { OnOk result (string_bytes text.new ≡ string_bytes text.old
-        ++ spec.meant_words (nearest_of (map (λ s. s.now) names.now) word.now)) }
+        ++ spec.meant_words (nearest_of (spec.names_of part) word.now)) }
 {
-    let names = copies_of(alloc, names)?;
+    let names = meant_names(alloc, part)?;
     write_meant(nearest(alloc, &names, word)?, text)
 }
 
 // Returns the kind of an unknown word: a table, or a key.
-fn kind_of(head: Head) -> &'static str
-    ensures { result.now ≡ spec.kind_of head }
+fn kind_of(part: Option<KeyPart>) -> &'static str
+    ensures { result.now ≡ spec.kind_of part }
 {
-    if is_unknown_head(head) {
-        "unknown table "
-    } else {
-        "unknown key "
+    match part {
+        None => "unknown table ",
+        Some(_) => "unknown key ",
     }
 }
 
@@ -269,11 +195,16 @@ fn write_pair(kind: &str, word: &str, text: &mut String) -> Result<(), AllocErro
 }
 
 // Appends an unknown word, and the name that may be meant.
-fn write_named(alloc: Global, head: Head, word: &str, text: &mut String) -> Result<(), AllocError>
-    ensures { OnOk result (string_bytes text.new ≡ string_bytes text.old ++ spec.named_words head word.now) }
+fn write_named(
+    alloc: Global,
+    part: Option<KeyPart>,
+    word: &str,
+    text: &mut String,
+) -> Result<(), AllocError>
+    ensures { OnOk result (string_bytes text.new ≡ string_bytes text.old ++ spec.named_words part word.now) }
 {
-    write_pair(kind_of(head), word, text)?;
-    write_near(alloc, names_of(head), word, text)
+    write_pair(kind_of(part), word, text)?;
+    write_near(alloc, part, word, text)
 }
 
 // Appends that a key is unknown.
@@ -284,11 +215,16 @@ fn write_unnamed(text: &mut String) -> Result<(), AllocError>
 }
 
 // Appends the line for the bytes of an unknown word.
-fn write_word(alloc: Global, head: Head, word: &[u8], text: &mut String) -> Result<(), AllocError>
-    ensures { OnOk result (string_bytes text.new ≡ string_bytes text.old ++ spec.word_words head word.now) }
+fn write_word(
+    alloc: Global,
+    part: Option<KeyPart>,
+    word: &[u8],
+    text: &mut String,
+) -> Result<(), AllocError>
+    ensures { OnOk result (string_bytes text.new ≡ string_bytes text.old ++ spec.word_words part word.now) }
 {
     match str::from_utf8(word) {
-        Ok(word) => write_named(alloc, head, word, text),
+        Ok(word) => write_named(alloc, part, word, text),
         Err(_) => write_unnamed(text),
     }
 }
@@ -302,9 +238,9 @@ pub(crate) fn write_unknown(
     ensures { OnOk result (string_bytes text.new
         ≡ string_bytes text.old ++ spec.unknown_line (map (λ s. s.now) lines.now)) }
 {
-    let Some((number, line, head)) = unknown_row(lines) else {
+    let Some((number, line, part)) = unknown_row(lines) else {
         return write_unnamed(text);
     };
     write_row(Some((number, line)), text)?;
-    write_word(alloc, head, word_on(line), text)
+    write_word(alloc, part, word_on(line), text)
 }

@@ -15,16 +15,14 @@ use Rattle.description_parts.specs.Described.{Described, DescribedStream}
 use Rattle.description_parts.specs.Contents.{described, described_stream}
 use Rattle.description.specs.Reading.{description_of, fault}
 use Rattle.description_parts.specs.Consistency.{joint_fault}
-use Rattle.description_values.specs.KnownKeys.{first_refused}
-use Rattle.description_keys.specs.Refusals.{key_fault, stream_keys, streams_of}
-use Rattle.description_keys.specs.StreamKeys.{refuses_stream, refuses_rbx, refuses_mb, refuses_frames, refuses_frame, refuses_frame_size, stream_multiplexing}
+use Rattle.description_keys.specs.Refusals.{key_fault, streams_of}
+use Rattle.description_keys.specs.StreamKeys.{refuses_rbx, refuses_mb, refuses_frames, refuses_frame, refuses_frame_size, stream_multiplexing}
 use Rattle.description_keys.specs.StreamKeys.{stream_framing, greatest_rbx, greatest_frame, stream_size}
-use Rattle.description_values.specs.Values.{elements, elements_in, integer_in, list_of, tables_at}
+use Rattle.description_values.specs.Values.{elements, elements_in, integer_in, list_of}
 use Rattle.description_keys.specs.declared.fault.DescFault.{DescFault}
-use Rattle.description_keys.specs.declared.fault.DescFault.TheVariants.{Streams, Stream}
 use Rattle.description_keys.specs.declared.fault.DescError.{DescError}
 use Rattle.description_keys.specs.declared.fault.DescError.TheVariants.{Refused}
-use Rattle.description_parts.proofs.Counts.{AllAccept, all_accept, if_none, map_none, no_fault, or_none}
+use Rattle.description_parts.proofs.Counts.{no_fault, or_none}
 use Rattle.job_text.specs.DescriptionParts.{EventPartView, HeadingView, NetworkPartView, ProgramPartView, StreamPartView, TablePartView}
 use Rattle.job_text.specs.Documents.{document, elements_of, event_table, network_table, program_table, stream_table, table_table, stream_members, stream_rest}
 use Rattle.job_text.specs.Documents.{with_table, with_tables}
@@ -273,13 +271,6 @@ read_ok : (d e : Described) (o : Option DescFault) → Ok d ≡ (elim o as (λ _
 read_ok d e None is = (refl, cc)
 read_ok d e (Some f) is = absurd (cc)
 
-accepted : (d : Data) → key_fault d ≡ None → AllAccept (λ key. refuses_stream key d) stream_keys (streams_of d)
-accepted d h =
-    let arrays = if_none (tables_at true (codes "stream") 0 32 d)
-    (option_map (λ p. Stream p.0 p.1) (first_refused (λ key. refuses_stream key d) stream_keys (streams_of d))) Streams (no_fault d h).stream in
-    all_accept (λ key. refuses_stream key d) stream_keys (streams_of d)
-    (map_none (λ p. Stream p.0 p.1) (first_refused (λ key. refuses_stream key d) stream_keys (streams_of d)) arrays.1)
-
 -- The keys of a buffer and of access units are not refused.
 record KeysTaken (ds : List Data) : Type 0 where
   rbx : All (λ d. refuses_rbx d ≡ false) ds
@@ -290,7 +281,7 @@ record KeysTaken (ds : List Data) : Type 0 where
 
 keys_taken : (d : Data) → key_fault d ≡ None → KeysTaken (streams_of d)
 keys_taken d h =
-    let last = (accepted d h).1.1.1.1.1.1.1.1.1.1.1.1.1.1.1.1.1 in
+    let last = (no_fault d h).stream.1.1.1.1.1.1.1.1.1.1.1.1.1.1.1.1.1 in
     record { rbx = last.0; mb = last.1.0; frames = last.1.1.0; frame = last.1.1.1.0; frame_size = last.1.1.1.1.0 }
 
 stream_has : (p : StreamPartView) → let d : Data = table (stream_table p) in

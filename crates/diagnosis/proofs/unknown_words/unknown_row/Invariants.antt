@@ -4,4 +4,4 @@ use Rattle.diagnosis.proofs.unknown_words.unknown_row.Given as goal
 
 abbrev pub invariant-loop-i : goal.invariant-loop-i
 invariant-loop-i l =
-    unknown_row document 1 (map (λ s. s.now) l.lines) ≡ unknown_row l.head (l.i + 1) (map (λ s. s.now) (drop l.i l.lines))
+    unknown_row document 1 (map (λ s. s.now) l.lines) ≡ unknown_row l.part (l.i + 1) (map (λ s. s.now) (drop l.i l.lines))
