@@ -103,7 +103,9 @@ any-stream: binary tsjob ## Take streams of ffmpeg and GStreamer through tsjob a
 
 # `rt ci` runs every proof, each test, and each program as two compilers make it; then the prover refuses wrong bodies. As many checks run at
 # once as there are processors: without RT_JOBS `rt ci` would also wait for memory that a check may take, and no check takes as much (GATE).
+# Libraries of earlier runs are removed first: `rt ci` of rattle-kit-13b would put them back in place of those that it proves.
 test: ## The merge gate: all proofs and tests (docs/GATE.md).
+	rm -rf crates/*/out/rlib
 	RT_JOBS=$${RT_JOBS:-$$(nproc)} tools/gate-progress all rt ci
 	tools/try-edits --gate
 	tools/run-tests crates/tsmux/out/tsmux crates/tsjob/out/tsjob crates/tsair/out/tsair crates/tsview/out/tsview crates/tsremux/out/tsremux
@@ -119,7 +121,7 @@ check-docs: ## Check the documents: links, words of commands, claims, generated 
 	tools/gate-times --check
 	tools/plain-words
 
-edits: ## Try all wrong bodies, also those that the gate does not try (before a release).
+edits: ## Try all wrong bodies, also those that the gate does not try (after make test, before a release).
 	tools/try-edits
 
 # Needs python3 and cc.
