@@ -2,6 +2,7 @@
 
 ghost use Rattle.std.specs.Prelude.{◌≡◌, ◌+◌, ◌++◌, IfOk, OnOk, [], map, option_map, string_bytes};
 ghost use Rattle.description_keys.specs.KeyRows.{rule_of, view};
+ghost use Rattle.description_keys.specs.Refusals.{names_of as keys_of};
 ghost use Rattle.description_keys.specs.Rules.{names_in};
 ghost use Rattle.word_faults.specs.Hints.{nearest as nearest_of};
 ghost use Rattle.diagnosis.specs.UnknownWords as spec;
@@ -130,6 +131,13 @@ fn key_names(alloc: Global, part: KeyPart, rows: &[KeyRow]) -> Result<Vec<String
     Ok(all)
 }
 
+// Copies of the names of a part's keys.
+fn part_names(alloc: Global, part: KeyPart) -> Result<Vec<String>, AllocError>
+    ensures { IfOk result (λ all. map (λ s. string_bytes s) all.items ≡ keys_of part) }
+{
+    key_names(alloc, part, keys())
+}
+
 // Copies of the names that may be meant in a part; of heads if there is no part.
 #[tactic(auto, unfolding(crate::specs::UnknownWords::names_of))]
 fn meant_names(alloc: Global, part: Option<KeyPart>) -> Result<Vec<String>, AllocError>
@@ -146,7 +154,7 @@ fn meant_names(alloc: Global, part: Option<KeyPart>) -> Result<Vec<String>, Allo
                 "[[table]]",
             ],
         ),
-        Some(part) => key_names(alloc, part, keys()),
+        Some(part) => part_names(alloc, part),
     }
 }
 
