@@ -1,16 +1,11 @@
-//! Worked services and plans, finished bytes, and refused memory. A helper that has no answer to give
-//! answers None.
+//! Worked services and plans, runs of the multiplexer, measured streams, and refused memory. A helper that has no
+//! answer to give answers None.
 
 mod airing;
-mod carrying;
 mod checks;
-mod descriptions;
-mod jobs;
-mod making;
 mod measuring;
 mod memory;
 mod plan_texts;
-mod records;
 mod runs;
 mod services;
 mod texts;
@@ -23,22 +18,6 @@ use switch_checker::{CheckedSwitch, check_switch};
 /// Returns the text with `other` in place of each `part`.
 fn edited(alloc: Global, text: &str, part: &str, other: &str) -> Option<String> {
     text.replace(alloc, part, other).ok()
-}
-
-/// Returns `before` and the text after it, once for each of these numbers, in place of the mark.
-fn repeated(
-    alloc: Global,
-    before: &str,
-    text: &str,
-    mark: &str,
-    numbers: &[&str],
-) -> Option<String> {
-    let mut whole = String::from_str(alloc, before).ok()?;
-    for number in numbers {
-        let part = edited(alloc, text, mark, number)?;
-        whole.push_str(part.as_str()).ok()?;
-    }
-    Some(whole)
 }
 
 fn described(alloc: Global, text: &str) -> Option<Description> {

@@ -1,13 +1,12 @@
 //! Records taken one by one: the answer to each and how many slots are then written, also for an input that holds them
-//! all; and whole runs, beside jobs of the same units, to writers that fail, and in little memory.
+//! all; and whole runs, beside jobs of the same units.
 
 use super::services::{ONE, SMALL, Series, units};
-use counted_io::{Counted, Failing};
+use counted_io::Counted;
 use held_input::{BufferedInput, HeldInput};
-use linked_list_allocator::LocalHeap;
-use mux_core::{NewError, multiplex_as};
+use mux_core::multiplex_as;
 use on_air::{Ending, Heard, OnAir, Terms};
-use std::alloc::{Allocator, Global};
+use std::alloc::Global;
 use std::io::BufReader;
 
 /// Stream, size and DTS of a record of equal bytes, presented at its DTS.
@@ -147,15 +146,9 @@ fn records_of(alloc: Global, series: &Series) -> Option<Vec<u8>> {
     Some(bytes)
 }
 
-fn begun<A: Allocator + Copy>(
-    global: Global,
-    given: A,
-    alloc: A,
-    terms: Terms,
-    hex: bool,
-) -> Option<Result<OnAir<A>, NewError>> {
-    let plan = SMALL.checked(global, given)?;
-    Some(OnAir::new(alloc, plan, terms, hex))
+fn begun(alloc: Global, terms: Terms, hex: bool) -> Option<OnAir> {
+    let plan = SMALL.checked(alloc, alloc)?;
+    OnAir::new(alloc, plan, terms, hex).ok()
 }
 
 fn is_answer(heard: Heard, wanted: &Answer) -> bool {
@@ -199,7 +192,7 @@ fn is_out(run: &Run, holds: bool, number: usize, answer: &Answer) -> bool {
 
 /// Returns whether each record of a run and its end answer what they have to.
 fn is_aired<R: HeldInput>(alloc: Global, run: &Run, holds: bool, input: &mut R) -> Option<bool> {
-    let mut air = begun(alloc, alloc, alloc, run.terms, false)?.ok()?;
+    let mut air = begun(alloc, run.terms, false)?;
     let mut written = Vec::new(alloc);
     let mut last = 0u64;
     for (number, (_, answer, slots)) in run.heard.iter().enumerate() {
@@ -233,30 +226,14 @@ fn records_are_heard(rt: HostRuntime) {
     }
 }
 
-/// Writes a whole run to a writer, and returns the bytes that it reports, if it fails.
-fn aired_to(
-    alloc: Global,
-    series: &Series,
-    hex: bool,
-    to: Failing<Vec<u8>>,
-) -> Option<(Option<u64>, Vec<u8>)> {
-    let bytes = records_of(alloc, series)?;
-    let mut air = begun(alloc, alloc, alloc, TERMS, hex)?.ok()?;
-    let mut input = Counted::new(bytes.as_slice());
-    let mut output = Counted::new(to);
-    let sent = match air.hear_on(alloc, &mut input, &mut output) {
-        Err(fault) => Some(fault.sent),
-        Ok(_) => air.end(&mut output).err().map(|fault| fault.sent),
-    };
-    Some((sent, output.into_inner().into_inner()))
-}
-
 fn aired(alloc: Global, series: &Series, hex: bool) -> Option<Vec<u8>> {
-    let to = Failing::after_calls(Vec::new(alloc), u64::MAX);
-    match aired_to(alloc, series, hex, to)? {
-        (None, written) => Some(written),
-        (Some(_), _) => None,
-    }
+    let bytes = records_of(alloc, series)?;
+    let mut air = begun(alloc, TERMS, hex)?;
+    let mut input = Counted::new(bytes.as_slice());
+    let mut output = Counted::new(Vec::new(alloc));
+    air.hear_on(alloc, &mut input, &mut output).ok()?;
+    air.end(&mut output).ok()?;
+    Some(output.into_inner())
 }
 
 /// Units, the slots that end with the last DTS, and whether packets are lines.
@@ -309,41 +286,5 @@ fn is_same(alloc: Global, series: &Series, slots: u64, hex: bool) -> Option<bool
 fn runs_air_what_jobs_have(rt: HostRuntime) {
     for (series, slots, hex) in &SAME {
         assert!(rt; is_same(rt.alloc(), series, *slots, *hex) == Some(true));
-    }
-}
-
-const TWENTY: Series = Series {
-    sizes: (100, 576),
-    count: 20,
-    ..ONE
-};
-
-/// Returns whether a writer that fails after this many bytes took just these of all.
-fn takes_front(alloc: Global, whole: &[u8], bytes: u64) -> Option<bool> {
-    let to = Failing::after_bytes(Vec::new(alloc), bytes);
-    let (sent, taken) = aired_to(alloc, &TWENTY, false, to)?;
-    Some(sent == Some(bytes) && taken.as_slice() == whole.get(..bytes as usize)?)
-}
-
-#[test]
-fn writers_fail(rt: HostRuntime) {
-    let whole = aired(rt.alloc(), &TWENTY, false).unwrap_or(Vec::new(rt.alloc()));
-    for part in 0..40u64 {
-        assert!(rt; takes_front(rt.alloc(), &whole, part * 2_111) == Some(true));
-    }
-}
-
-/// Returns whether a run is begun in a heap of this size beside its plan; None if the answer is neither that nor
-/// Memory.
-pub fn is_begun_in(global: Global, room: usize) -> Option<bool> {
-    let given = LocalHeap::new(global, 16_384).ok()?;
-    let heap = LocalHeap::new(global, room).ok()?;
-    match begun(global, &given, &heap, TERMS, false)? {
-        Ok(air) => {
-            drop(air);
-            Some(true)
-        }
-        Err(NewError::Memory) => Some(false),
-        Err(_) => None,
     }
 }

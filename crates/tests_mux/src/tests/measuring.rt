@@ -1,10 +1,11 @@
 //! Finished bytes of the small service measured in the decoder model: worked runs, and each refusal.
 
-use super::carrying::{NEVER, carried, push_record};
 use super::services::{ONE, Series, units};
 use super::texts::DESCRIPTION;
 use super::{changed, described, push_parts};
+use counted_io::Counted;
 use linked_list_allocator::LocalHeap;
+use mux_core::carry;
 use std::alloc::{Allocator, Global};
 use ts_packet::PacketError;
 use tstd::{Fullness, LateUnit, MeasureError, measure};
@@ -26,6 +27,23 @@ struct Run {
 enum Width {
     Wide,
     Narrow,
+}
+
+/// Stream, size, DTS and PTS of a unit.
+type Record = (u8, u32, u64, u64);
+
+/// Appends the record of a unit of equal bytes.
+fn push_record(bytes: &mut Vec<u8>, record: Record, byte: u8) -> bool {
+    let (stream, size, dts, pts) = record;
+    let stamps = [dts.to_be_bytes(), pts.to_be_bytes()];
+    if !push_parts(
+        bytes,
+        &[&[stream], &size.to_be_bytes(), &stamps[0], &stamps[1]],
+    ) {
+        return false;
+    }
+    let length = bytes.len().saturating_add(size as usize);
+    bytes.resize(length, byte).is_ok()
 }
 
 /// Appends the records of the units.
@@ -108,10 +126,24 @@ fn push_run(bytes: &mut Vec<u8>, packets: &[[u8; 188]], run: &Run) -> bool {
     true
 }
 
+/// Returns the packets of these records.
+fn carried(alloc: Global, records: &[u8]) -> Vec<u8> {
+    let mut output = Counted::new(Vec::new(alloc));
+    let _ = carry(
+        alloc,
+        256,
+        192,
+        false,
+        &mut Counted::new(records),
+        &mut output,
+    );
+    output.into_inner()
+}
+
 /// Returns the bytes of the run, before any is written over.
 fn sent(alloc: Global, run: &Run) -> Option<Vec<u8>> {
     let records = records(alloc, &run.sent)?;
-    let (_, units, _, _) = carried(alloc, alloc, &records, false, NEVER, NEVER);
+    let units = carried(alloc, &records);
     let (packets, _) = units.as_slice().as_chunks::<188>();
     let mut bytes = Vec::new(alloc);
     if push_run(&mut bytes, packets, run) {

@@ -1,8 +1,7 @@
 //! The text of a small plan, both ways, the limits of plans, and the greatest plan.
 
+use super::planned;
 use super::texts::PLAN;
-use super::{changed, planned};
-use linked_list_allocator::LocalHeap;
 use slot_plan::{
     Certificate, Item, Plan, PlanError, PlanTextError, ProgramEntry, Slot, StreamEntry, laws,
 };
@@ -37,41 +36,6 @@ fn reading(alloc: Global, text: &[u8]) -> Option<Result<Shape, u32>> {
         }
         Err(PlanTextError::Line(line)) => Some(Err(line)),
         Err(PlanTextError::Memory) => None,
-    }
-}
-
-#[test]
-fn each_cut_is_refused(rt: HostRuntime) {
-    let mut line = 1;
-    for (length, byte) in PLAN.as_bytes().iter().enumerate() {
-        let front = PLAN.as_bytes().get(..length).unwrap_or(&[]);
-        assert!(rt; reading(rt.alloc(), front) == Some(Err(line)));
-        if *byte == b'\n' {
-            line = line.saturating_add(1);
-        }
-    }
-}
-
-/// The values that a byte is changed to.
-static OTHER_BYTES: [u8; 11] = [
-    0, b'\n', b' ', b'-', b'0', b'1', b'9', b'S', 0x7f, 0x80, 0xff,
-];
-
-/// Returns whether each change of this byte of the plan is refused, or makes the text of another plan.
-fn are_changes_reported(alloc: Global, place: usize) -> Option<bool> {
-    for byte in &OTHER_BYTES {
-        let text = changed(alloc, PLAN.as_bytes(), place, *byte)?;
-        if reading(alloc, &text) == None {
-            return None;
-        }
-    }
-    Some(true)
-}
-
-#[test]
-fn each_change_is_reported(rt: HostRuntime) {
-    for place in 0..PLAN.len() {
-        assert!(rt; are_changes_reported(rt.alloc(), place) == Some(true));
     }
 }
 
@@ -210,38 +174,5 @@ static OWNERS: [(Item, Slot, bool); 8] = [
 fn owners(rt: HostRuntime) {
     for (item, slot, wanted) in &OWNERS {
         assert!(rt; item.owns(*slot) == *wanted);
-    }
-}
-
-/// Returns whether the small plan is read in a heap of this size; None if the answer is neither that nor Memory.
-pub fn is_read_in(global: Global, room: usize) -> Option<bool> {
-    let heap = LocalHeap::new(global, room).ok()?;
-    match Plan::read_text(&heap, PLAN.as_bytes()) {
-        Ok((plan, bytes)) => {
-            let slots = plan.slots().len();
-            drop(plan);
-            match (bytes, slots) {
-                (406, 120) => Some(true),
-                _ => None,
-            }
-        }
-        Err(PlanTextError::Memory) => Some(false),
-        Err(PlanTextError::Line(_)) => None,
-    }
-}
-
-/// Returns whether its text is written in a heap of this size; None if it is another text.
-pub fn is_written_in(global: Global, room: usize) -> Option<bool> {
-    let heap = LocalHeap::new(global, room).ok()?;
-    let plan = planned(global, PLAN)?;
-    let text = plan.write_text(&heap);
-    drop(plan);
-    match text {
-        Ok(text) => if text.as_str() == PLAN {
-            Some(true)
-        } else {
-            None
-        },
-        Err(_) => Some(false),
     }
 }
