@@ -6,6 +6,7 @@ ghost use Rattle.std.specs.Str.{bytes_eq};
 
 use crate::files::NamedFiles;
 use crate::halt::{Halt, report_halt};
+use crate::lines::report_text;
 use crate::output_files::OutputFiles;
 use crate::patient::Patient;
 use crate::watched::Watched;
@@ -15,12 +16,18 @@ use std::alloc::Global;
 use std::cell::Cell;
 use std::env;
 use std::fs::metadata;
-use std::io::{self, BufReader, Error, ErrorKind, IsTerminal, Stderr, Stdin, Stdout, Write};
+use std::io::{self, BufReader, Error, ErrorKind, IsTerminal, Read, Stderr, Stdin, Stdout, Write};
 use std::process::ExitCode;
 
 /// The room of the input's buffer, in bytes: as much as one call reads from a pipe. A read of as many bytes or more
 /// bypasses the buffer.
 const INPUT_ROOM: usize = 1 << 16;
+
+/// The report before the first read from a terminal, up to what is read.
+const AWAITED: &str = "standard input is a terminal: waiting for ";
+
+/// The report for bytes that would be written to a terminal.
+const SHOWN_BYTES: &str = "standard output is a terminal: name a file by > FILE\n";
 
 /// A program over any files, a reader that shows which bytes it holds, and two writers.
 pub trait Program {
@@ -38,6 +45,14 @@ pub trait Program {
     /// Writes the usage, and returns the exit status.
     fn report_usage<E: Sink>(faults: &mut E) -> u8
         ensures { result ≡ 2 };
+
+    /// Returns whether these words ask for bytes on standard output that are no text, and `run` does not refuse a
+    /// terminal itself.
+    fn writes_bytes(alloc: Global, words: &[&str]) -> bool;
+
+    /// Returns the name of what the program reads on standard input, and a line feed; none if it reports nothing before
+    /// it reads.
+    fn awaits(words: &[&str]) -> Option<&'static str>;
 }
 
 /// The writers of a process: the types say which is which.
@@ -92,6 +107,27 @@ impl Write for PipedFaults<'_> {
     }
 }
 
+/// Standard input. Before the first read from a terminal it reports what the program waits for.
+#[derive(Drop)]
+struct AwaitedInput<'a> {
+    inner: Patient<'a, Stdin>,
+    to: Counted<Stderr>,
+    note: Option<&'static str>,
+}
+
+impl Read for AwaitedInput<'_> {
+    ghost remaining = { λ _. None };
+
+    fn read(&mut self, buf: &mut [u8]) -> io::Result<usize> {
+        if let Some(note) = self.note {
+            report_text(&mut self.to, AWAITED);
+            report_text(&mut self.to, note);
+            self.note = None;
+        }
+        self.inner.read(buf)
+    }
+}
+
 /// Returns whether a call of a writer failed because its reader has gone away.
 fn is_broken(written: &io::Result<usize>) -> bool {
     match written {
@@ -137,18 +173,37 @@ fn input_size(rt: &HostRuntime) -> Option<u64> {
     }
 }
 
+/// Returns standard input, which reports what the program waits for if it is a terminal.
+fn awaited_input<'a>(rt: &'a HostRuntime, awaited: Option<&'static str>) -> AwaitedInput<'a> {
+    AwaitedInput {
+        inner: Patient::new(rt.stdin(), rt),
+        to: Counted::new(rt.stderr()),
+        note: if rt.stdin().is_terminal() {
+            awaited
+        } else {
+            None
+        },
+    }
+}
+
 /// Returns standard input, which shows its progress if the words ask for it and standard error is a terminal.
 fn input_of<'a>(
     rt: &'a HostRuntime,
     words: &[&str],
-) -> Watched<Patient<'a, Stdin>, Counted<Stderr>, &'a HostRuntime> {
-    let input = Patient::new(rt.stdin(), rt);
+    awaited: Option<&'static str>,
+) -> Watched<AwaitedInput<'a>, Counted<Stderr>, &'a HostRuntime> {
+    let input = awaited_input(rt, awaited);
     let to = Counted::new(rt.stderr());
     if ask_for_progress(words) && rt.stderr().is_terminal() {
         Watched::showing(input, to, rt, input_size(rt))
     } else {
         Watched::silent(input, to, rt)
     }
+}
+
+/// Returns whether these words ask for bytes that are no text, and standard output is a terminal.
+fn is_shown_bytes<P: Program>(rt: &HostRuntime, words: &[&str]) -> bool {
+    rt.stdout().is_terminal() && P::writes_bytes(rt.alloc(), words)
 }
 
 /// Returns the status of a program with the words of the command line.
@@ -165,7 +220,11 @@ fn status_of<P: Program, W: Write, E: Write>(rt: &HostRuntime, writers: &mut Wri
         Ok(texts) => texts,
         Err(_) => return report_halt(&mut writers.faults, Halt::Memory),
     };
-    let input = input_of(rt, &texts);
+    if is_shown_bytes::<P>(rt, &texts) {
+        report_text(&mut writers.faults, SHOWN_BYTES);
+        return 2;
+    }
+    let input = input_of(rt, &texts, P::awaits(&texts));
     let Ok(reader) = BufReader::with_capacity(rt.alloc(), INPUT_ROOM, input) else {
         return report_halt(&mut writers.faults, Halt::Memory);
     };

@@ -24,7 +24,7 @@ mod unfinished;
 mod watched;
 mod whole_input;
 
-pub use files::NamedFiles;
+pub use files::{FileFault, NamedFiles};
 pub use halt::{Halt, report_halt};
 pub use host::{Program, run_program, run_reporting_program};
 pub use lines::{report_line, report_text, write_bytes, write_line, write_text};

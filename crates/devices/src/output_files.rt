@@ -1,6 +1,7 @@
 //! Files that are written by name, and what standard output is.
-ghost use Rattle.std.specs.Prelude.{◌≡◌, ℕ, List, [], None, Some, Option, Bool, IfSome, is_some};
-ghost use Rattle.devices.specs.Files.{IsAsKnown};
+ghost use Rattle.std.specs.Prelude.{◌≡◌, ℕ, List, [], None, Some, Option, Bool, IfOk};
+ghost use Rattle.devices.specs.Files.{IsAsKnown, fault_of};
+ghost use Rattle.devices.specs.declared.files.FileFault.{FileFault};
 
 use crate::files::FileFault;
 use crate::unfinished::{is_named, new_unfinished};
@@ -14,8 +15,8 @@ use std::os::unix::fs::MetadataExt;
 pub trait OutputFiles {
     type Writer: Sink + Drop;
 
-    // Whether a file of a name can be created, if that is known.
-    ghost creates: { Self → List ℕ → Option Bool };
+    // Why a file of a name can't be created, or that it can, if that is known.
+    ghost creates: { Self → List ℕ → Option (Option FileFault) };
 
     // Whether a new file can be given a name, if that is known.
     ghost keeps: { Self → List ℕ → Option Bool };
@@ -23,11 +24,11 @@ pub trait OutputFiles {
     // Whether standard output is a terminal, if that is known.
     ghost shows: { Self → Option Bool };
 
-    /// Returns a writer of a new file that is to have this name; none if it can't be created.
-    fn create_named(&self, name: &str) -> Option<Self::Writer>
-        ensures empty { IfSome result (λ writer. (bytes : List ℕ) →
+    /// Returns a writer of a new file that is to have this name, or why it can't be created.
+    fn create_named(&self, name: &str) -> Result<Self::Writer, FileFault>
+        ensures empty { IfOk result (λ writer. (bytes : List ℕ) →
             Self.Writer.contents writer ≡ Some bytes → bytes ≡ []) }
-        ensures creates { IsAsKnown (creates self.now name.now) (is_some result) };
+        ensures creates { IsAsKnown (creates self.now name.now) (fault_of result) };
 
     /// Gives a new file its name, in place of a file that had it. Returns whether it has the name now.
     fn keep_file(&self, name: &str, writer: Self::Writer) -> bool
@@ -135,10 +136,10 @@ impl OutputFiles for HostRuntime {
 
     ghost shows = { λ _. None };
 
-    fn create_named(&self, name: &str) -> Option<Counted<NewFile>> {
+    fn create_named(&self, name: &str) -> Result<Counted<NewFile>, FileFault> {
         match create_new(self, name) {
-            Ok(file) => Some(Counted::new(file)),
-            Err(_) => None,
+            Ok(file) => Ok(Counted::new(file)),
+            Err(fault) => Err(fault),
         }
     }
 

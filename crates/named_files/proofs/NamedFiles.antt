@@ -12,6 +12,7 @@ use Rattle.devices.specs.declared.halt.Halt.{Halt}
 use Rattle.devices.specs.declared.halt.Halt.TheVariants as halt
 use Rattle.devices.proofs.NamedReaders.{is_unread}
 use Rattle.named_files.specs.ReadFiles.{HasBytes, HaveBytes, StopsAt, StopsAtOne, ReportsUnreadFile}
+use Rattle.devices.specs.declared.files.FileFault.{FileFault}
 use Rattle.named_files.specs.Reports.{ReportsText, uncreated_text, unopened_text, unwritten_text}
 use Rattle.named_files.specs.Saving.{Keeps, SavesFile}
 
@@ -118,28 +119,18 @@ has_bytes files name bytes input opened same whole = (opened, subst (λ (k : Opt
 pub known_as : (keeps : Option Bool) (b b' : Bool) → IsAsKnown keeps b → b ≡ b' → IsAsKnown keeps b'
 known_as keeps b b' known is = subst (λ (c : Bool). IsAsKnown keeps c) is known
 
-pub saved : (creates keeps : Option Bool) (name bytes : List ℕ) (ended : ℕ) (file faults : Device) (status : ℕ) → IsAsKnown creates true →
-    ((xs : List ℕ) → file.before.bytes ≡ Some xs → xs ≡ []) →
-    Takes file bytes × IsClean file → Keeps keeps name ended faults status → SavesFile creates keeps name bytes ended faults status
-saved creates keeps name bytes ended file faults status created empty written kept =
-    inl (record { file = file; new = record { created = created; empty = empty }; written = written.0; clean = written.1; kept = kept })
+pub saved : (keeps : Option Bool) (known : Option (List ℕ)) (name bytes : List ℕ) (ended : ℕ) (file faults : Device) (status : ℕ) →
+    Takes file bytes × IsClean file → Keeps keeps name ended faults status → file.before.bytes ≡ known →
+    SavesFile keeps known name bytes ended faults status
+saved keeps known name bytes ended file faults status written kept begins =
+    inl (record { file = file; begins = begins; written = written.0; clean = written.1; kept = kept })
 
-pub removed : (creates keeps : Option Bool) (name bytes : List ℕ) (ended : ℕ) (file faults : Device) (status : ℕ) → IsAsKnown creates true →
-    ((xs : List ℕ) → file.before.bytes ≡ Some xs → xs ≡ []) →
-    Stopped bytes file → HasFailed file → ReportsText name unwritten_text faults → status ≡ 3 → SavesFile creates keeps name bytes ended faults status
-removed creates keeps name bytes ended file faults status created empty stopped failed reports_text is =
-    inr (inl (record {
-      file = file;
-      new = record { created = created; empty = empty };
-      stopped = stopped;
-      failed = failed;
-      reports_text =
-          reports_text;
-      status_is = is;
-    }))
+pub removed : (keeps : Option Bool) (known : Option (List ℕ)) (name bytes : List ℕ) (ended : ℕ) (file faults : Device) (status : ℕ) →
+    Stopped bytes file × HasFailed file → ReportsText name unwritten_text faults → status ≡ 3 → file.before.bytes ≡ known →
+    SavesFile keeps known name bytes ended faults status
+removed keeps known name bytes ended file faults status stopped reports_text is begins =
+    inr (record { file = file; begins = begins; stopped = stopped.0; failed = stopped.1; reports_text = reports_text; status_is = is })
 
-pub uncreated : (creates keeps : Option Bool) (name bytes : List ℕ) (ended : ℕ) (faults : Device) (status : ℕ) → IsAsKnown creates false →
-    ReportsText name uncreated_text faults → status ≡ 3 →
-    SavesFile creates keeps name bytes ended faults status
-uncreated creates keeps name bytes ended faults status none reports_text is =
-    inr (inr (record { uncreated = none; reports_text = reports_text; status_is = is }))
+pub reports_uncreated : (name : List ℕ) (fault known : FileFault) (faults : Device) → fault ≡ known → ReportsText name (uncreated_text known) faults →
+    ReportsText name (uncreated_text fault) faults
+reports_uncreated name fault known faults is reports_text = subst (λ (f : FileFault). ReportsText name (uncreated_text f) faults) (sym is) reports_text

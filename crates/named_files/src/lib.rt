@@ -1,7 +1,7 @@
 //! Files that a command line names.
 //!
-//! `read_files` returns the bytes of files, one after another (`specs/ReadFiles`); `save_file` writes a file whole or
-//! not at all (`specs/Saving`). `reports` names a file and its fault (`specs/Reports`).
+//! `read_files` returns the bytes of files, one after another (`specs/ReadFiles`); `save_file` writes a new file
+//! whole or not at all (`specs/Saving`). `reports` names a file and its fault (`specs/Reports`).
 #![tactic(auto)]
 
 mod reading;
@@ -10,4 +10,4 @@ mod saving;
 
 pub use reading::read_files;
 pub use reports::{TERMINAL, report_of};
-pub use saving::save_file;
+pub use saving::{report_uncreated, save_file};

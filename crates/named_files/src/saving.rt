@@ -1,10 +1,27 @@
 //! A file that is written whole or not at all.
+ghost use Rattle.std.specs.Prelude.{◌≡◌};
 ghost use Rattle.devices.specs.Devices.{writes};
+ghost use Rattle.named_files.specs.Reports.{ReportsText, uncreated_text};
 ghost use Rattle.named_files.specs.Saving as spec;
 
 use crate::reports::report_of;
 use counted_io::Sink;
-use devices::{OutputFiles, write_bytes};
+use devices::{FileFault, OutputFiles, write_bytes};
+
+/// Reports why the file of a name can't be created, and returns the status.
+pub fn report_uncreated<E: Sink>(name: &str, fault: FileFault, faults: &mut E) -> u8
+    ensures reports_text { ReportsText name.now (uncreated_text fault) (writes E.Sink faults.old faults.new) }
+    ensures status { result ≡ 3 }
+{
+    match fault {
+        FileFault::Missing => report_of(name, ": can't be created: no such folder\n", faults),
+        FileFault::Denied => report_of(name, ": can't be created: no permission\n", faults),
+        FileFault::Folder => report_of(name, ": can't be created: is a folder\n", faults),
+        FileFault::Busy => report_of(name, ": another run writes it\n", faults),
+        FileFault::Other => report_of(name, ": can't be created\n", faults),
+    }
+    3
+}
 
 // Gives a new file its name; if that fails, reports it. Returns the status.
 fn keep<F: OutputFiles, E: Sink>(
@@ -23,22 +40,20 @@ fn keep<F: OutputFiles, E: Sink>(
     3
 }
 
-/// Writes bytes to a file of this name, whole or not at all, and returns `ended`; or reports the file's fault, and
+/// Writes bytes to a new file, gives it this name, and returns `ended`; or removes the file, reports its fault, and
 /// returns 3.
 pub fn save_file<F: OutputFiles, E: Sink>(
     files: &F,
+    file: F::Writer,
     name: &str,
     bytes: &[u8],
     ended: u8,
     faults: &mut E,
 ) -> u8
-    ensures { spec.SavesFile (F.creates files.now name.now) (F.keeps files.now name.now) name.now bytes.now ended
+    ensures { spec.SavesFile (F.keeps files.now name.now) (F.Writer.contents file) name.now bytes.now ended
         (writes E.Sink faults.old faults.new) result }
 {
-    let Some(mut file) = files.create_named(name) else {
-        report_of(name, ": can't be created\n", faults);
-        return 3;
-    };
+    let mut file = file;
     match write_bytes(bytes, &mut file) {
         Ok(()) => keep(files, file, name, ended, faults),
         Err(_) => {

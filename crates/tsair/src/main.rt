@@ -8,7 +8,7 @@ use devices::{NamedFiles, Program, run_program};
 use held_input::HeldInput;
 use std::alloc::Global;
 use std::process::ExitCode;
-use tsair_cli::{report_usage, run};
+use tsair_cli::{report_usage, run, writes_bytes};
 
 struct Tsair;
 
@@ -26,6 +26,21 @@ impl Program for Tsair {
 
     fn report_usage<E: Sink>(faults: &mut E) -> u8 {
         report_usage(faults)
+    }
+
+    fn writes_bytes(alloc: Global, words: &[&str]) -> bool {
+        match writes_bytes(alloc, words) {
+            Ok(is) => is,
+            Err(_) => false,
+        }
+    }
+
+    fn awaits(words: &[&str]) -> Option<&'static str> {
+        if words.iter().any(|word| *word == "--unframe") {
+            Some("frames of unit records\n")
+        } else {
+            Some("a job\n")
+        }
     }
 }
 

@@ -1,5 +1,5 @@
 -- What the command line asks for.
-use Rattle.std.specs.Prelude.{ℕ, Bool, List, Option, Some, codes, map, option_and_then}
+use Rattle.std.specs.Prelude.{ℕ, Bool, false, not, ◌||◌, List, Option, Some, None, codes, map, option_and_then}
 use Rattle.std.specs.Borrow.{Bor}
 use Rattle.clap.specs.Words.{Row, Text, first_of}
 use Rattle.devices.specs.Options.{is_given}
@@ -41,3 +41,11 @@ asked_in words = option_and_then options_of (given_options (codes "tsair") optio
 -- the same of words in memory
 abbrev pub asked : List (Bor (List ℕ)) → Option AirOptions
 asked words = asked_in (map (λ s. s.now) words)
+
+-- bytes are written that are no text: records, or packets that are not lines of digits
+abbrev pub are_bytes : Option AirOptions → Bool
+are_bytes None = false
+are_bytes (Some options) = options.unframe || not options.hex
+
+abbrev pub writes_bytes : List (Bor (List ℕ)) → Bool
+writes_bytes words = are_bytes (asked words)

@@ -71,3 +71,13 @@ pub(crate) fn read_arguments(
         None => Ok(None),
     }
 }
+
+/// Returns whether the words ask for bytes that are no text: records, or packets that are not lines of digits.
+pub fn writes_bytes(alloc: Global, words: &[&str]) -> Result<bool, AllocError>
+    ensures { IfOk result (λ is. is ≡ spec.writes_bytes words.now) }
+{
+    match read_arguments(alloc, words)? {
+        Some(options) => Ok(options.unframe || !options.hex),
+        None => Ok(false),
+    }
+}

@@ -14,4 +14,5 @@ mod hearing;
 mod options;
 mod program;
 
+pub use arguments::writes_bytes;
 pub use program::{report_usage, run};

@@ -5,9 +5,12 @@ use Rattle.word_faults.specs.CommandLine.{Text}
 use Rattle.word_faults.specs.SortedWords.{are_taken}
 use Rattle.word_faults.specs.UsageReport.{AnswersWords}
 use Rattle.devices.specs.Devices.{Device, IsUntouched, Port, between}
-use Rattle.devices.specs.Files.{Files}
-use Rattle.tsjob_cli.specs.Command.{Answers, Commands, LacksWords, Outputs, PerformsWords, Saves, ToFile, WritesTo, explains_files, known_words, output_file}
-use Rattle.tsjob_cli.specs.Command.{words_but_output}
+use Rattle.devices.specs.Files.{Files, IsAsKnown}
+use Rattle.devices.specs.declared.files.FileFault.{FileFault}
+use Rattle.named_files.specs.Reports.{ReportsText, uncreated_text}
+use Rattle.named_files.specs.Saving.{AreNone}
+use Rattle.tsjob_cli.specs.Command.{Answers, Commands, LacksWords, MakesFile, Outputs, PerformsWords, Saves, ToFile, WritesTo, explains_files, known_words}
+use Rattle.tsjob_cli.specs.Command.{output_file, words_but_output}
 use Rattle.tsjob_cli.specs.Explaining.{ExplainsFiles}
 use Rattle.tsjob_cli.specs.FileWords.{file_words}
 use Rattle.tsjob_cli.specs.MadeJobs.{MakesJob}
@@ -16,12 +19,26 @@ use Rattle.tsjob_cli.specs.Options.{usage_text}
 both : (b : Bool) → b ≡ true → b ≡ false → ⊥
 both b is unlike = let clash : true ≡ false = sym is ∙ unlike in absurd cc
 
-pub to_file : (creates keeps : Option Bool) (name : Text) (words : List Text) (files : Files) (input : Device) (before mid after : Port) (bytes : List ℕ)
-    (made status : ℕ) →
-    MakesJob words files input (between before mid) bytes made → Saves creates keeps name bytes made (between mid after) status →
-    ToFile creates keeps name words files input (between before after) status
-to_file creates keeps name words files input before mid after bytes made status makes saves =
+pub makes_file : (keeps : Option Bool) (known : Option (List ℕ)) (name : Text) (words : List Text) (files : Files) (input : Device) (before mid after : Port)
+    (bytes : List ℕ) (made status : ℕ) →
+    MakesJob words files input (between before mid) bytes made → Saves keeps known name bytes made (between mid after) status →
+    MakesFile keeps known name words files input (between before after) status
+makes_file keeps known name words files input before mid after bytes made status makes saves =
     record { bytes = bytes; made = made; so_far = mid; makes = makes; saves = saves }
+
+pub to_new_file : (creates : Option (Option FileFault)) (keeps : Option Bool) (known : Option (List ℕ)) (name : Text) (words : List Text) (files : Files)
+    (input faults : Device) (status : ℕ) →
+    IsAsKnown creates None → AreNone known → MakesFile keeps known name words files input faults status →
+    ToFile creates keeps name words files input faults status
+to_new_file creates keeps known name words files input faults status created empty makes =
+    inl (record { created = created; known = known; empty = empty; makes = makes })
+
+pub to_no_file : (creates : Option (Option FileFault)) (keeps : Option Bool) (name : Text) (words : List Text) (files : Files) (fault : FileFault)
+    (input faults : Device) (status : ℕ) →
+    IsAsKnown creates (Some fault) → IsUntouched input → ReportsText name (uncreated_text fault) faults → status ≡ 3 →
+    ToFile creates keeps name words files input faults status
+to_no_file creates keeps name words files fault input faults status uncreated unread reports_text is =
+    inr (record { fault = fault; uncreated = uncreated; unread = unread; reports_text = reports_text; status_is = is })
 
 -- The program writes to the file with the requested name, for the requested words.
 pub performed : (outputs : Outputs) (words job : List Text) (name : Option Text) (files : Files) (input output faults : Device) (status : ℕ) →

@@ -7,7 +7,8 @@ use Rattle.devices.specs.Files.{Files, IsAsKnown}
 use Rattle.devices.specs.Lines.{Reports}
 use Rattle.devices.specs.Runs.{LacksMemory}
 use Rattle.named_files.specs.Reports.{terminal_line}
-use Rattle.named_files.specs.Saving.{SavesFile}
+use Rattle.devices.specs.declared.files.FileFault.{FileFault}
+use Rattle.named_files.specs.Saving.{AreNone, HasNoFile, SavesFile}
 use Rattle.word_faults.specs.CommandLine.{CommandLine, Text}
 use Rattle.word_faults.specs.Commands as commands
 use Rattle.word_faults.specs.SortedWords.{are_taken, value_given, words_without}
@@ -62,14 +63,14 @@ is_text words = is_text_word (commands.command_of sorting_words words)
 
 -- 2. The output
 
--- the known facts about written files: whether a file can be created, whether a new file can be given its name, and whether standard output is a
--- terminal
+-- the known facts about written files: why a file can't be created, or that it can; whether a new file can be given its
+-- name; and whether standard output is a terminal
 pub record Outputs : Type 0 where
-  pub creates : List ℕ → Option Bool
+  pub creates : List ℕ → Option (Option FileFault)
   pub keeps : List ℕ → Option Bool
   pub shows : Option Bool
 
-abbrev pub outputs_of : (List ℕ → Option Bool) → (List ℕ → Option Bool) → Option Bool → Outputs
+abbrev pub outputs_of : (List ℕ → Option (Option FileFault)) → (List ℕ → Option Bool) → Option Bool → Outputs
 outputs_of creates keeps shows = record { creates = creates; keeps = keeps; shows = shows }
 
 -- the report for a terminal: it advises `-o`, or `>` for the units of a running stream, since `-o` is refused beside `--stream`
@@ -100,19 +101,32 @@ abbrev pub ToOutput : Option Bool → List Text → Files → Device → Device 
 ToOutput shows words files input output faults status =
     IsTerminal shows words input output faults status ⊎ (MayBeShown shows words × RunsJob words files input output faults status)
 
--- the output is written to a file, if it is to be kept
-abbrev pub Saves : Option Bool → Option Bool → Text → List ℕ → ℕ → Device → ℕ → Type 0
-Saves creates keeps name bytes made faults status =
+-- the output is written to a new file, if it is to be kept
+abbrev pub Saves : Option Bool → Option (List ℕ) → Text → List ℕ → ℕ → Device → ℕ → Type 0
+Saves keeps known name bytes made faults status =
     ((is_kept bytes made ≡ false) × ((status ≡ made) × IsUntouched faults))
-    ⊎ ((is_kept bytes made ≡ true) × SavesFile creates keeps name bytes made faults status)
+    ⊎ ((is_kept bytes made ≡ true) × SavesFile keeps known name bytes made faults status)
 
-pub record ToFile (creates keeps : Option Bool) (name : Text) (words : List Text) (files : Files) (input faults : Device) (status : ℕ) : Type 0 where
+pub record MakesFile (keeps : Option Bool) (known : Option (List ℕ)) (name : Text) (words : List Text) (files : Files) (input faults : Device)
+    (status : ℕ) : Type 0 where
   pub bytes : List ℕ
   pub made : ℕ
   -- the second writer between both
   pub so_far : Port
   pub makes : MakesJob words files input (between faults.before so_far) bytes made
-  pub saves : Saves creates keeps name bytes made (between so_far faults.after) status
+  pub saves : Saves keeps known name bytes made (between so_far faults.after) status
+
+-- the file is created before anything is read
+pub record WritesFile (creates : Option (Option FileFault)) (keeps : Option Bool) (name : Text) (words : List Text) (files : Files) (input faults : Device)
+    (status : ℕ) : Type 0 where
+  pub created : IsAsKnown creates None
+  pub known : Option (List ℕ)
+  pub empty : AreNone known
+  pub makes : MakesFile keeps known name words files input faults status
+
+abbrev pub ToFile : Option (Option FileFault) → Option Bool → Text → List Text → Files → Device → Device → ℕ → Type 0
+ToFile creates keeps name words files input faults status =
+    WritesFile creates keeps name words files input faults status ⊎ HasNoFile creates name input faults status
 
 abbrev pub WritesTo : Outputs → Option Text → List Text → Files → Device → Device → Device → ℕ → Type 0
 WritesTo outputs None words files input output faults status = ToOutput outputs.shows words files input output faults status

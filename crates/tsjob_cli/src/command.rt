@@ -18,7 +18,7 @@ use crate::program::run;
 use crate::streaming::STREAM_TERMINAL;
 use counted_io::{Sink, Source};
 use devices::{Halt, NamedFiles, OutputFiles, report_halt, report_text};
-use named_files::{TERMINAL, save_file};
+use named_files::{TERMINAL, report_uncreated, save_file};
 use std::alloc::{AllocError, Global};
 use word_faults::{
     KnownWords, ShortName, answer_words, are_taken, command_of, long_words, push_words,
@@ -139,19 +139,52 @@ fn write_output<F: NamedFiles + OutputFiles, R: Source, W: Sink, E: Sink>(
     run(alloc, words, files, input, output, faults)
 }
 
-// Writes what was made to the file of a name, if it is to be kept; returns the status.
-fn save<F: OutputFiles, E: Sink>(files: &F, name: &str, made: &MadeJob, faults: &mut E) -> u8
-    ensures { spec.Saves (F.creates files.now name.now)
-        (F.keeps files.now name.now) name.now made.now.bytes.items made.now.status
-        (writes E.Sink faults.old faults.new) result }
+// Writes what was made to a new file and gives it its name, if it is to be kept; otherwise removes the file. Returns
+// the status.
+fn save<F: OutputFiles, E: Sink>(
+    files: &F,
+    file: F::Writer,
+    name: &str,
+    made: &MadeJob,
+    faults: &mut E,
+) -> u8
+    ensures { spec.Saves (F.keeps files.now name.now) (F.Writer.contents file) name.now
+        made.now.bytes.items made.now.status (writes E.Sink faults.old faults.new) result }
 {
     if !made.is_kept() {
+        files.discard_file(file);
         return made.status;
     }
-    save_file(files, name, made.bytes.as_slice(), made.status, faults)
+    save_file(
+        files,
+        file,
+        name,
+        made.bytes.as_slice(),
+        made.status,
+        faults,
+    )
 }
 
-// Writes to the file of a name, whole or not at all; returns the status.
+// Writes to a new file that is to have this name, whole or not at all; returns the status.
+fn write_new_file<F: NamedFiles + OutputFiles, R: Source, E: Sink>(
+    alloc: Global,
+    name: &str,
+    words: &[&str],
+    files: &F,
+    file: F::Writer,
+    input: &mut R,
+    faults: &mut E,
+) -> u8
+    ensures { spec.MakesFile (F.keeps files.now name.now) (F.Writer.contents file) name.now
+        (map (λ s. s.now) words.now)
+        (files_of (F.contents_of files.now) (F.opens files.now) F.never_fails)
+        (reads R.Source input.old input.new) (writes E.Sink faults.old faults.new) result }
+{
+    let made = make_job(alloc, words, files, input, faults);
+    save(files, file, name, &made, faults)
+}
+
+// Writes to the file of a name, which is created before anything is read; returns the status.
 fn write_file<F: NamedFiles + OutputFiles, R: Source, E: Sink>(
     alloc: Global,
     name: &str,
@@ -165,8 +198,10 @@ fn write_file<F: NamedFiles + OutputFiles, R: Source, E: Sink>(
         (files_of (F.contents_of files.now) (F.opens files.now) F.never_fails)
         (reads R.Source input.old input.new) (writes E.Sink faults.old faults.new) result }
 {
-    let made = make_job(alloc, words, files, input, faults);
-    save(files, name, &made, faults)
+    match files.create_named(name) {
+        Ok(file) => write_new_file(alloc, name, words, files, file, input, faults),
+        Err(fault) => report_uncreated(name, fault, faults),
+    }
 }
 
 // Does what sorted words ask for, which can be taken; returns the status.

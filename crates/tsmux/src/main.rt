@@ -28,6 +28,14 @@ impl Program for Tsmux {
     fn report_usage<E: Sink>(faults: &mut E) -> u8 {
         report_usage(faults)
     }
+
+    fn writes_bytes(_alloc: Global, _words: &[&str]) -> bool {
+        false
+    }
+
+    fn awaits(_words: &[&str]) -> Option<&'static str> {
+        None
+    }
 }
 
 fn main(rt: HostRuntime) -> ExitCode {

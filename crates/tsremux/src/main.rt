@@ -28,6 +28,18 @@ impl Program for Tsremux {
     fn report_usage<E: Sink>(faults: &mut E) -> u8 {
         report_usage(faults)
     }
+
+    fn writes_bytes(_alloc: Global, _words: &[&str]) -> bool {
+        false
+    }
+
+    fn awaits(words: &[&str]) -> Option<&'static str> {
+        if words.iter().any(|word| *word == "--description") {
+            Some("unit records\n")
+        } else {
+            Some("a transport stream\n")
+        }
+    }
 }
 
 fn main(rt: HostRuntime) -> ExitCode {

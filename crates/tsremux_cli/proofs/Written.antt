@@ -1,11 +1,13 @@
 -- Packets to standard output, or to a file.
-use Rattle.std.proofs.Common.{◌≡◌, ℕ, Bool, true, false, List, [], Option, Some, refl, inl, inr, subst}
+use Rattle.std.proofs.Common.{◌≡◌, ℕ, Bool, true, false, List, Option, None, Some, refl, inl, inr, subst}
 use Rattle.word_faults.specs.CommandLine.{Text}
 use Rattle.devices.specs.Devices.{Device, Port, between, IsUntouched}
 use Rattle.devices.specs.Files.{Files, IsAsKnown}
 use Rattle.devices.specs.Lines.{Reports}
 use Rattle.named_files.specs.Reports.{ReportsText, terminal_line, uncreated_text}
-use Rattle.tsremux_cli.specs.Outputs.{Concludes, Finishes, ToFile, ToOutput, WritesOutput, output_name}
+use Rattle.devices.specs.declared.files.FileFault.{FileFault}
+use Rattle.named_files.specs.Saving.{AreNone}
+use Rattle.tsremux_cli.specs.Outputs.{Concludes, Finishes, ToFile, ToOutput, WritesNew, WritesOutput, output_name}
 use Rattle.tsjob_cli.specs.Command.{Outputs, output_file}
 use Rattle.tsremux_cli.specs.Program.{Answers, WritesTo}
 use Rattle.tsremux_cli.specs.Packets.{WritesFor}
@@ -40,27 +42,34 @@ to_output shows shown words files input output faults status known is writes = i
 pub known_as : (keeps : Option Bool) (b b' : Bool) → IsAsKnown keeps b → b ≡ b' → IsAsKnown keeps b'
 known_as keeps b b' known is = subst (λ (c : Bool). IsAsKnown keeps c) is known
 
-pub to_file : (creates keeps : Option Bool) (name : Text) (words : List Text) (quiet : Bool) (files : Files) (input file : Device) (before mid after : Port)
-    (result : Remuxed) (status : ℕ) →
-    IsAsKnown creates true → ((bytes : List ℕ) → file.before.bytes ≡ Some bytes → bytes ≡ []) → WritesFor words files input file (between before mid) result →
-    quiet ≡ is_quiet words → Finishes keeps quiet name result (between mid after) status →
-    ToFile creates keeps name words files input (between before after) status
-to_file creates keeps name words quiet files input file before mid after result status created empty makes is finishes =
-    inl (record {
-      created = created;
+pub writes_new : (keeps : Option Bool) (known : Option (List ℕ)) (name : Text) (words : List Text) (quiet : Bool) (files : Files) (input file : Device)
+    (before mid after : Port) (result : Remuxed) (status : ℕ) →
+    WritesFor words files input file (between before mid) result → quiet ≡ is_quiet words →
+    Finishes keeps quiet name result (between mid after) status → file.before.bytes ≡ known →
+    WritesNew keeps known name words files input (between before after) status
+writes_new keeps known name words quiet files input file before mid after result status makes is finishes begins =
+    record {
       file = file;
-      empty = empty;
+      begins = begins;
       result = result;
       so_far = mid;
       makes = makes;
       finishes = subst (λ (b : Bool). Finishes keeps b name result (between mid after) status) is finishes;
-    })
+    }
 
-pub to_none : (creates keeps : Option Bool) (name : Text) (words : List Text) (files : Files) (input faults : Device) (status : ℕ) → IsAsKnown creates false →
-    IsUntouched input →
-    ReportsText name uncreated_text faults → status ≡ 3 → ToFile creates keeps name words files input faults status
-to_none creates keeps name words files input faults status uncreated unread reports_text is =
-    inr (record { uncreated = uncreated; unread = unread; reports_text = reports_text; status_is = is })
+pub to_new_file : (creates : Option (Option FileFault)) (keeps : Option Bool) (known : Option (List ℕ)) (name : Text) (words : List Text) (files : Files)
+    (input faults : Device) (status : ℕ) →
+    IsAsKnown creates None → AreNone known → WritesNew keeps known name words files input faults status →
+    ToFile creates keeps name words files input faults status
+to_new_file creates keeps known name words files input faults status created empty writes =
+    inl (record { created = created; known = known; empty = empty; writes = writes })
+
+pub to_no_file : (creates : Option (Option FileFault)) (keeps : Option Bool) (name : Text) (words : List Text) (files : Files) (fault : FileFault)
+    (input faults : Device) (status : ℕ) →
+    IsAsKnown creates (Some fault) → IsUntouched input → ReportsText name (uncreated_text fault) faults → status ≡ 3 →
+    ToFile creates keeps name words files input faults status
+to_no_file creates keeps name words files fault input faults status uncreated unread reports_text is =
+    inr (record { fault = fault; uncreated = uncreated; unread = unread; reports_text = reports_text; status_is = is })
 
 -- The name and the words are the requested name and words.
 pub answered : (outputs : Outputs) (words job : List Text) (name : Option Text) (files : Files) (input output faults : Device) (status : ℕ) →

@@ -1,11 +1,13 @@
 -- Packets of streams to standard output, or to a file.
-use Rattle.std.specs.Prelude.{◌≡◌, ◌⊎◌, ℕ, Bool, true, false, List, [], Option, Some, codes}
+use Rattle.std.specs.Prelude.{◌≡◌, ◌⊎◌, ℕ, Bool, true, false, List, Option, None, codes}
 use Rattle.word_faults.specs.CommandLine.{Text}
 use Rattle.devices.specs.Devices.{Device, IsUntouched, Port, between}
 use Rattle.devices.specs.Files.{Files, IsAsKnown}
 use Rattle.devices.specs.Lines.{Reports}
 use Rattle.tsremux_cli.specs.Lines.{ReportsHeld}
-use Rattle.named_files.specs.Reports.{ReportsText, terminal_line, uncreated_text, unnamed_text}
+use Rattle.devices.specs.declared.files.FileFault.{FileFault}
+use Rattle.named_files.specs.Reports.{ReportsText, terminal_line, unnamed_text}
+use Rattle.named_files.specs.Saving.{AreNone, HasNoFile}
 use Rattle.tsremux_cli.specs.Packets.{WritesFor}
 use Rattle.tsremux_cli.specs.Words.{is_quiet}
 use Rattle.tsremux_cli.specs.declared.figures.Remuxed.{Remuxed}
@@ -48,23 +50,24 @@ Finishes keeps quiet name (Whole figures ended) faults status =
     ⊎ (IsAsKnown keeps false × ((status ≡ 3) × ReportsText name unnamed_text faults))
 Finishes keeps quiet name (Ended ended) faults status = (status ≡ ended) × IsUntouched faults
 
--- the packets go to a new file
-pub record WritesFile (creates keeps : Option Bool) (name : Text) (words : List Text) (files : Files) (input faults : Device) (status : ℕ) : Type 0 where
-  pub created : IsAsKnown creates true
+-- the packets go to a new file with these known bytes
+pub record WritesNew (keeps : Option Bool) (known : Option (List ℕ)) (name : Text) (words : List Text) (files : Files) (input faults : Device)
+    (status : ℕ) : Type 0 where
   pub file : Device
-  pub empty : (bytes : List ℕ) → file.before.bytes ≡ Some bytes → bytes ≡ []
+  pub begins : file.before.bytes ≡ known
   pub result : Remuxed
   pub so_far : Port
   pub makes : WritesFor words files input file (between faults.before so_far) result
   pub finishes : Finishes keeps (is_quiet words) name result (between so_far faults.after) status
 
--- the file can't be created: nothing is read
-pub record HasNoFile (creates : Option Bool) (name : Text) (input faults : Device) (status : ℕ) : Type 0 where
-  pub uncreated : IsAsKnown creates false
-  pub unread : IsUntouched input
-  pub reports_text : ReportsText name uncreated_text faults
-  pub status_is : status ≡ 3
+-- the file is created before anything is read
+pub record WritesFile (creates : Option (Option FileFault)) (keeps : Option Bool) (name : Text) (words : List Text) (files : Files) (input faults : Device)
+    (status : ℕ) : Type 0 where
+  pub created : IsAsKnown creates None
+  pub known : Option (List ℕ)
+  pub empty : AreNone known
+  pub writes : WritesNew keeps known name words files input faults status
 
-abbrev pub ToFile : Option Bool → Option Bool → Text → List Text → Files → Device → Device → ℕ → Type 0
+abbrev pub ToFile : Option (Option FileFault) → Option Bool → Text → List Text → Files → Device → Device → ℕ → Type 0
 ToFile creates keeps name words files input faults status =
     WritesFile creates keeps name words files input faults status ⊎ HasNoFile creates name input faults status

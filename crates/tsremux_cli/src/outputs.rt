@@ -10,7 +10,7 @@ use crate::packets::write_packets_for;
 use crate::words::is_quiet;
 use counted_io::{Sink, Source};
 use devices::{NamedFiles, OutputFiles, report_text};
-use named_files::{TERMINAL, report_of};
+use named_files::{TERMINAL, report_of, report_uncreated};
 use std::alloc::Global;
 
 // Reports on standard output if all packets are written, and returns the status.
@@ -95,7 +95,27 @@ fn finish<F: OutputFiles, E: Sink>(
     }
 }
 
-/// Writes the packets to the file of a name, and returns the status.
+// Writes the packets to a new file that is to have this name, and returns the status.
+fn remux_to_new_file<F: NamedFiles + OutputFiles, R: Source, E: Sink>(
+    alloc: Global,
+    name: &str,
+    words: &[&str],
+    files: &F,
+    file: F::Writer,
+    input: &mut R,
+    faults: &mut E,
+) -> u8
+    ensures { spec.WritesNew (F.keeps files.now name.now) (F.Writer.contents file) name.now
+        (map (λ s. s.now) words.now)
+        (files_of (F.contents_of files.now) (F.opens files.now) F.never_fails)
+        (reads R.Source input.old input.new) (writes E.Sink faults.old faults.new) result }
+{
+    let mut file = file;
+    let remuxed = write_packets_for(alloc, words, files, input, &mut file, faults);
+    finish(alloc, is_quiet(words), remuxed, name, files, file, faults)
+}
+
+/// Writes the packets to the file of a name, which is created before anything is read, and returns the status.
 pub(crate) fn remux_to_file<F: NamedFiles + OutputFiles, R: Source, E: Sink>(
     alloc: Global,
     name: &str,
@@ -109,10 +129,8 @@ pub(crate) fn remux_to_file<F: NamedFiles + OutputFiles, R: Source, E: Sink>(
         (files_of (F.contents_of files.now) (F.opens files.now) F.never_fails)
         (reads R.Source input.old input.new) (writes E.Sink faults.old faults.new) result }
 {
-    let Some(mut file) = files.create_named(name) else {
-        report_of(name, ": can't be created\n", faults);
-        return 3;
-    };
-    let remuxed = write_packets_for(alloc, words, files, input, &mut file, faults);
-    finish(alloc, is_quiet(words), remuxed, name, files, file, faults)
+    match files.create_named(name) {
+        Ok(file) => remux_to_new_file(alloc, name, words, files, file, input, faults),
+        Err(fault) => report_uncreated(name, fault, faults),
+    }
 }

@@ -1,10 +1,10 @@
 use Rattle.std.proofs.Common.{refl}
-use Rattle.tsremux_cli.proofs.Written.{to_file, to_none}
+use Rattle.tsremux_cli.proofs.Written.{to_new_file, to_no_file}
 use Rattle.tsremux_cli.proofs.outputs.remux_to_file.Goals as goal
 
-pub returns-in_default : goal.returns-in_default
-returns-in_default g c = to_none _ _ _ _ _ _ _ _ c.in_default.ensures.creates refl c.report_of.ensures refl
+pub returns-in-Ok : goal.returns-in-Ok
+returns-in-Ok g c = to_new_file _ _ _ _ _ _ _ _ _ c.in-Ok.ensures.creates c.in-Ok.ensures.empty c.remux_to_new_file.ensures
 
-pub returns : goal.returns
-returns g c = to_file _ _ _ _ _ _ _ _ _ _ _ _ _ c.in-Some.ensures.creates c.in-Some.ensures.empty c.write_packets_for-remuxed.ensures c.is_quiet.ensures
-    c.finish.ensures
+pub returns-in-Err : goal.returns-in-Err
+returns-in-Err g c =
+    to_no_file _ _ _ _ _ _ _ _ _ c.in-Err.ensures.creates refl c.report_uncreated.ensures.reports_text c.report_uncreated.ensures.status
