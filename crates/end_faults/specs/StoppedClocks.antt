@@ -12,6 +12,7 @@ use Rattle.tr101290.specs.Intervals.{time_between}
 use Rattle.tr101290.specs.declared.intervals.TableTiming.{TableTiming}
 use Rattle.events.specs.declared.event.Event.{Event}
 use Rattle.events.specs.declared.event.Event.TheVariants as found
+use Rattle.events.specs.declared.fault_kind.FaultKind.TheVariants as kinds
 use Rattle.es_events.specs.declared.view_options.ViewOptions.{ViewOptions}
 use Rattle.es_events.specs.Clocks.{ClockEntries, clock_of}
 use Rattle.ts_watch.specs.RuleEvents.{place_at}
@@ -57,7 +58,8 @@ longest_without (OnLines lines) = longest_interval
 -- 3. The events, with the number of packets
 
 abbrev pub clock_event : ℕ → ℕ → ℕ → Event
-clock_event pid packets value = found.PcrRepetition (record { pid = pid; packet = packets; value = value; limit = greatest_interval })
+clock_event pid packets value =
+    found.ClockFault kinds.PcrRepetition (record { pid = pid; packet = packets; value = value; limit = greatest_interval })
 
 abbrev pub beyond_events : ℕ → ℕ → ℕ → ℕ → List Event
 beyond_events longest pid packets value = if nat_lt longest value then clock_event pid packets value ∷ [] else []

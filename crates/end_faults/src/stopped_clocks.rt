@@ -6,7 +6,7 @@ use crate::stopped_tables::push_stopped_tables;
 use arrival::{Arrival, LONGEST_INTERVAL, PcrSample};
 use es_events::clocks::Clocks;
 use es_events::view_options::ViewOptions;
-use events::{ClockFault, Event};
+use events::{ClockFault, Event, FaultKind};
 use std::alloc::{AllocError, Global};
 use stream_programs::{FoundProgram, PidList};
 use tr101290::{GREATEST_INTERVAL, time_between};
@@ -103,12 +103,13 @@ fn push_beyond(
     ensures { OnOk result (events.new.items ≡ events.old.items ++ spec.beyond_events longest pid packets value) }
 {
     if value > u128::from(longest) {
-        events.push(Event::PcrRepetition(ClockFault {
+        let fault = ClockFault {
             pid,
             packet: packets,
             value,
             limit: GREATEST_INTERVAL,
-        }))?;
+        };
+        events.push(Event::ClockFault(FaultKind::PcrRepetition, fault))?;
     }
     Ok(())
 }

@@ -10,14 +10,13 @@ use Rattle.tstd_rows.specs.declared.unit_seen.UnitSeen.{UnitSeen}
 use Rattle.tstd_rows.specs.Limits.{tb_size}
 use Rattle.tstd_rows.specs.Held.{Held, main_most, transport_most, transport_under_way, unit_before}
 use Rattle.tstd_rows.specs.Entering.{EnteredView}
-use Rattle.events.specs.declared.event.BufferExcess.{BufferExcess}
 use Rattle.events.specs.declared.event.Event.{Event}
 use Rattle.events.specs.declared.event.Event.TheVariants as found
+use Rattle.events.specs.declared.rule_event.BufferKind.{BufferKind}
+use Rattle.events.specs.declared.rule_event.BufferKind.TheVariants as buffers
 use Rattle.events.specs.PidNames.{of_coding}
 use Rattle.es_events.specs.Clocks.{longest_stay}
 use Rattle.es_events.specs.declared.entry_events.Place.{Place}
-use Rattle.es_events.specs.declared.entry_events.ExcessKind.{ExcessKind}
-use Rattle.es_events.specs.declared.entry_events.ExcessKind.TheVariants as kinds
 use Rattle.es_events.specs.declared.entry_events.MainFigures.{MainFigures}
 use Rattle.es_events.specs.declared.tally.Tally.{Tally}
 use Rattle.es_events.specs.declared.view_options.ViewOptions.{ViewOptions}
@@ -50,37 +49,19 @@ abbrev pub moment_of : ViewOptions → ℕ → ℕ → ℕ
 moment_of options rx time = span_of options rx time - options.origin
 
 -- an excess of a buffer, reported at the packet where it ends
-abbrev pub excess_of : ViewOptions → Place → Excess → BufferExcess
-excess_of options place e = record {
-  pid = place.pid;
+abbrev pub excess_event : BufferKind → ViewOptions → Place → Excess → Event
+excess_event buffer options place e = found.Excess (record {
+  number = place.pid;
+  buffer = buffer;
   packet = place.packet;
   begin = moment_of options place.rx e.begin;
   end = moment_of options place.rx e.end;
   peak = e.peak;
   size = place.size;
-}
+})
 
--- events for excesses of a buffer, in particular of the transport buffer, and of the main buffer
-abbrev pub event_of_excess : ExcessKind → BufferExcess → Event
-event_of_excess kinds.Transport e = found.Excess e
-event_of_excess kinds.Main e = found.MainExcess e
-event_of_excess kinds.Multiplexing e = found.MultiplexingExcess e
-event_of_excess kinds.Elementary e = found.ElementaryExcess e
-
-abbrev pub events_of_excesses : ExcessKind → ViewOptions → Place → List Excess → List Event
-events_of_excesses kind options place excesses = map (λ e. event_of_excess kind (excess_of options place e)) excesses
-
-abbrev pub excess_event : ViewOptions → Place → Excess → Event
-excess_event options place e = found.Excess (excess_of options place e)
-
-abbrev pub excess_events : ViewOptions → Place → List Excess → List Event
-excess_events options place excesses = map (excess_event options place) excesses
-
-abbrev pub main_excess_event : ViewOptions → Place → Excess → Event
-main_excess_event options place e = found.MainExcess (excess_of options place e)
-
-abbrev pub main_excess_events : ViewOptions → Place → List Excess → List Event
-main_excess_events options place excesses = map (main_excess_event options place) excesses
+abbrev pub excess_events : BufferKind → ViewOptions → Place → List Excess → List Event
+excess_events buffer options place excesses = map (excess_event buffer options place) excesses
 
 -- a late unit, reported at the packet where the next unit begins
 abbrev pub late_event : ViewOptions → Place → UnitSeen → Event
@@ -111,8 +92,8 @@ with_size place size = record { pid = place.pid; packet = place.packet; rx = pla
 
 abbrev pub ended_events : ViewOptions → Place → EnteredView → List Event
 ended_events options place e =
-    excess_events options (with_size place tb_size) e.transport
-    ++ (main_excess_events options place e.main ++ late_events options place e.unit)
+    excess_events buffers.Transport options (with_size place tb_size) e.transport
+    ++ (excess_events buffers.Main options place e.main ++ late_events options place e.unit)
 
 -- 3. At the end
 
@@ -137,8 +118,8 @@ main_event place figures t = found.Main (record {
 -- current excesses come first
 abbrev pub under_way_events : ViewOptions → Place → Held → List Event
 under_way_events options place h =
-    excess_events options (with_size place tb_size) (option_to_list (transport_under_way h))
-    ++ (main_excess_events options place (option_to_list h.main.under_way) ++ late_events options place (unit_before h))
+    excess_events buffers.Transport options (with_size place tb_size) (option_to_list (transport_under_way h))
+    ++ (excess_events buffers.Main options place (option_to_list h.main.under_way) ++ late_events options place (unit_before h))
 
 -- totals of both buffers follow
 abbrev pub main_figures : Held → Tally → MainFigures

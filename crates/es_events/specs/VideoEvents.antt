@@ -1,5 +1,5 @@
 -- Events of the two buffers of video: a multiplexing buffer and an elementary stream buffer.
-use Rattle.std.specs.Prelude.{ℕ, ◌-◌, List, [], ◌∷◌, ◌++◌, map, Option, Some, None}
+use Rattle.std.specs.Prelude.{ℕ, ◌-◌, List, [], ◌∷◌, ◌++◌, Option, Some, None}
 use Rattle.std.specs.Option.{option_to_list}
 use Rattle.tstd_rows.specs.declared.excess.Excess.{Excess}
 use Rattle.tstd_rows.specs.declared.late_causes.LateCause.{LateCause}
@@ -11,28 +11,16 @@ use Rattle.events.specs.declared.video_event.LateCause.{LateCause as ReportedCau
 use Rattle.events.specs.declared.video_event.LateCause.TheVariants as reported_causes
 use Rattle.events.specs.declared.event.Event.{Event}
 use Rattle.events.specs.declared.event.Event.TheVariants as found
+use Rattle.events.specs.declared.rule_event.BufferKind.TheVariants.{Multiplexing, Elementary}
 use Rattle.es_events.specs.declared.entry_events.Place.{Place}
 use Rattle.es_events.specs.declared.video_figures.VideoFigures.{VideoFigures}
 use Rattle.es_events.specs.declared.video_tally.VideoLimits.{VideoLimits}
 use Rattle.es_events.specs.declared.video_tally.VideoTally.{VideoTally}
 use Rattle.es_events.specs.declared.view_options.ViewOptions.{ViewOptions}
-use Rattle.es_events.specs.EntryEvents.{excess_of, moment_of, span_of, with_one, with_size}
+use Rattle.es_events.specs.EntryEvents.{excess_events, moment_of, span_of, with_one, with_size}
 use Rattle.es_events.specs.VideoFigures.{closed_video}
 
 -- 1. What ends with a packet
-
--- excesses of both
-abbrev pub multiplexing_excess_event : ViewOptions → Place → Excess → Event
-multiplexing_excess_event options place e = found.MultiplexingExcess (excess_of options place e)
-
-abbrev pub multiplexing_excess_events : ViewOptions → Place → List Excess → List Event
-multiplexing_excess_events options place excesses = map (multiplexing_excess_event options place) excesses
-
-abbrev pub elementary_excess_event : ViewOptions → Place → Excess → Event
-elementary_excess_event options place e = found.ElementaryExcess (excess_of options place e)
-
-abbrev pub elementary_excess_events : ViewOptions → Place → List Excess → List Event
-elementary_excess_events options place excesses = map (elementary_excess_event options place) excesses
 
 -- a unit whose last byte goes to the elementary stream buffer after it is due, reported at the packet where the next unit begins, with the cause: the
 -- multiplexing buffer alone or a full elementary stream buffer
@@ -61,8 +49,8 @@ elementary_late_events options place (Some u) = late_events_by options place u (
 
 abbrev pub events_of_both : ViewOptions → Place → VideoLimits → List Excess → Option Excess → Option VideoUnit → List Event
 events_of_both options place limits multiplexing elementary unit =
-    multiplexing_excess_events options (with_size place limits.multiplexing) multiplexing
-    ++ (elementary_excess_events options (with_size place limits.elementary) (option_to_list elementary) ++ elementary_late_events options place unit)
+    excess_events Multiplexing options (with_size place limits.multiplexing) multiplexing
+    ++ (excess_events Elementary options (with_size place limits.elementary) (option_to_list elementary) ++ elementary_late_events options place unit)
 
 abbrev pub ended_of_both : ViewOptions → Place → VideoLimits → VideoEnteredView → Option VideoUnit → List Event
 ended_of_both options place limits e unit = events_of_both options place limits e.multiplexing e.elementary unit

@@ -11,7 +11,8 @@ use crate::view_options::ViewOptions;
 use clock27::units::BYTE_TICKS_AT_1BPS;
 use es_buffers::Buffers;
 use events::{
-    BufferExcess, Event, FarAhead, LateUnit, MainTotals, PidName, StreamBegin, TransportTotals,
+    BufferExcess, BufferKind, Event, FarAhead, LateUnit, MainTotals, PidName, StreamBegin,
+    TransportTotals,
 };
 use std::alloc::AllocError;
 use stream_coding::Coding;
@@ -26,15 +27,6 @@ pub struct Place {
     pub packet: u64,
     pub rx: u32,
     pub size: u64,
-}
-
-/// A buffer of a stream that holds too many bytes.
-#[derive(Clone, Copy)]
-pub enum ExcessKind {
-    Transport,
-    Main,
-    Multiplexing,
-    Elementary,
 }
 
 /// What a main buffer held.
@@ -80,30 +72,19 @@ pub fn moment_of(options: &ViewOptions, rx: u32, time: u128) -> u128
     span_of(options, rx, time).saturating_sub(u128::from(options.origin))
 }
 
-// Returns an excess of a buffer.
-fn excess_of(options: &ViewOptions, place: &Place, excess: &Excess) -> BufferExcess
-    ensures { result ≡ spec.excess_of options.now place.now excess.now }
+// Returns the event of an excess of a buffer.
+fn excess_event(buffer: BufferKind, options: &ViewOptions, place: &Place, excess: &Excess) -> Event
+    ensures { result ≡ spec.excess_event buffer options.now place.now excess.now }
 {
-    BufferExcess {
-        pid: place.pid,
+    Event::Excess(BufferExcess {
+        number: place.pid,
+        buffer,
         packet: place.packet,
         begin: moment_of(options, place.rx, excess.begin),
         end: moment_of(options, place.rx, excess.end),
         peak: excess.peak,
         size: place.size,
-    }
-}
-
-// Returns the event of an excess of a buffer.
-fn excess_event(kind: ExcessKind, excess: BufferExcess) -> Event
-    ensures { result ≡ spec.event_of_excess kind excess }
-{
-    match kind {
-        ExcessKind::Transport => Event::Excess(excess),
-        ExcessKind::Main => Event::MainExcess(excess),
-        ExcessKind::Multiplexing => Event::MultiplexingExcess(excess),
-        ExcessKind::Elementary => Event::ElementaryExcess(excess),
-    }
+    })
 }
 
 // Appends an excess of a buffer. It stays a call of its own: few packets end one.
@@ -112,13 +93,13 @@ fn push_excess(
     events: &mut Vec<Event>,
     options: &ViewOptions,
     place: &Place,
-    kind: ExcessKind,
+    buffer: BufferKind,
     excess: &Excess,
 ) -> Result<(), AllocError>
     ensures { OnOk result (events.new.items
-        ≡ events.old.items ++ spec.events_of_excesses kind options.now place.now (excess.now ∷ [])) }
+        ≡ events.old.items ++ spec.excess_events buffer options.now place.now (excess.now ∷ [])) }
 {
-    events.push(excess_event(kind, excess_of(options, place, excess)))?;
+    events.push(excess_event(buffer, options, place, excess))?;
     Ok(())
 }
 
@@ -128,15 +109,15 @@ pub(crate) fn push_excess_if(
     events: &mut Vec<Event>,
     options: &ViewOptions,
     place: &Place,
-    kind: ExcessKind,
+    buffer: BufferKind,
     excess: &Option<Excess>,
 ) -> Result<(), AllocError>
     ensures { OnOk result (events.new.items
-        ≡ events.old.items ++ spec.events_of_excesses kind options.now place.now (option_to_list excess.now)) }
+        ≡ events.old.items ++ spec.excess_events buffer options.now place.now (option_to_list excess.now)) }
 {
     match excess {
         None => Ok(()),
-        Some(excess) => push_excess(events, options, place, kind, excess),
+        Some(excess) => push_excess(events, options, place, buffer, excess),
     }
 }
 
@@ -241,11 +222,11 @@ fn push_all_ended(
         size: TRANSPORT_BYTES,
         ..*place
     };
-    let kind = ExcessKind::Transport;
+    let kind = BufferKind::Transport;
     push_excess_if(events, options, &transport, kind, &entered.lead)?;
     push_excess_if(events, options, &transport, kind, &entered.header)?;
     push_excess_if(events, options, &transport, kind, &entered.payload)?;
-    push_excess_if(events, options, place, ExcessKind::Main, &entered.main)?;
+    push_excess_if(events, options, place, BufferKind::Main, &entered.main)?;
     push_late_if(events, options, place, &entered.unit)
 }
 
@@ -317,11 +298,11 @@ fn push_under_way(
         size: TRANSPORT_BYTES,
         ..*place
     };
-    let kind = ExcessKind::Transport;
+    let kind = BufferKind::Transport;
     let excess = buffers.transport_excess();
     push_excess_if(events, options, &transport, kind, &excess)?;
     let excess = buffers.main_excess();
-    push_excess_if(events, options, place, ExcessKind::Main, &excess)?;
+    push_excess_if(events, options, place, BufferKind::Main, &excess)?;
     push_late_if(events, options, place, &buffers.unit())
 }
 

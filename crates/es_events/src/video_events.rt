@@ -4,11 +4,11 @@ ghost use Rattle.tstd_rows.specs.HeldVideo.{video_view};
 ghost use Rattle.es_events.specs.VideoEvents as spec;
 ghost use Rattle.es_events.specs.EntryEvents.{with_size};
 
-use crate::entry_events::{ExcessKind, Place, moment_of, push_excess_if, span_of, with_one};
+use crate::entry_events::{Place, moment_of, push_excess_if, span_of, with_one};
 use crate::video_figures::{VideoFigures, closed_video};
 use crate::video_tally::{VideoLimits, VideoTally};
 use crate::view_options::ViewOptions;
-use events::{ElementaryLate, ElementaryTotals, Event, MultiplexingTotals};
+use events::{BufferKind, ElementaryLate, ElementaryTotals, Event, MultiplexingTotals};
 use std::alloc::AllocError;
 use tstd_rows::{LateCause, VideoEntered, VideoUnit};
 
@@ -99,10 +99,10 @@ fn push_ended_of_both(
 {
     let multiplexing = with_size(place, limits.multiplexing);
     let elementary = with_size(place, limits.elementary);
-    let kind = ExcessKind::Multiplexing;
+    let kind = BufferKind::Multiplexing;
     push_excess_if(events, options, &multiplexing, kind, &entered.waiting)?;
     push_excess_if(events, options, &multiplexing, kind, &entered.free)?;
-    let kind = ExcessKind::Elementary;
+    let kind = BufferKind::Elementary;
     push_excess_if(events, options, &elementary, kind, &entered.elementary)?;
     push_elementary_late_if(events, options, place, &entered.unit)
 }
@@ -187,9 +187,9 @@ fn push_video_under_way(
 {
     let multiplexing = with_size(place, figures.limits.multiplexing);
     let elementary = with_size(place, figures.limits.elementary);
-    let kind = ExcessKind::Multiplexing;
+    let kind = BufferKind::Multiplexing;
     push_excess_if(events, options, &multiplexing, kind, &figures.multiplexing)?;
-    let kind = ExcessKind::Elementary;
+    let kind = BufferKind::Elementary;
     push_excess_if(events, options, &elementary, kind, &figures.elementary)?;
     push_elementary_late_if(events, options, place, &figures.unit)
 }

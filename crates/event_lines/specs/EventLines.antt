@@ -4,17 +4,12 @@ use Rattle.events.specs.declared.event.BufferExcess.{BufferExcess}
 use Rattle.events.specs.declared.event.ClockFault.{ClockFault}
 use Rattle.events.specs.declared.event.ClockTotals.{ClockTotals}
 use Rattle.events.specs.declared.event.Event.{Event}
-use Rattle.events.specs.declared.event.Event.TheVariants.{Input, Stream, Window, Held, Units, Excess, MainExcess, MultiplexingExcess, ElementaryExcess}
-use Rattle.events.specs.declared.event.Event.TheVariants.{SystemExcess, SystemMainExcess, Late, ElementaryLate, Ahead, PcrRepetition, PcrDiscontinuity}
-use Rattle.events.specs.declared.event.Event.TheVariants.{PcrAccuracy, TableRepetition, Unclocked, Refused, Continuity, CheckWord, Transport, Main}
-use Rattle.events.specs.declared.event.Event.TheVariants.{Multiplexing, Elementary, Marks, System, Clock, Table, Pid, Unreferenced, Missing, Check, End, Rule}
-use Rattle.events.specs.declared.event.Event.TheVariants.{Summary}
+use Rattle.events.specs.declared.event.Event.TheVariants as events
 use Rattle.events.specs.declared.event.FarAhead.{FarAhead}
 use Rattle.events.specs.declared.event.HeldFigures.{HeldFigures}
 use Rattle.events.specs.declared.event.LateUnit.{LateUnit}
 use Rattle.events.specs.declared.event.MainTotals.{MainTotals}
 use Rattle.events.specs.declared.event.PidTotals.{PidTotals}
-use Rattle.events.specs.declared.event.ProgramExcess.{ProgramExcess}
 use Rattle.events.specs.declared.event.ReportEnd.{ReportEnd}
 use Rattle.events.specs.declared.event.StreamBegin.{StreamBegin}
 use Rattle.events.specs.declared.event.SystemTotals.{SystemTotals}
@@ -23,7 +18,10 @@ use Rattle.events.specs.declared.event.TableTotals.{TableTotals}
 use Rattle.events.specs.declared.event.TransportTotals.{TransportTotals}
 use Rattle.events.specs.declared.event.UnclockedPackets.{UnclockedPackets}
 use Rattle.events.specs.declared.event.UnitFigures.{UnitFigures}
+use Rattle.events.specs.declared.fault_kind.FaultKind.{FaultKind}
 use Rattle.events.specs.declared.timed_event.TimedEvent.{TimedEvent}
+use Rattle.events.specs.BufferKinds.{excess_kind, owner_word}
+use Rattle.events.specs.FaultKinds.{word_of}
 use Rattle.event_lines.specs.FaultLines.{check_word_line, continuity_line, refused_line}
 use Rattle.events.specs.Faults.{fault_of}
 use Rattle.event_lines.specs.FieldViews.{FieldView}
@@ -67,14 +65,10 @@ stream_line json e = line_of json (codes "stream")
     ∷ word_field (codes "coding") (line_word e.coding) ∷ number_field (codes "rx") e.rx ∷ number_field (codes "main") e.main
     ∷ number_field (codes "packet") e.packet ∷ [])
 
-abbrev pub excess_line : Bool → List ℕ → BufferExcess → List ℕ
-excess_line json word e = line_of json word
-    (number_field (codes "pid") e.pid ∷ number_field (codes "packet") e.packet ∷ number_field (codes "begin") e.begin
-    ∷ number_field (codes "end") e.end ∷ number_field (codes "peak") e.peak ∷ number_field (codes "size") e.size ∷ [])
-
-abbrev pub program_excess_line : Bool → List ℕ → ProgramExcess → List ℕ
-program_excess_line json word e = line_of json word
-    (number_field (codes "program") e.program ∷ number_field (codes "packet") e.packet ∷ number_field (codes "begin") e.begin
+-- a line whose word is that of the fault's kind
+abbrev pub excess_line : Bool → BufferExcess → List ℕ
+excess_line json e = line_of json (word_of (excess_kind e.buffer))
+    (number_field (owner_word e.buffer) e.number ∷ number_field (codes "packet") e.packet ∷ number_field (codes "begin") e.begin
     ∷ number_field (codes "end") e.end ∷ number_field (codes "peak") e.peak ∷ number_field (codes "size") e.size ∷ [])
 
 abbrev pub late_line : Bool → LateUnit → List ℕ
@@ -87,13 +81,13 @@ ahead_line json e = line_of json (codes "ahead")
     (number_field (codes "pid") e.pid ∷ number_field (codes "packet") e.packet ∷ number_field (codes "by") e.by
     ∷ number_field (codes "limit") e.limit ∷ [])
 
-abbrev pub clock_fault_line : Bool → List ℕ → ClockFault → List ℕ
-clock_fault_line json word e = line_of json word
+abbrev pub clock_fault_line : Bool → FaultKind → ClockFault → List ℕ
+clock_fault_line json kind e = line_of json (word_of kind)
     (number_field (codes "pid") e.pid ∷ number_field (codes "packet") e.packet ∷ number_field (codes "value") e.value
     ∷ number_field (codes "limit") e.limit ∷ [])
 
-abbrev pub table_fault_line : Bool → TableFault → List ℕ
-table_fault_line json e = line_of json (codes "table_repetition")
+abbrev pub table_fault_line : Bool → FaultKind → TableFault → List ℕ
+table_fault_line json kind e = line_of json (word_of kind)
     (number_field (codes "pid") e.pid ∷ number_field (codes "table") e.table ∷ number_field (codes "packet") e.packet
     ∷ number_field (codes "value") e.value ∷ number_field (codes "limit") e.limit ∷ [])
 
@@ -153,43 +147,36 @@ reference_line json word pid = line_of json word (number_field (codes "pid") pid
 -- 3. Any event, and events one after another
 
 unfoldable pub event_line : Bool → Event → List ℕ
-event_line json (Input e) = input_line json e
-event_line json (Stream e) = stream_line json e
-event_line json (Window w) = window_line json w
-event_line json (Held e) = held_line json e
-event_line json (Units e) = units_line json e
-event_line json (Excess e) = excess_line json (codes "excess") e
-event_line json (MainExcess e) = excess_line json (codes "main_excess") e
-event_line json (MultiplexingExcess e) = excess_line json (codes "multiplexing_excess") e
-event_line json (ElementaryExcess e) = excess_line json (codes "elementary_excess") e
-event_line json (SystemExcess e) = program_excess_line json (codes "system_excess") e
-event_line json (SystemMainExcess e) = program_excess_line json (codes "system_main_excess") e
-event_line json (Late e) = late_line json e
-event_line json (ElementaryLate e) = elementary_late_line json e
-event_line json (Ahead e) = ahead_line json e
-event_line json (PcrRepetition e) = clock_fault_line json (codes "pcr_repetition") e
-event_line json (PcrDiscontinuity e) = clock_fault_line json (codes "pcr_discontinuity") e
-event_line json (PcrAccuracy e) = clock_fault_line json (codes "pcr_accuracy") e
-event_line json (TableRepetition e) = table_fault_line json e
-event_line json (Unclocked e) = unclocked_line json e
-event_line json (Refused e) = refused_line json e
-event_line json (Continuity e) = continuity_line json e
-event_line json (CheckWord e) = check_word_line json e
-event_line json (Transport e) = transport_line json e
-event_line json (Main e) = main_line json e
-event_line json (Multiplexing e) = multiplexing_line json e
-event_line json (Elementary e) = elementary_line json e
-event_line json (Marks e) = marks_line json e
-event_line json (System e) = system_line json e
-event_line json (Clock e) = clock_line json e
-event_line json (Table e) = table_line json e
-event_line json (Pid e) = pid_line json e
-event_line json (Unreferenced pid) = reference_line json (codes "unreferenced") pid
-event_line json (Missing pid) = reference_line json (codes "missing") pid
-event_line json (Check e) = check_line json e
-event_line json (End e) = end_line json e
-event_line json (Rule e) = rule_line json e
-event_line json (Summary e) = summary_line json e
+event_line json (events.Input e) = input_line json e
+event_line json (events.Stream e) = stream_line json e
+event_line json (events.Window w) = window_line json w
+event_line json (events.Held e) = held_line json e
+event_line json (events.Units e) = units_line json e
+event_line json (events.Excess e) = excess_line json e
+event_line json (events.Late e) = late_line json e
+event_line json (events.ElementaryLate e) = elementary_late_line json e
+event_line json (events.Ahead e) = ahead_line json e
+event_line json (events.ClockFault kind e) = clock_fault_line json kind e
+event_line json (events.TableFault kind e) = table_fault_line json kind e
+event_line json (events.Unclocked e) = unclocked_line json e
+event_line json (events.Refused e) = refused_line json e
+event_line json (events.Continuity e) = continuity_line json e
+event_line json (events.CheckWord e) = check_word_line json e
+event_line json (events.Transport e) = transport_line json e
+event_line json (events.Main e) = main_line json e
+event_line json (events.Multiplexing e) = multiplexing_line json e
+event_line json (events.Elementary e) = elementary_line json e
+event_line json (events.Marks e) = marks_line json e
+event_line json (events.System e) = system_line json e
+event_line json (events.Clock e) = clock_line json e
+event_line json (events.Table e) = table_line json e
+event_line json (events.Pid e) = pid_line json e
+event_line json (events.Unreferenced pid) = reference_line json (codes "unreferenced") pid
+event_line json (events.Missing pid) = reference_line json (codes "missing") pid
+event_line json (events.Check e) = check_line json e
+event_line json (events.End e) = end_line json e
+event_line json (events.Rule e) = rule_line json e
+event_line json (events.Summary e) = summary_line json e
 
 -- the line of an event, with its time if it is a fault
 abbrev pub timed_line : Bool → TimedEvent → List ℕ

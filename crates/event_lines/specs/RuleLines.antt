@@ -1,7 +1,5 @@
 -- The lines of faults by checks of ETSI TR 101 290 (docs/VIEW.md).
 use Rattle.std.specs.Prelude.{ℕ, Bool, List, [], ◌∷◌, codes}
-use Rattle.events.specs.declared.event.ClockFault.{ClockFault}
-use Rattle.events.specs.declared.event.TableFault.{TableFault}
 use Rattle.events.specs.declared.rule_event.AbsentTable.{AbsentTable}
 use Rattle.events.specs.declared.rule_event.BufferStay.{BufferStay}
 use Rattle.events.specs.declared.rule_event.ClockFigures.{ClockFigures}
@@ -13,22 +11,6 @@ use Rattle.events.specs.declared.rule_event.VariableRate.{VariableRate}
 use Rattle.events.specs.BufferKinds.{owner_word, word_of}
 use Rattle.event_lines.specs.ReportLines.{line_of, number_field, signed_field, word_field}
 use Rattle.event_lines.specs.TraceLines.{trace_line}
-
-abbrev pub pts_line : Bool → ClockFault → List ℕ
-pts_line json e = line_of json (codes "pts_repetition")
-    (number_field (codes "pid") e.pid ∷ number_field (codes "packet") e.packet
-    ∷ number_field (codes "value") e.value ∷ number_field (codes "limit") e.limit ∷ [])
-
-abbrev pub pid_line : Bool → ClockFault → List ℕ
-pid_line json e = line_of json (codes "pid_repetition")
-    (number_field (codes "pid") e.pid ∷ number_field (codes "packet") e.packet
-    ∷ number_field (codes "value") e.value ∷ number_field (codes "limit") e.limit ∷ [])
-
-abbrev pub distance_line : Bool → TableFault → List ℕ
-distance_line json e = line_of json (codes "section_distance")
-    (number_field (codes "pid") e.pid ∷ number_field (codes "table") e.table
-    ∷ number_field (codes "packet") e.packet ∷ number_field (codes "value") e.value
-    ∷ number_field (codes "limit") e.limit ∷ [])
 
 abbrev pub other_table_line : Bool → OtherTable → List ℕ
 other_table_line json e = line_of json (codes "other_table")
@@ -60,9 +42,6 @@ clock_window_line json e = line_of json (codes "clock_window")
     ∷ number_field (codes "inaccuracy") e.inaccuracy ∷ signed_field (codes "drift") e.ahead e.behind ∷ [])
 
 unfoldable pub rule_line : Bool → RuleEvent → List ℕ
-rule_line json (rules.PtsRepetition e) = pts_line json e
-rule_line json (rules.PidRepetition e) = pid_line json e
-rule_line json (rules.SectionDistance e) = distance_line json e
 rule_line json (rules.OtherTable e) = other_table_line json e
 rule_line json (rules.ScrambledTable e) = scrambled_line json (codes "scrambled_table") e
 rule_line json (rules.NoCat e) = scrambled_line json (codes "no_cat") e

@@ -11,8 +11,8 @@ use crate::input_lines::write_input;
 use crate::lines::{number, write_last, write_line};
 use crate::mark_lines::write_marks;
 use crate::packet_lines::{
-    write_ahead, write_clock_fault, write_excess, write_late, write_program_excess, write_stream,
-    write_table_fault, write_unclocked,
+    write_ahead, write_clock_fault, write_excess, write_late, write_stream, write_table_fault,
+    write_unclocked,
 };
 use crate::rule_lines::write_rule;
 use crate::summary_lines::{write_check, write_fault_time, write_summary};
@@ -43,19 +43,12 @@ fn write_event(
         Event::Window(window) => write_window(alloc, text, json, window),
         Event::Held(e) => write_held(text, json, e),
         Event::Units(e) => write_units(text, json, e),
-        Event::Excess(e) => write_excess(text, json, "excess", e),
-        Event::MainExcess(e) => write_excess(text, json, "main_excess", e),
-        Event::MultiplexingExcess(e) => write_excess(text, json, "multiplexing_excess", e),
-        Event::ElementaryExcess(e) => write_excess(text, json, "elementary_excess", e),
-        Event::SystemExcess(e) => write_program_excess(text, json, "system_excess", e),
-        Event::SystemMainExcess(e) => write_program_excess(text, json, "system_main_excess", e),
+        Event::Excess(e) => write_excess(text, json, e),
         Event::Late(e) => write_late(text, json, e),
         Event::ElementaryLate(e) => write_elementary_late(text, json, e),
         Event::Ahead(e) => write_ahead(text, json, e),
-        Event::PcrRepetition(e) => write_clock_fault(text, json, "pcr_repetition", e),
-        Event::PcrDiscontinuity(e) => write_clock_fault(text, json, "pcr_discontinuity", e),
-        Event::PcrAccuracy(e) => write_clock_fault(text, json, "pcr_accuracy", e),
-        Event::TableRepetition(e) => write_table_fault(text, json, e),
+        Event::ClockFault(kind, e) => write_clock_fault(text, json, *kind, e),
+        Event::TableFault(kind, e) => write_table_fault(text, json, *kind, e),
         Event::Unclocked(e) => write_unclocked(text, json, e),
         Event::Refused(e) => write_refused(text, json, e),
         Event::Continuity(e) => write_continuity(text, json, e),

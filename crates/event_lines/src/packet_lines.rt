@@ -4,7 +4,7 @@ ghost use Rattle.event_lines.specs.EventLines as spec;
 
 use crate::lines::{number, word, write_line};
 use events::{
-    BufferExcess, ClockFault, FarAhead, LateUnit, ProgramExcess, StreamBegin, TableFault,
+    BufferExcess, ClockFault, FarAhead, FaultKind, LateUnit, StreamBegin, TableFault,
     UnclockedPackets,
 };
 use std::alloc::AllocError;
@@ -25,45 +25,23 @@ pub(crate) fn write_stream(text: &mut String, json: bool, e: &StreamBegin) -> Re
     write_line(text, json, "stream", &fields)
 }
 
-/// Appends `excess` and `main_excess`.
+/// Appends the excess of a buffer, by the word of its kind.
 pub(crate) fn write_excess(
     text: &mut String,
     json: bool,
-    word: &str,
     e: &BufferExcess,
 ) -> Result<(), AllocError>
-    ensures { OnOk result (string_bytes text.new ≡ string_bytes text.old ++ spec.excess_line json word.now e.now) }
+    ensures { OnOk result (string_bytes text.new ≡ string_bytes text.old ++ spec.excess_line json e.now) }
 {
     let fields = [
-        number("pid", u128::from(e.pid)),
+        number(e.buffer.owner_word(), u128::from(e.number)),
         number("packet", u128::from(e.packet)),
         number("begin", e.begin),
         number("end", e.end),
         number("peak", e.peak),
         number("size", u128::from(e.size)),
     ];
-    write_line(text, json, word, &fields)
-}
-
-/// Appends `system_excess` and `system_main_excess`.
-pub(crate) fn write_program_excess(
-    text: &mut String,
-    json: bool,
-    word: &str,
-    e: &ProgramExcess,
-) -> Result<(), AllocError>
-    ensures { OnOk result (string_bytes text.new
-        ≡ string_bytes text.old ++ spec.program_excess_line json word.now e.now) }
-{
-    let fields = [
-        number("program", u128::from(e.program)),
-        number("packet", u128::from(e.packet)),
-        number("begin", e.begin),
-        number("end", e.end),
-        number("peak", e.peak),
-        number("size", u128::from(e.size)),
-    ];
-    write_line(text, json, word, &fields)
+    write_line(text, json, e.buffer.excess().word(), &fields)
 }
 
 /// Appends `late`.
@@ -94,14 +72,14 @@ pub(crate) fn write_ahead(text: &mut String, json: bool, e: &FarAhead) -> Result
     write_line(text, json, "ahead", &fields)
 }
 
-/// Appends `pcr_repetition`, `pcr_discontinuity` and `pcr_accuracy`.
+/// Appends a fault of a clock, of a PTS or of a PID, by the word of its kind.
 pub(crate) fn write_clock_fault(
     text: &mut String,
     json: bool,
-    word: &str,
+    kind: FaultKind,
     e: &ClockFault,
 ) -> Result<(), AllocError>
-    ensures { OnOk result (string_bytes text.new ≡ string_bytes text.old ++ spec.clock_fault_line json word.now e.now) }
+    ensures { OnOk result (string_bytes text.new ≡ string_bytes text.old ++ spec.clock_fault_line json kind e.now) }
 {
     let fields = [
         number("pid", u128::from(e.pid)),
@@ -109,16 +87,17 @@ pub(crate) fn write_clock_fault(
         number("value", e.value),
         number("limit", u128::from(e.limit)),
     ];
-    write_line(text, json, word, &fields)
+    write_line(text, json, kind.word(), &fields)
 }
 
-/// Appends `table_repetition`.
+/// Appends a section that begins too late or too soon, by the word of its kind.
 pub(crate) fn write_table_fault(
     text: &mut String,
     json: bool,
+    kind: FaultKind,
     e: &TableFault,
 ) -> Result<(), AllocError>
-    ensures { OnOk result (string_bytes text.new ≡ string_bytes text.old ++ spec.table_fault_line json e.now) }
+    ensures { OnOk result (string_bytes text.new ≡ string_bytes text.old ++ spec.table_fault_line json kind e.now) }
 {
     let fields = [
         number("pid", u128::from(e.pid)),
@@ -127,7 +106,7 @@ pub(crate) fn write_table_fault(
         number("value", e.value),
         number("limit", u128::from(e.limit)),
     ];
-    write_line(text, json, "table_repetition", &fields)
+    write_line(text, json, kind.word(), &fields)
 }
 
 /// Appends `unclocked`.

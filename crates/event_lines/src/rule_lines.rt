@@ -5,50 +5,9 @@ ghost use Rattle.event_lines.specs.RuleLines as spec;
 use crate::lines::{number, signed, word, write_line};
 use crate::trace_lines::write_trace;
 use events::{
-    AbsentTable, BufferStay, ClockFault, ClockFigures, OtherTable, RuleEvent, ScrambledPacket,
-    TableFault, VariableRate,
+    AbsentTable, BufferStay, ClockFigures, OtherTable, RuleEvent, ScrambledPacket, VariableRate,
 };
 use std::alloc::AllocError;
-
-// Appends `pts_repetition`.
-fn write_pts(text: &mut String, json: bool, e: &ClockFault) -> Result<(), AllocError>
-    ensures { OnOk result (string_bytes text.new ≡ string_bytes text.old ++ spec.pts_line json e.now) }
-{
-    let fields = [
-        number("pid", u128::from(e.pid)),
-        number("packet", u128::from(e.packet)),
-        number("value", e.value),
-        number("limit", u128::from(e.limit)),
-    ];
-    write_line(text, json, "pts_repetition", &fields)
-}
-
-// Appends `pid_repetition`.
-fn write_pid(text: &mut String, json: bool, e: &ClockFault) -> Result<(), AllocError>
-    ensures { OnOk result (string_bytes text.new ≡ string_bytes text.old ++ spec.pid_line json e.now) }
-{
-    let fields = [
-        number("pid", u128::from(e.pid)),
-        number("packet", u128::from(e.packet)),
-        number("value", e.value),
-        number("limit", u128::from(e.limit)),
-    ];
-    write_line(text, json, "pid_repetition", &fields)
-}
-
-// Appends `section_distance`.
-fn write_distance(text: &mut String, json: bool, e: &TableFault) -> Result<(), AllocError>
-    ensures { OnOk result (string_bytes text.new ≡ string_bytes text.old ++ spec.distance_line json e.now) }
-{
-    let fields = [
-        number("pid", u128::from(e.pid)),
-        number("table", u128::from(e.table)),
-        number("packet", u128::from(e.packet)),
-        number("value", e.value),
-        number("limit", u128::from(e.limit)),
-    ];
-    write_line(text, json, "section_distance", &fields)
-}
 
 // Appends `other_table`.
 fn write_other_table(text: &mut String, json: bool, e: &OtherTable) -> Result<(), AllocError>
@@ -138,9 +97,6 @@ pub(crate) fn write_rule(text: &mut String, json: bool, event: &RuleEvent) -> Re
     ensures { OnOk result (string_bytes text.new ≡ string_bytes text.old ++ spec.rule_line json event.now) }
 {
     match event {
-        RuleEvent::PtsRepetition(e) => write_pts(text, json, e),
-        RuleEvent::PidRepetition(e) => write_pid(text, json, e),
-        RuleEvent::SectionDistance(e) => write_distance(text, json, e),
         RuleEvent::OtherTable(e) => write_other_table(text, json, e),
         RuleEvent::ScrambledTable(e) => write_scrambled(text, json, "scrambled_table", e),
         RuleEvent::NoCat(e) => write_scrambled(text, json, "no_cat", e),

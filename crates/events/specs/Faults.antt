@@ -4,24 +4,22 @@ use Rattle.events.specs.declared.event.BufferExcess.{BufferExcess}
 use Rattle.events.specs.declared.event.ClockFault.{ClockFault}
 use Rattle.events.specs.declared.event.Event.{Event}
 use Rattle.events.specs.declared.event.Event.TheVariants as events
-use Rattle.events.specs.declared.event.ProgramExcess.{ProgramExcess}
 use Rattle.events.specs.declared.event.TableFault.{TableFault}
 use Rattle.events.specs.declared.fault.Fault.{Fault}
 use Rattle.events.specs.declared.fault.Measured.{Measured}
 use Rattle.events.specs.declared.fault_kind.FaultKind.{FaultKind}
 use Rattle.events.specs.declared.fault_kind.FaultKind.TheVariants as kinds
 use Rattle.events.specs.declared.fault_kind.FaultSource.{FaultSource}
-use Rattle.events.specs.declared.fault_kind.FaultSource.TheVariants.{Whole, Stream, Program, Table}
+use Rattle.events.specs.declared.fault_kind.FaultSource.TheVariants.{Whole, Stream, Table}
 use Rattle.events.specs.declared.input_event.InputEvent.{InputEvent}
 use Rattle.events.specs.declared.input_event.StampJump.{StampJump}
 use Rattle.events.specs.declared.input_event.InputEvent.TheVariants as inputs
 use Rattle.events.specs.declared.packet_fault.RefusalCause.{RefusalCause}
 use Rattle.events.specs.declared.packet_fault.RefusalCause.TheVariants as causes
-use Rattle.events.specs.declared.rule_event.BufferKind.{BufferKind}
-use Rattle.events.specs.declared.rule_event.BufferKind.TheVariants as buffers
 use Rattle.events.specs.declared.rule_event.BufferStay.{BufferStay}
 use Rattle.events.specs.declared.rule_event.RuleEvent.{RuleEvent}
 use Rattle.events.specs.declared.rule_event.RuleEvent.TheVariants as rules
+use Rattle.events.specs.BufferKinds.{excess_kind, owner_of}
 
 -- 1. Forms
 
@@ -43,11 +41,8 @@ span kind source packet begin end measured =
 
 -- 2. By events
 
-abbrev pub excess_fault : FaultKind → BufferExcess → Fault
-excess_fault kind e = span kind (Stream e.pid) e.packet e.begin e.end (record { value = e.peak; limit = e.size })
-
-abbrev pub program_fault : FaultKind → ProgramExcess → Fault
-program_fault kind e = span kind (Program e.program) e.packet e.begin e.end (record { value = e.peak; limit = e.size })
+abbrev pub excess_fault : BufferExcess → Fault
+excess_fault e = span (excess_kind e.buffer) (owner_of e.buffer e.number) e.packet e.begin e.end (record { value = e.peak; limit = e.size })
 
 -- a unit is late from its DTS to the moment of its last byte
 abbrev pub late_fault : FaultKind → ℕ → ℕ → ℕ → ℕ → ℕ → Fault
@@ -58,15 +53,6 @@ clock_fault kind e at = measured_fault kind (Stream e.pid) e.packet at (record {
 
 abbrev pub table_fault : FaultKind → TableFault → Option ℕ → Fault
 table_fault kind e at = measured_fault kind (Table e.pid e.table) e.packet at (record { value = e.value; limit = e.limit })
-
--- a buffer of a stream, or of a program's tables
-unfoldable pub owner_of : BufferKind → ℕ → FaultSource
-owner_of buffers.Transport number = Stream number
-owner_of buffers.Multiplexing number = Stream number
-owner_of buffers.Elementary number = Stream number
-owner_of buffers.Main number = Stream number
-owner_of buffers.TableTransport number = Program number
-owner_of buffers.System number = Program number
 
 abbrev pub stay_fault : FaultKind → BufferStay → Fault
 stay_fault kind e = span kind (owner_of e.buffer e.number) e.packet e.begin e.end (record { value = e.end - e.begin; limit = e.limit })
@@ -92,9 +78,6 @@ input_fault inputs.NoStamps at = Some (point kinds.NoStamps Whole 0 None)
 input_fault (inputs.StampJump e) at = Some (jump_fault e at)
 
 unfoldable pub rule_fault : RuleEvent → Option ℕ → Option Fault
-rule_fault (rules.PtsRepetition e) at = Some (clock_fault kinds.PtsRepetition e at)
-rule_fault (rules.PidRepetition e) at = Some (clock_fault kinds.PidRepetition e at)
-rule_fault (rules.SectionDistance e) at = Some (table_fault kinds.SectionDistance e at)
 rule_fault (rules.OtherTable e) at = Some (point kinds.OtherTable (Table e.pid e.table) e.packet at)
 rule_fault (rules.ScrambledTable e) at = Some (point kinds.ScrambledTable (Stream e.pid) e.packet at)
 rule_fault (rules.NoCat e) at = Some (point kinds.NoCat (Stream e.pid) e.packet at)
@@ -106,12 +89,7 @@ rule_fault (rules.ClockWindow e) at = None
 rule_fault (rules.FaultTrace e) at = None
 
 unfoldable pub buffer_fault : Event → Option ℕ → Option Fault
-buffer_fault (events.Excess e) at = Some (excess_fault kinds.Excess e)
-buffer_fault (events.MainExcess e) at = Some (excess_fault kinds.MainExcess e)
-buffer_fault (events.MultiplexingExcess e) at = Some (excess_fault kinds.MultiplexingExcess e)
-buffer_fault (events.ElementaryExcess e) at = Some (excess_fault kinds.ElementaryExcess e)
-buffer_fault (events.SystemExcess e) at = Some (program_fault kinds.SystemExcess e)
-buffer_fault (events.SystemMainExcess e) at = Some (program_fault kinds.SystemMainExcess e)
+buffer_fault (events.Excess e) at = Some (excess_fault e)
 buffer_fault (events.Late e) at = Some (late_fault kinds.Late e.pid e.packet e.due e.left e.by)
 buffer_fault (events.ElementaryLate e) at = Some (late_fault kinds.ElementaryLate e.pid e.packet e.due e.left e.by)
 buffer_fault (events.Ahead e) at = Some (measured_fault kinds.Ahead (Stream e.pid) e.packet at (record { value = e.by; limit = e.limit }))
@@ -119,10 +97,8 @@ buffer_fault _ at = None
 
 unfoldable pub fault_of : Event → Option ℕ → Option Fault
 fault_of (events.Input e) at = input_fault e at
-fault_of (events.PcrRepetition e) at = Some (clock_fault kinds.PcrRepetition e at)
-fault_of (events.PcrDiscontinuity e) at = Some (clock_fault kinds.PcrDiscontinuity e at)
-fault_of (events.PcrAccuracy e) at = Some (clock_fault kinds.PcrAccuracy e at)
-fault_of (events.TableRepetition e) at = Some (table_fault kinds.TableRepetition e at)
+fault_of (events.ClockFault kind e) at = Some (clock_fault kind e at)
+fault_of (events.TableFault kind e) at = Some (table_fault kind e at)
 fault_of (events.Unclocked e) at = Some (point kinds.Unclocked Whole e.packet None)
 fault_of (events.Refused e) at = Some (point (kind_of_cause e.cause) Whole e.packet at)
 fault_of (events.Continuity e) at = Some (point kinds.Continuity (Stream e.pid) e.packet at)

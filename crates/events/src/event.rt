@@ -3,11 +3,12 @@
 //! Times are in ticks of 27 MHz, moments from the stream's first byte on; numbers of packets and of windows begin with
 //! 0; sizes and fullness are in bytes, rates in bits a second.
 use crate::check_counts::CheckTotals;
+use crate::fault_kind::FaultKind;
 use crate::input_event::InputEvent;
 use crate::mark_event::MarkTotals;
 use crate::packet_fault::{CheckWordFault, CounterFault, RefusedPacket};
 use crate::pid_name::PidName;
-use crate::rule_event::RuleEvent;
+use crate::rule_event::{BufferKind, RuleEvent};
 use crate::summary::SummaryEvent;
 use crate::video_event::{ElementaryLate, ElementaryTotals, MultiplexingTotals};
 use std::marker::Model;
@@ -87,21 +88,12 @@ pub struct UnitFigures {
     pub slack: u128,
 }
 
-/// A buffer of a stream held more than its size.
+/// A buffer held more than its size.
 #[derive(Clone, Copy)]
 pub struct BufferExcess {
-    pub pid: u16,
-    pub packet: u64,
-    pub begin: u128,
-    pub end: u128,
-    pub peak: u128,
-    pub size: u64,
-}
-
-/// A buffer of a program's tables held more than its size.
-#[derive(Clone, Copy)]
-pub struct ProgramExcess {
-    pub program: u16,
+    /// The PID of the stream, or the number of the program whose tables the buffer holds.
+    pub number: u16,
+    pub buffer: BufferKind,
     pub packet: u64,
     pub begin: u128,
     pub end: u128,
@@ -131,7 +123,8 @@ pub struct FarAhead {
     pub limit: u64,
 }
 
-/// A clock reference in error: times in ticks, an inaccuracy in nanoseconds.
+/// A clock reference in error, or a PTS or a packet that comes too long after the one before it of its PID: times in
+/// ticks, an inaccuracy in nanoseconds.
 #[derive(Clone, Copy)]
 pub struct ClockFault {
     pub pid: u16,
@@ -140,7 +133,7 @@ pub struct ClockFault {
     pub limit: u64,
 }
 
-/// A section that begins too late after the one before it.
+/// A section that begins too late or too soon after the one before it.
 #[derive(Clone, Copy)]
 pub struct TableFault {
     pub pid: u16,
@@ -249,19 +242,13 @@ pub enum Event {
     Held(HeldFigures),
     Units(UnitFigures),
     Excess(BufferExcess),
-    MainExcess(BufferExcess),
-    /// Of the multiplexing buffer and of the elementary stream buffer of video.
-    MultiplexingExcess(BufferExcess),
-    ElementaryExcess(BufferExcess),
-    SystemExcess(ProgramExcess),
-    SystemMainExcess(ProgramExcess),
     Late(LateUnit),
     ElementaryLate(ElementaryLate),
     Ahead(FarAhead),
-    PcrRepetition(ClockFault),
-    PcrDiscontinuity(ClockFault),
-    PcrAccuracy(ClockFault),
-    TableRepetition(TableFault),
+    /// A fault of a clock reference (2.3, 2.4), of a PTS (2.5), or of a PID whose packets stop (1.6), by its kind.
+    ClockFault(FaultKind, ClockFault),
+    /// A section that begins too late or too soon (1.3 to 3.8), by its kind.
+    TableFault(FaultKind, TableFault),
     Unclocked(UnclockedPackets),
     Refused(RefusedPacket),
     Continuity(CounterFault),

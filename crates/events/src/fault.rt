@@ -2,11 +2,11 @@
 ghost use Rattle.std.specs.Prelude.{◌≡◌};
 ghost use Rattle.events.specs.Faults as spec;
 
-use crate::event::{BufferExcess, ClockFault, Event, ProgramExcess, TableFault};
+use crate::event::{BufferExcess, ClockFault, Event, TableFault};
 use crate::fault_kind::{FaultKind, FaultSource};
 use crate::input_event::{InputEvent, StampJump};
 use crate::packet_fault::RefusalCause;
-use crate::rule_event::{BufferKind, BufferStay, RuleEvent};
+use crate::rule_event::{BufferStay, RuleEvent};
 
 /// A value that is measured, and its limit.
 #[derive(Clone, Copy)]
@@ -61,32 +61,22 @@ fn span(
     }
 }
 
-fn excess_fault(kind: FaultKind, e: &BufferExcess) -> Fault
-    ensures { result ≡ spec.excess_fault kind e.now }
+fn excess_fault(e: &BufferExcess) -> Fault
+    ensures { result ≡ spec.excess_fault e.now }
 {
     let measured = Measured {
         value: e.peak,
         limit: e.size,
     };
+    let source = e.buffer.owner(e.number);
     span(
-        kind,
-        FaultSource::Stream(e.pid),
+        e.buffer.excess(),
+        source,
         e.packet,
         e.begin,
         e.end,
         measured,
     )
-}
-
-fn program_fault(kind: FaultKind, e: &ProgramExcess) -> Fault
-    ensures { result ≡ spec.program_fault kind e.now }
-{
-    let measured = Measured {
-        value: e.peak,
-        limit: e.size,
-    };
-    let source = FaultSource::Program(e.program);
-    span(kind, source, e.packet, e.begin, e.end, measured)
 }
 
 // Returns the fault of a late unit, by its DTS and the moment of its last byte.
@@ -148,17 +138,6 @@ fn table_fault(kind: FaultKind, e: &TableFault, at: Option<u128>) -> Fault
     measured_fault(kind, source, e.packet, at, measured)
 }
 
-// Returns the owner of a buffer: a stream, or the tables of a program.
-#[tactic(auto, unfolding(crate::specs::Faults::owner_of))]
-fn owner_of(buffer: BufferKind, number: u16) -> FaultSource
-    ensures { result ≡ spec.owner_of buffer number }
-{
-    match buffer {
-        BufferKind::TableTransport | BufferKind::System => FaultSource::Program(number),
-        _ => FaultSource::Stream(number),
-    }
-}
-
 fn stay_fault(kind: FaultKind, e: &BufferStay) -> Fault
     ensures { result ≡ spec.stay_fault kind e.now }
 {
@@ -166,7 +145,7 @@ fn stay_fault(kind: FaultKind, e: &BufferStay) -> Fault
         value: e.end.saturating_sub(e.begin),
         limit: e.limit,
     };
-    let source = owner_of(e.buffer, e.number);
+    let source = e.buffer.owner(e.number);
     span(kind, source, e.packet, e.begin, e.end, measured)
 }
 
@@ -223,9 +202,6 @@ fn rule_fault(event: RuleEvent, at: Option<u128>) -> Option<Fault>
     ensures { result ≡ spec.rule_fault event at }
 {
     match event {
-        RuleEvent::PtsRepetition(e) => Some(clock_fault(FaultKind::PtsRepetition, &e, at)),
-        RuleEvent::PidRepetition(e) => Some(clock_fault(FaultKind::PidRepetition, &e, at)),
-        RuleEvent::SectionDistance(e) => Some(table_fault(FaultKind::SectionDistance, &e, at)),
         RuleEvent::OtherTable(e) => Some(point(
             FaultKind::OtherTable,
             FaultSource::Table(e.pid, e.table),
@@ -264,12 +240,7 @@ fn buffer_fault(event: &Event, at: Option<u128>) -> Option<Fault>
     ensures { result ≡ spec.buffer_fault event.now at }
 {
     match event {
-        Event::Excess(e) => Some(excess_fault(FaultKind::Excess, e)),
-        Event::MainExcess(e) => Some(excess_fault(FaultKind::MainExcess, e)),
-        Event::MultiplexingExcess(e) => Some(excess_fault(FaultKind::MultiplexingExcess, e)),
-        Event::ElementaryExcess(e) => Some(excess_fault(FaultKind::ElementaryExcess, e)),
-        Event::SystemExcess(e) => Some(program_fault(FaultKind::SystemExcess, e)),
-        Event::SystemMainExcess(e) => Some(program_fault(FaultKind::SystemMainExcess, e)),
+        Event::Excess(e) => Some(excess_fault(e)),
         Event::Late(e) => Some(late_fault(FaultKind::Late, e.pid, e.packet, e.due, e.left, e.by)),
         Event::ElementaryLate(e) => Some(late_fault(
             FaultKind::ElementaryLate,
@@ -299,10 +270,8 @@ pub fn fault_of(event: &Event, at: Option<u128>) -> Option<Fault>
     match event {
         Event::Input(e) => input_fault(*e, at),
         Event::Rule(e) => rule_fault(*e, at),
-        Event::PcrRepetition(e) => Some(clock_fault(FaultKind::PcrRepetition, e, at)),
-        Event::PcrDiscontinuity(e) => Some(clock_fault(FaultKind::PcrDiscontinuity, e, at)),
-        Event::PcrAccuracy(e) => Some(clock_fault(FaultKind::PcrAccuracy, e, at)),
-        Event::TableRepetition(e) => Some(table_fault(FaultKind::TableRepetition, e, at)),
+        Event::ClockFault(kind, e) => Some(clock_fault(*kind, e, at)),
+        Event::TableFault(kind, e) => Some(table_fault(*kind, e, at)),
         Event::Unclocked(e) => Some(point(
             FaultKind::Unclocked,
             FaultSource::Whole,

@@ -29,8 +29,8 @@ pub use check_counts::{
 };
 pub use event::{
     BufferExcess, ClockFault, ClockTotals, Event, FarAhead, HeldFigures, LateUnit, MainTotals,
-    PidTotals, ProgramExcess, ReportEnd, StreamBegin, SystemTotals, TableFault, TableTotals,
-    TransportTotals, UnclockedPackets, UnitFigures, WindowFigures,
+    PidTotals, ReportEnd, StreamBegin, SystemTotals, TableFault, TableTotals, TransportTotals,
+    UnclockedPackets, UnitFigures, WindowFigures,
 };
 pub use fault::{Fault, Measured, fault_of};
 pub use fault_kind::{FaultKind, FaultSource};

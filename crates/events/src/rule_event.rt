@@ -2,7 +2,7 @@
 ghost use Rattle.std.specs.Prelude.{◌≡◌};
 ghost use Rattle.events.specs.BufferKinds as spec;
 
-use crate::event::{ClockFault, TableFault};
+use crate::fault_kind::{FaultKind, FaultSource};
 
 /// A buffer of the decoder model (ISO/IEC 13818-1, 2.4.2.3): TB, MB, EB and B of a stream, and both buffers of a
 /// program's tables.
@@ -99,12 +99,6 @@ pub struct TracePoint {
 /// buffer held near its greatest excess, by the word of its line.
 #[derive(Clone, Copy)]
 pub enum RuleEvent {
-    /// A PTS that comes too long after the one before it (2.5).
-    PtsRepetition(ClockFault),
-    /// A packet that comes too long after the one before it of its PID, or none up to the end (1.6).
-    PidRepetition(ClockFault),
-    /// A section that begins too soon after the one before it (3.1 to 3.8).
-    SectionDistance(TableFault),
     OtherTable(OtherTable),
     /// A packet of a PAT or of a PMT is scrambled (1.3.a, 1.5.a).
     ScrambledTable(ScrambledPacket),
@@ -148,6 +142,32 @@ impl BufferKind {
         match self {
             BufferKind::TableTransport | BufferKind::System => "program",
             _ => "pid",
+        }
+    }
+
+    /// Returns the owner of a buffer: the stream of a PID, or the tables of a program.
+    #[tactic(auto, unfolding(crate::specs::BufferKinds::owner_of))]
+    pub fn owner(self, number: u16) -> FaultSource
+        ensures { result ≡ spec.owner_of self number }
+    {
+        match self {
+            BufferKind::TableTransport | BufferKind::System => FaultSource::Program(number),
+            _ => FaultSource::Stream(number),
+        }
+    }
+
+    /// Returns the kind of the excesses of a buffer.
+    #[tactic(auto, unfolding(crate::specs::BufferKinds::excess_kind))]
+    pub fn excess(self) -> FaultKind
+        ensures { result ≡ spec.excess_kind self }
+    {
+        match self {
+            BufferKind::Transport => FaultKind::Excess,
+            BufferKind::Multiplexing => FaultKind::MultiplexingExcess,
+            BufferKind::Elementary => FaultKind::ElementaryExcess,
+            BufferKind::Main => FaultKind::MainExcess,
+            BufferKind::TableTransport => FaultKind::SystemExcess,
+            BufferKind::System => FaultKind::SystemMainExcess,
         }
     }
 }

@@ -4,16 +4,13 @@ use Rattle.events.specs.declared.event.Event.{Event}
 use Rattle.events.specs.declared.event.Event.TheVariants as events
 use Rattle.events.specs.declared.event.MainTotals.{MainTotals}
 use Rattle.events.specs.declared.event.SystemTotals.{SystemTotals}
-use Rattle.events.specs.declared.fault_kind.FaultKind.{FaultKind}
-use Rattle.events.specs.declared.fault_kind.FaultKind.TheVariants as faults
-use Rattle.events.specs.declared.fault_kind.FaultSource.{FaultSource}
 use Rattle.events.specs.declared.rule_event.BufferKind.{BufferKind}
 use Rattle.events.specs.declared.rule_event.BufferKind.TheVariants as kinds
 use Rattle.events.specs.declared.summary.BufferVerdict.{BufferVerdict}
 use Rattle.events.specs.declared.summary.FaultTotals.{FaultTotals}
 use Rattle.events.specs.declared.summary.UnitVerdict.{UnitVerdict}
 use Rattle.events.specs.declared.summary.WorstBuffer.{WorstBuffer}
-use Rattle.events.specs.Faults.{owner_of}
+use Rattle.events.specs.BufferKinds.{excess_kind, owner_of}
 use Rattle.fault_summary.specs.FaultRows.{RowEntries, key_of, row_at}
 use Rattle.fault_summary.specs.declared.buffer_figures.BufferFigures.{BufferFigures}
 use Rattle.fault_summary.specs.declared.buffer_figures.BufferMost.{BufferMost}
@@ -74,17 +71,6 @@ abbrev pub unit_verdict : BufferFigures → UnitVerdict
 unit_verdict s = record { units = s.units; late = s.late }
 
 -- the times of the worst buffer: from the beginning of its first excess to the end of its last one
-unfoldable pub excess_kind : BufferKind → FaultKind
-excess_kind kinds.Transport = faults.Excess
-excess_kind kinds.Multiplexing = faults.MultiplexingExcess
-excess_kind kinds.Elementary = faults.ElementaryExcess
-excess_kind kinds.Main = faults.MainExcess
-excess_kind kinds.TableTransport = faults.SystemExcess
-excess_kind kinds.System = faults.SystemMainExcess
-
-abbrev pub owner : BufferKind → ℕ → FaultSource
-owner kind number = owner_of kind number
-
 unfoldable pub times_by : Option FaultTotals → Option ℕ × Option ℕ
 times_by None = (None, None)
 times_by (Some t) = (t.count.from, t.count.to)
@@ -94,7 +80,7 @@ worst_by w times = record { number = w.number; buffer = w.buffer; most = w.most;
 
 unfoldable pub worst_in : Option BufferMost → RowEntries → Option WorstBuffer
 worst_in None rows = None
-worst_in (Some w) rows = Some (worst_by w (times_by (row_at rows (key_of (excess_kind w.buffer) (owner w.buffer w.number)))))
+worst_in (Some w) rows = Some (worst_by w (times_by (row_at rows (key_of (excess_kind w.buffer) (owner_of w.buffer w.number)))))
 
 abbrev pub buffer_verdict : BufferFigures → RowEntries → BufferVerdict
 buffer_verdict s rows = record { buffers = s.buffers; over = s.over; worst = worst_in s.worst rows }

@@ -4,8 +4,8 @@ ghost use Rattle.fault_summary.specs.BufferFigures as spec;
 
 use crate::fault_rows::FaultRows;
 use events::{
-    BufferKind, BufferVerdict, Event, FaultKind, FaultSource, FaultTotals, MainTotals,
-    SystemTotals, UnitVerdict, WorstBuffer,
+    BufferKind, BufferVerdict, Event, FaultTotals, MainTotals, SystemTotals, UnitVerdict,
+    WorstBuffer,
 };
 
 /// A buffer: whose it is, the most bytes that it held, and its size.
@@ -179,31 +179,6 @@ impl BufferFigures {
     }
 }
 
-// Returns the kind of the excesses of a buffer.
-#[tactic(auto, unfolding(crate::specs::BufferFigures::excess_kind))]
-fn excess_kind(buffer: BufferKind) -> FaultKind
-    ensures { result ≡ spec.excess_kind buffer }
-{
-    match buffer {
-        BufferKind::Transport => FaultKind::Excess,
-        BufferKind::Multiplexing => FaultKind::MultiplexingExcess,
-        BufferKind::Elementary => FaultKind::ElementaryExcess,
-        BufferKind::Main => FaultKind::MainExcess,
-        BufferKind::TableTransport => FaultKind::SystemExcess,
-        BufferKind::System => FaultKind::SystemMainExcess,
-    }
-}
-
-#[tactic(auto, unfolding(events::specs::Faults::owner_of))]
-fn owner_of(buffer: BufferKind, number: u16) -> FaultSource
-    ensures { result ≡ spec.owner buffer number }
-{
-    match buffer {
-        BufferKind::TableTransport | BufferKind::System => FaultSource::Program(number),
-        _ => FaultSource::Stream(number),
-    }
-}
-
 #[tactic(auto, unfolding(crate::specs::BufferFigures::times_by))]
 fn times_by(totals: Option<FaultTotals>) -> (Option<u128>, Option<u128>)
     ensures { result ≡ spec.times_by totals }
@@ -234,8 +209,8 @@ fn worst_in(worst: Option<BufferMost>, rows: &FaultRows) -> Option<WorstBuffer>
     match worst {
         None => None,
         Some(worst) => {
-            let source = owner_of(worst.buffer, worst.number);
-            let totals = rows.get(excess_kind(worst.buffer), source);
+            let source = worst.buffer.owner(worst.number);
+            let totals = rows.get(worst.buffer.excess(), source);
             Some(worst_by(worst, times_by(totals)))
         }
     }

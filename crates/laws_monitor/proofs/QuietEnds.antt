@@ -17,6 +17,7 @@ use Rattle.tr101290.specs.declared.intervals.TableError.{TableError}
 use Rattle.tr101290.specs.declared.intervals.TableTiming.{TableTiming}
 use Rattle.events.specs.declared.event.ClockFault.{ClockFault}
 use Rattle.events.specs.declared.event.Event.TheVariants as found
+use Rattle.events.specs.declared.fault_kind.FaultKind.TheVariants as kinds
 use Rattle.events.specs.declared.rule_event.BufferKind.{BufferKind}
 use Rattle.events.specs.declared.rule_event.BufferKind.TheVariants as buffers
 use Rattle.events.specs.declared.rule_event.RuleEvent.TheVariants as rule_events
@@ -27,8 +28,7 @@ use Rattle.es_events.specs.declared.video_figures.VideoFigures.{VideoFigures}
 use Rattle.es_events.specs.declared.video_tally.VideoTally.{VideoTally}
 use Rattle.es_events.specs.declared.view_options.ViewOptions.{ViewOptions}
 use Rattle.es_events.specs.Clocks.{ClockEntries, clock_of}
-use Rattle.es_events.specs.EntryEvents.{closing_events, excess_event, excess_events, late_events, main_event, main_excess_event, main_excess_events}
-use Rattle.es_events.specs.EntryEvents.{main_figures}
+use Rattle.es_events.specs.EntryEvents.{closing_events, excess_event, excess_events, late_events, main_event, main_figures}
 use Rattle.es_events.specs.EntryEvents.{transport_total, under_way_events, with_size}
 use Rattle.es_events.specs.VideoEvents.{elementary_event, multiplexing_event, video_closing_events, video_under_way}
 use Rattle.es_events.specs.VideoFigures.{figures_of}
@@ -87,10 +87,10 @@ closes : (options : ViewOptions) (place : Place) (h : Held) (t : Tally) → Quie
 unfolding fault_in
 closes options place h t =
     join (under_way_events options place h) (transport_total place h t ∷ main_event place (main_figures h t) t ∷ [])
-    (join (excess_events options (with_size place tb_size) (option_to_list (transport_under_way h))) _
-    (each (excess_event options (with_size place tb_size)) (option_to_list (transport_under_way h)) (λ x. refl))
-    (join (main_excess_events options place (option_to_list h.main.under_way)) (late_events options place (unit_before h))
-    (each (main_excess_event options place) (option_to_list h.main.under_way) (λ x. refl)) (lates options place (unit_before h))))
+    (join (excess_events buffers.Transport options (with_size place tb_size) (option_to_list (transport_under_way h))) _
+    (each (excess_event buffers.Transport options (with_size place tb_size)) (option_to_list (transport_under_way h)) (λ x. refl))
+    (join (excess_events buffers.Main options place (option_to_list h.main.under_way)) (late_events options place (unit_before h))
+    (each (excess_event buffers.Main options place) (option_to_list h.main.under_way) (λ x. refl)) (lates options place (unit_before h))))
     refl
 
 video_closes : (options : ViewOptions) (place : Place) (o : Option VideoFigures) (units : ℕ) (t : VideoTally) →
@@ -180,7 +180,7 @@ absent_end false named tables = refl
 
 pid_stopped : (named : NamedView) (gap : ClockFault) → Quiet (watched_event named gap)
 unfolding fault_in
-pid_stopped named gap = one_if (is_watched named gap.pid) (found.Rule (rule_events.PidRepetition gap)) refl
+pid_stopped named gap = one_if (is_watched named gap.pid) (found.ClockFault kinds.PidRepetition gap) refl
 
 pids_stopped : (options : ViewOptions) (named : NamedView) (gaps : GapState) (packets : ℕ) (place : Option ℕ) →
     Quiet (stopped_pids_by options named gaps packets place)

@@ -13,8 +13,6 @@ use Rattle.sound_frames.specs.FrameWalks.{WalkView}
 use Rattle.stream_programs.specs.Streams.{FoundStreamView}
 use Rattle.ts_tables.specs.NamedStreams.{NamedView}
 use Rattle.ts_tables.specs.ServiceNames.{NameState}
-use Rattle.system_tables.specs.declared.table_excess.TableBuffer.{TableBuffer}
-use Rattle.system_tables.specs.declared.table_excess.TableBuffer.TheVariants.{Transport, System}
 use Rattle.system_tables.specs.declared.table_excess.TableExcess.{TableExcess}
 use Rattle.tstd_rows.specs.Limits.{tb_size}
 use Rattle.tstd_rows.specs.Held.{Held, transport_busy}
@@ -30,7 +28,6 @@ use Rattle.tstd_rows.specs.declared.late_causes.LateCause.{LateCause}
 use Rattle.tstd_rows.specs.declared.late_causes.VideoUnit.{VideoUnit}
 use Rattle.tstd_rows.specs.declared.unit_seen.UnitSeen.{UnitSeen}
 use Rattle.events.specs.declared.event.Event.{Event}
-use Rattle.events.specs.declared.event.ProgramExcess.{ProgramExcess}
 use Rattle.events.specs.declared.rule_event.BufferKind.{BufferKind}
 use Rattle.events.specs.declared.rule_event.BufferKind.TheVariants as buffers
 use Rattle.es_events.specs.declared.entry_events.Place.{Place}
@@ -39,9 +36,8 @@ use Rattle.es_events.specs.declared.video_tally.VideoLimits.{VideoLimits}
 use Rattle.es_events.specs.declared.view_options.ViewOptions.{ViewOptions}
 use Rattle.es_events.specs.Clocks.{ClockEntries, clock_of}
 use Rattle.es_events.specs.Tallies.{is_late}
-use Rattle.es_events.specs.EntryEvents.{ahead_events, ended_events, excess_event, late_event, late_events, main_excess_event, with_size}
-use Rattle.es_events.specs.VideoEvents.{elementary_excess_event, elementary_late_events, events_of_both, late_events_by}
-use Rattle.es_events.specs.VideoEvents.{multiplexing_excess_event, video_ended_events}
+use Rattle.es_events.specs.EntryEvents.{ahead_events, ended_events, excess_event, late_event, late_events, with_size}
+use Rattle.es_events.specs.VideoEvents.{elementary_late_events, events_of_both, late_events_by, video_ended_events}
 use Rattle.es_events.specs.VideoFigures.{limits_of}
 use Rattle.es_view.specs.HeldEvents.{held_event, tally_events, unit_event}
 use Rattle.es_events.specs.EntryStays.{busy_ended, busy_event, delayed_events, overstay_of}
@@ -51,7 +47,7 @@ use Rattle.es_view.specs.EntryFrames.{part_of, payload_events, place_of, stays_e
 use Rattle.es_view.specs.Entries.{EntryState, Framed, ahead_by, arriving_at, beginning_in, entry_events, events_entered, held_after, last_buffer, payload_at}
 use Rattle.es_view.specs.Entries.{place_at, seen_held, seen_tally, unit_stay, units_of}
 use Rattle.ts_watch.specs.Choices.{ChoiceView, takes}
-use Rattle.ts_watch.specs.SystemEvents.{excess_by, excess_events, excess_if}
+use Rattle.ts_watch.specs.SystemEvents.{excess_events, excess_if}
 use Rattle.ts_watch.specs.SystemEvents as systems
 use Rattle.ts_watch.specs.WindowEvents.{window_event, window_events}
 use Rattle.clock_windows.specs.ClockWindows.{ClocksState}
@@ -132,10 +128,10 @@ lates options place (Some u) = one_if (is_late u) (late_event options place u) r
 ends : (options : ViewOptions) (place : Place) (e : EnteredView) → Quiet (ended_events options place e)
 unfolding fault_in
 ends options place e =
-    join (map (excess_event options (with_size place tb_size)) e.transport) (map (main_excess_event options place) e.main ++ late_events options place e.unit)
-    (each (excess_event options (with_size place tb_size)) e.transport (λ x. refl))
-    (join (map (main_excess_event options place) e.main) (late_events options place e.unit) (each (main_excess_event options place) e.main (λ x. refl))
-    (lates options place e.unit))
+    join (map (excess_event buffers.Transport options (with_size place tb_size)) e.transport) _
+    (each (excess_event buffers.Transport options (with_size place tb_size)) e.transport (λ x. refl))
+    (join (map (excess_event buffers.Main options place) e.main) (late_events options place e.unit)
+    (each (excess_event buffers.Main options place) e.main (λ x. refl)) (lates options place e.unit))
 
 aheads : (place : Place) (o : Option ℕ) → Quiet (ahead_events place o)
 unfolding ahead_events fault_in
@@ -162,10 +158,11 @@ pub of_both : (options : ViewOptions) (place : Place) (limits : VideoLimits) (mu
     Quiet (events_of_both options place limits multiplexing elementary unit)
 unfolding fault_in
 of_both options place limits multiplexing elementary unit =
-    join (map (multiplexing_excess_event options (with_size place limits.multiplexing)) multiplexing) _
-    (each (multiplexing_excess_event options (with_size place limits.multiplexing)) multiplexing (λ x. refl))
-    (join (map (elementary_excess_event options (with_size place limits.elementary)) (option_to_list elementary)) (elementary_late_events options place unit)
-    (each (elementary_excess_event options (with_size place limits.elementary)) (option_to_list elementary) (λ x. refl)) (video_lates options place unit))
+    join (map (excess_event buffers.Multiplexing options (with_size place limits.multiplexing)) multiplexing) _
+    (each (excess_event buffers.Multiplexing options (with_size place limits.multiplexing)) multiplexing (λ x. refl))
+    (join (map (excess_event buffers.Elementary options (with_size place limits.elementary)) (option_to_list elementary)) _
+    (each (excess_event buffers.Elementary options (with_size place limits.elementary)) (option_to_list elementary) (λ x. refl))
+    (video_lates options place unit))
 
 video_ends : (options : ViewOptions) (place : Place) (limits : Option VideoLimits) (e : VideoEnteredView) (unit : Option VideoUnit) →
     Quiet (video_ended_events options place limits e unit)
@@ -258,11 +255,7 @@ begins index named t packet = begins_if index t packet (beginning named t packet
 
 -- 5. Buffers of tables
 
-system_one : (b : TableBuffer) (e : ProgramExcess) → fault_in (excess_by b e) ≡ None
-unfolding excess_by fault_in
-system_one Transport e = refl
-system_one System e = refl
-
 pub system : (options : ViewOptions) (choice : ChoiceView) (packet : ℕ) (excesses : List TableExcess) → Quiet (excess_events options choice packet excesses)
+unfolding fault_in
 system options choice packet excesses =
-    all_of (excess_if options choice packet) excesses (λ e. one_if (takes choice e.program) (systems.excess_event options packet e) (system_one e.buffer _))
+    all_of (excess_if options choice packet) excesses (λ e. one_if (takes choice e.program) (systems.excess_event options packet e) refl)

@@ -33,12 +33,12 @@ use Rattle.tr101290.specs.declared.watch.PcrTiming.TheVariants.{ConstantRate, Re
 use Rattle.events.specs.declared.event.ClockFault.{ClockFault}
 use Rattle.events.specs.declared.event.Event.{Event}
 use Rattle.events.specs.declared.event.Event.TheVariants as found
+use Rattle.events.specs.declared.fault_kind.FaultKind.TheVariants as kinds
 use Rattle.events.specs.declared.rule_event.RuleEvent.TheVariants as rule_events
 use Rattle.events.specs.declared.packet_fault.RefusalCause.TheVariants as causes
 use Rattle.es_events.specs.declared.view_options.ViewOptions.{ViewOptions}
 use Rattle.ts_tables.specs.NamedStreams.{NamedView}
 use Rattle.ts_watch.specs.ClockEvents.{error_event, error_events, inaccuracy_events, report_events_if, variable_events}
-use Rattle.ts_watch.specs.declared.clock_events.ClockRule.TheVariants as clock_rules
 use Rattle.ts_watch.specs.RuleEvents.{RuleState, accuracy_events, is_map, is_scrambled, judge_taken, judged_events, packet_events, place_at}
 use Rattle.ts_watch.specs.RuleEvents.{gap_events, pts_events, scrambled_events, stamp_events, varies_now}
 use Rattle.pid_gaps.specs.Gaps.{GapState, gap_at}
@@ -151,13 +151,13 @@ abbrev pub repetition_of : ℕ → Option PcrError → List StreamFault
 repetition_of pid None = []
 repetition_of pid (Some e) = fault rules.Pcr (Some pid) (e.byte / 188) ∷ []
 
-repetitions : (pid : ℕ) (o : Option PcrError) → filter_map fault_in (error_events clock_rules.Repetition pid o) ≡ repetition_of pid o
-unfolding error_events error_event fault_in
+repetitions : (pid : ℕ) (o : Option PcrError) → filter_map fault_in (error_events kinds.PcrRepetition pid o) ≡ repetition_of pid o
+unfolding error_events fault_in
 repetitions pid None = refl
 repetitions pid (Some e) = refl
 
-discontinuities : (pid : ℕ) (o : Option PcrError) → Quiet (error_events clock_rules.Discontinuity pid o)
-unfolding error_events error_event fault_in
+discontinuities : (pid : ℕ) (o : Option PcrError) → Quiet (error_events kinds.PcrDiscontinuity pid o)
+unfolding error_events fault_in
 discontinuities pid None = refl
 discontinuities pid (Some e) = refl
 
@@ -169,14 +169,14 @@ references : (pid : ℕ) (o : Option PcrReport) → filter_map fault_in (report_
 unfolding report_events_if late_reference
 references pid None = refl
 references pid (Some report) =
-    filter_map-append fault_in (error_events clock_rules.Repetition pid (repetition_error report))
-    (error_events clock_rules.Discontinuity pid (discontinuity_error report))
+    filter_map-append fault_in (error_events kinds.PcrRepetition pid (repetition_error report))
+    (error_events kinds.PcrDiscontinuity pid (discontinuity_error report))
     ∙ ap₂ (λ (a b : List StreamFault). a ++ b) (repetitions pid (repetition_error report)) (discontinuities pid (discontinuity_error report))
     ∙ append-nil (repetition_of pid (repetition_error report))
 
 pub inaccuracies : (errors : List PidError) → Quiet (inaccuracy_events errors)
-unfolding error_event fault_in
-inaccuracies errors = each (λ (e : PidError). error_event clock_rules.Accuracy e.pid e.error) errors (λ e. refl)
+unfolding fault_in
+inaccuracies errors = each (λ (e : PidError). error_event kinds.PcrAccuracy e.pid e.error) errors (λ e. refl)
 
 pub variables : (t : Bool) (packet : ℕ) (judge : JudgeState) → Quiet (variable_events t packet judge)
 unfolding fault_in
@@ -212,7 +212,7 @@ scrambled_quiet index named packet = one_if (is_scrambled packet && is_map (labe
 gap_quiet : (named : NamedView) (o : Option ClockFault) → Quiet (gap_event_if named o)
 unfolding gap_event_if fault_in
 gap_quiet named None = refl
-gap_quiet named (Some gap) = one_if (is_watched named gap.pid) (found.Rule (rule_events.PidRepetition gap)) refl
+gap_quiet named (Some gap) = one_if (is_watched named gap.pid) (found.ClockFault kinds.PidRepetition gap) refl
 
 gaps_quiet : (gaps : GapState) (index : ℕ) (place : Option ℕ) (named : NamedView) (pid : ℕ) → Quiet (gap_events gaps index place named pid)
 unfolding gap_events

@@ -4,6 +4,7 @@ use Rattle.std.specs.List.{filter_map}
 use Rattle.ts_packet.specs.PidList.{cut_packets}
 use Rattle.events.specs.declared.event.Event.{Event}
 use Rattle.events.specs.declared.event.Event.TheVariants as found
+use Rattle.events.specs.declared.fault_kind.FaultKind.TheVariants as kinds
 use Rattle.events.specs.declared.packet_fault.RefusalCause.{RefusalCause}
 use Rattle.events.specs.declared.packet_fault.RefusalCause.TheVariants as causes
 use Rattle.ts_watch.specs.Choices.{RequestView}
@@ -35,8 +36,8 @@ unfoldable pub fault_in : Event → Option StreamFault
 fault_in (found.Refused r) = Some (fault (cause_rule r.cause) None r.packet)
 fault_in (found.Continuity c) = Some (fault rules.Counter (Some c.pid) c.packet)
 fault_in (found.CheckWord c) = Some (fault rules.Crc (Some c.pid) c.packet)
-fault_in (found.PcrRepetition c) = Some (fault rules.Pcr (Some c.pid) c.packet)
-fault_in (found.TableRepetition t) = option_map (λ rule. fault rule (Some t.pid) t.packet) (table_rule t.pid t.table)
+fault_in (found.ClockFault kinds.PcrRepetition c) = Some (fault rules.Pcr (Some c.pid) c.packet)
+fault_in (found.TableFault kinds.TableRepetition t) = option_map (λ rule. fault rule (Some t.pid) t.packet) (table_rule t.pid t.table)
 fault_in event = None
 
 -- the events of packets, also of packets that wait until their arrival is known, and then the events of the end of the stream

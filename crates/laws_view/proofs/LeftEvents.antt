@@ -1,6 +1,6 @@
 -- The events of buffers, of windows and of rules in a view are no faults of another kind than those that are left.
 use Rattle.std.proofs.Common.{◌≡◌, ◌∙◌, ℕ, ◌==◌, ◌&&◌, Bool, true, false, cond, List, [], ◌∷◌, ◌++◌, map, filter, Option, Some, None, refl, ap, ap₂}
-use Rattle.std.specs.Prelude.{flat_map, min, nat_eq, nat_lt, slice_get, unwrap_or}
+use Rattle.std.specs.Prelude.{flat_map, min, nat_eq, nat_lt, not, slice_get, unwrap_or}
 use Rattle.std.specs.Option.{option_to_list}
 use Rattle.std.specs.Map.{lookup}
 use Rattle.std.proofs.lemmas.List.Concat.{flat_map-cons}
@@ -12,9 +12,6 @@ use Rattle.pid_windows.specs.declared.pid_windows.PidCounts.{PidCounts}
 use Rattle.stream_programs.specs.Streams.{FoundStreamView}
 use Rattle.sound_frames.specs.FrameWalks.{WalkView}
 use Rattle.sound_frames.specs.declared.frame_walk.FramePart.{FramePart}
-use Rattle.system_tables.specs.declared.program_buffers.TheConstants.{DRAIN}
-use Rattle.system_tables.specs.declared.table_excess.TableBuffer.{TableBuffer}
-use Rattle.system_tables.specs.declared.table_excess.TableBuffer.TheVariants.{Transport as OfTransport, System as OfSystem}
 use Rattle.system_tables.specs.declared.table_excess.TableExcess.{TableExcess}
 use Rattle.tr101290.specs.declared.counts.PcrCounts.{PcrCounts}
 use Rattle.tr101290.specs.declared.stamps.PtsError.{PtsError}
@@ -32,21 +29,21 @@ use Rattle.tstd_rows.specs.declared.excess.Excess.{Excess}
 use Rattle.tstd_rows.specs.declared.late_causes.LateCause.{LateCause}
 use Rattle.tstd_rows.specs.declared.late_causes.VideoUnit.{VideoUnit}
 use Rattle.tstd_rows.specs.declared.unit_seen.UnitSeen.{UnitSeen}
+use Rattle.events.specs.BufferKinds.{excess_kind}
 use Rattle.events.specs.Faults.{buffer_fault, fault_of, rule_fault}
+use Rattle.events.specs.declared.event.BufferExcess.{BufferExcess}
 use Rattle.events.specs.declared.event.ClockFault.{ClockFault}
 use Rattle.events.specs.declared.event.Event.{Event}
 use Rattle.events.specs.declared.event.Event.TheVariants as found
-use Rattle.events.specs.declared.event.ProgramExcess.{ProgramExcess}
+use Rattle.events.specs.declared.fault_kind.FaultKind.TheVariants as kinds
 use Rattle.events.specs.declared.rule_event.BufferKind.{BufferKind}
 use Rattle.events.specs.declared.rule_event.RuleEvent.TheVariants as rules
-use Rattle.events.specs.declared.rule_event.BufferKind.TheVariants.{Main, Multiplexing, Transport}
+use Rattle.events.specs.declared.rule_event.BufferKind.TheVariants.{Elementary, Main, Multiplexing, System, TableTransport, Transport}
 use Rattle.es_events.specs.Clocks.{ClockEntries, clock_of}
-use Rattle.es_events.specs.EntryEvents.{ahead_events, ended_events, excess_event, excess_events, late_event, late_events, main_excess_event}
-use Rattle.es_events.specs.EntryEvents.{main_excess_events, moment_of, with_size}
+use Rattle.es_events.specs.EntryEvents.{ahead_events, ended_events, excess_event, excess_events, late_event, late_events, with_size}
 use Rattle.es_events.specs.EntryStays.{busy_ended, busy_event, delayed_events, overstay_of}
 use Rattle.es_events.specs.Tallies.{is_late}
-use Rattle.es_events.specs.VideoEvents.{elementary_excess_event, elementary_excess_events, elementary_late_events}
-use Rattle.es_events.specs.VideoEvents.{late_events_by, multiplexing_excess_event, multiplexing_excess_events, video_ended_events}
+use Rattle.es_events.specs.VideoEvents.{elementary_late_events, late_events_by, video_ended_events}
 use Rattle.es_events.specs.VideoFigures.{limits_of}
 use Rattle.es_events.specs.declared.entry_events.Place.{Place}
 use Rattle.es_events.specs.declared.tally.Tally.{Tally}
@@ -66,7 +63,7 @@ use Rattle.pid_gaps.specs.Gaps.{GapState, gap_at}
 use Rattle.pid_gaps.specs.GapEvents.{gap_event_if}
 use Rattle.pid_gaps.specs.Watched.{is_watched}
 use Rattle.ts_watch.specs.RuleEvents.{RuleState, gap_events, is_map, is_scrambled, packet_events, place_at as place_in, pts_events, scrambled_events, stamp_events}
-use Rattle.ts_watch.specs.SystemEvents.{excess_by, excess_if}
+use Rattle.ts_watch.specs.SystemEvents.{excess_if}
 use Rattle.ts_watch.specs.SystemEvents as of_systems
 use Rattle.ts_watch.specs.WindowEvents as of_windows
 use Rattle.ts_report.specs.Seen.{SeenState, window_ends}
@@ -102,21 +99,21 @@ unless_so false es q = q
 
 -- 2. What ends with a packet in the buffers of a stream
 
-excesses : (options : ViewOptions) (place : Place) (xs : List Excess) → Quiet (excess_events options place xs)
-unfolding fault_of buffer_fault is_left is_other
-excesses options place xs = mapped Excess (excess_event options place) (λ x. refl) xs
+left_kind : (buffer : BufferKind) → is_left (excess_kind buffer) ≡ true
+unfolding excess_kind is_left
+left_kind Transport = refl
+left_kind Multiplexing = refl
+left_kind Elementary = refl
+left_kind Main = refl
+left_kind TableTransport = refl
+left_kind System = refl
 
-main_excesses : (options : ViewOptions) (place : Place) (xs : List Excess) → Quiet (main_excess_events options place xs)
-unfolding fault_of buffer_fault is_left is_other
-main_excesses options place xs = mapped Excess (main_excess_event options place) (λ x. refl) xs
+excess_is_left : (e : BufferExcess) → is_other_fault (found.Excess e) ≡ false
+unfolding fault_of buffer_fault is_other
+excess_is_left e = ap not (left_kind e.buffer)
 
-multiplexing_excesses : (options : ViewOptions) (place : Place) (xs : List Excess) → Quiet (multiplexing_excess_events options place xs)
-unfolding fault_of buffer_fault is_left is_other
-multiplexing_excesses options place xs = mapped Excess (multiplexing_excess_event options place) (λ x. refl) xs
-
-elementary_excesses : (options : ViewOptions) (place : Place) (xs : List Excess) → Quiet (elementary_excess_events options place xs)
-unfolding fault_of buffer_fault is_left is_other
-elementary_excesses options place xs = mapped Excess (elementary_excess_event options place) (λ x. refl) xs
+excesses : (buffer : BufferKind) (options : ViewOptions) (place : Place) (xs : List Excess) → Quiet (excess_events buffer options place xs)
+excesses buffer options place xs = mapped Excess (excess_event buffer options place) (λ x. excess_is_left _) xs
 
 late : (options : ViewOptions) (place : Place) (o : Option UnitSeen) → Quiet (late_events options place o)
 unfolding late_events fault_of buffer_fault is_left is_other
@@ -125,8 +122,8 @@ late options place (Some u) = guarded (is_late u) (late_event options place u �
 
 ended : (options : ViewOptions) (place : Place) (e : EnteredView) → Quiet (ended_events options place e)
 ended options place e =
-    both _ _ (excesses options (with_size place tb_size) e.transport)
-    (both (main_excess_events options place e.main) (late_events options place e.unit) (main_excesses options place e.main) (late options place e.unit))
+    both _ _ (excesses Transport options (with_size place tb_size) e.transport)
+    (both (excess_events Main options place e.main) (late_events options place e.unit) (excesses Main options place e.main) (late options place e.unit))
 
 late_by : (options : ViewOptions) (place : Place) (u : VideoUnit) (o : Option LateCause) → Quiet (late_events_by options place u o)
 unfolding late_events_by fault_of buffer_fault is_left is_other
@@ -143,8 +140,8 @@ video_ended : (options : ViewOptions) (place : Place) (limits : Option VideoLimi
 unfolding video_ended_events
 video_ended options place None e unit = refl
 video_ended options place (Some limits) e unit =
-    both _ _ (multiplexing_excesses options (with_size place limits.multiplexing) e.multiplexing)
-    (both _ _ (elementary_excesses options (with_size place limits.elementary) (option_to_list e.elementary)) (elementary_late options place unit))
+    both _ _ (excesses Multiplexing options (with_size place limits.multiplexing) e.multiplexing)
+    (both _ _ (excesses Elementary options (with_size place limits.elementary) (option_to_list e.elementary)) (elementary_late options place unit))
 
 whole : (options : ViewOptions) (place : Place) (p : Arriving) (sizes : Option VideoSizes) (h : Held) → Quiet (whole_events options place p sizes h)
 whole options place p sizes h =
@@ -238,25 +235,11 @@ begins_if index t packet (Some stream) = refl
 
 -- 3. The buffers of programs' tables
 
-excess_of_table : (b : TableBuffer) (e : ProgramExcess) → Quiet (excess_by b e ∷ [])
-unfolding excess_by fault_of buffer_fault is_left is_other
-excess_of_table OfTransport e = refl
-excess_of_table OfSystem e = refl
-
-abbrev program_excess : ViewOptions → ℕ → TableExcess → ProgramExcess
-program_excess options packet x = record {
-  program = x.program;
-  packet = packet;
-  begin = moment_of options DRAIN x.excess.begin;
-  end = moment_of options DRAIN x.excess.end;
-  peak = x.excess.peak;
-  size = of_systems.size_of x.buffer;
-}
-
 pub of_tables : (options : ViewOptions) (choice : ChoiceView) (packet : ℕ) (xs : List TableExcess) → Quiet (of_systems.excess_events options choice packet xs)
 of_tables options choice packet xs =
     flat TableExcess (excess_if options choice packet)
-    (λ x. guarded (takes choice x.program) (of_systems.excess_event options packet x ∷ []) (excess_of_table x.buffer (program_excess options packet x))) xs
+    (λ x. guarded (takes choice x.program) (of_systems.excess_event options packet x ∷ [])
+    (one (of_systems.excess_event options packet x) [] (excess_is_left _) refl)) xs
 
 -- 4. Windows
 
@@ -301,7 +284,7 @@ stamped stamps index (Some place) packet = pts (error_at stamps index place pack
 paused : (named : NamedView) (o : Option ClockFault) → Quiet (gap_event_if named o)
 unfolding gap_event_if fault_of rule_fault is_left is_other
 paused named None = refl
-paused named (Some gap) = guarded (is_watched named gap.pid) (found.Rule (rules.PidRepetition gap) ∷ []) refl
+paused named (Some gap) = guarded (is_watched named gap.pid) (found.ClockFault kinds.PidRepetition gap ∷ []) refl
 
 pauses : (gaps : GapState) (index : ℕ) (o : Option ℕ) (named : NamedView) (pid : ℕ) → Quiet (gap_events gaps index o named pid)
 unfolding gap_events

@@ -43,12 +43,12 @@ use Rattle.tr101290.specs.declared.watch.PcrTiming.{PcrTiming}
 use Rattle.tr101290.specs.declared.watch.PcrTiming.TheVariants.{ConstantRate}
 use Rattle.events.specs.declared.event.Event.{Event}
 use Rattle.events.specs.declared.event.TableFault.{TableFault}
+use Rattle.events.specs.declared.fault_kind.FaultKind.{FaultKind}
+use Rattle.events.specs.declared.fault_kind.FaultKind.TheVariants.{PcrDiscontinuity, PcrRepetition}
 use Rattle.es_events.specs.declared.view_options.ViewOptions.{ViewOptions}
 use Rattle.system_tables.specs.Programs.{known}
 use Rattle.ts_watch.specs.Choices.{RequestView}
 use Rattle.ts_watch.specs.ClockEvents.{errors_in, error_events, inaccuracy_events, report_events_if}
-use Rattle.ts_watch.specs.declared.clock_events.ClockRule.{ClockRule}
-use Rattle.ts_watch.specs.declared.clock_events.ClockRule.TheVariants.{Discontinuity, Repetition}
 use Rattle.ts_watch.specs.RuleEvents.{accuracy_count, accuracy_events, holds_none}
 use Rattle.ts_watch.specs.SystemEvents.{all_fit}
 use Rattle.ts_watch.specs.TableEvents as section_events
@@ -88,19 +88,19 @@ none_last (x ∷ xs) ys e = absurd (let no : ⊥ = cc in no)
 
 -- 1. Clock references
 
-none_so : (rule : ClockRule) (pid : ℕ) (o : Option PcrError) → error_events rule pid o ≡ [] → is_some o ≡ false
+none_so : (kind : FaultKind) (pid : ℕ) (o : Option PcrError) → error_events kind pid o ≡ [] → is_some o ≡ false
 unfolding error_events
-none_so rule pid None e = refl
-none_so rule pid (Some x) e = absurd (let no : ⊥ = cc in no)
+none_so kind pid None e = refl
+none_so kind pid (Some x) e = absurd (let no : ⊥ = cc in no)
 
 no_reference : (pid : ℕ) (o : Option PcrReport) → report_events_if pid o ≡ [] → errors_in o ≡ 0
 unfolding report_events_if errors_in
 no_reference pid None e = refl
 no_reference pid (Some report) e =
-    let a = none_so Repetition pid (repetition_error report)
-    (none_first (error_events Repetition pid (repetition_error report)) (error_events Discontinuity pid (discontinuity_error report)) e) in
-    let b = none_so Discontinuity pid (discontinuity_error report)
-    (none_last (error_events Repetition pid (repetition_error report)) (error_events Discontinuity pid (discontinuity_error report)) e) in
+    let a = none_so PcrRepetition pid (repetition_error report)
+    (none_first (error_events PcrRepetition pid (repetition_error report)) (error_events PcrDiscontinuity pid (discontinuity_error report)) e) in
+    let b = none_so PcrDiscontinuity pid (discontinuity_error report)
+    (none_last (error_events PcrRepetition pid (repetition_error report)) (error_events PcrDiscontinuity pid (discontinuity_error report)) e) in
     rw (a, b) refl
 
 none_listed : (errors : List PidError) → inaccuracy_events errors ≡ [] → length errors ≡ 0

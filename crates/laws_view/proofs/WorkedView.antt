@@ -28,7 +28,8 @@ use Rattle.es_view.specs.Entries.{tally_in, video_tally_after}
 use Rattle.es_view.specs.EntryFrames.{frames_after, frames_events, frames_held, front_count, is_leak_idle, leak_busy_of, leak_ended, leak_under_way}
 use Rattle.es_view.specs.EntryFrames.{unit_after, unit_tick, walk_begun}
 use Rattle.es_view.specs.HeldEvents.{main_held}
-use Rattle.events.specs.Faults.{buffer_fault, fault_of, input_fault, kind_of_cause, owner_of, rule_fault}
+use Rattle.events.specs.BufferKinds.{excess_kind, owner_of}
+use Rattle.events.specs.Faults.{buffer_fault, fault_of, input_fault, kind_of_cause, rule_fault}
 use Rattle.events.specs.PidNames.{of_coding}
 use Rattle.pes_packet.specs.Marks.{first_sixteen}
 use Rattle.pes_packet.specs.PrivateData.{private_at, private_in}
@@ -103,7 +104,7 @@ use Rattle.ts_tables.specs.NamedStreams.{clock_by, clock_in, stream_by, stream_i
 use Rattle.ts_tables.specs.ServiceNames.{begun as service_names_begun, known_name, name_among, name_of, some_text}
 use Rattle.ts_watch.specs.Choices.{chosen, given_or, is_among, rates_if}
 use Rattle.clock_windows.specs.ClockDrifts.{ahead_of, behind_of, drift_after, drift_at, on_line}
-use Rattle.ts_watch.specs.ClockEvents.{error_event, error_events as clock_events_error_events, errors_in, report_events_if}
+use Rattle.ts_watch.specs.ClockEvents.{error_events as clock_events_error_events, errors_in, report_events_if}
 use Rattle.clock_windows.specs.ClockWindows.{counts_in as clock_windows_counts_in, counts_or_none, drift_or_none, taken as clock_windows_taken}
 use Rattle.ts_watch.specs.PidLabels.{by_program, in_programs, in_tables, label_by, of_clock, of_map}
 use Rattle.end_faults.specs.ReferenceEvents.{events_by}
@@ -117,7 +118,7 @@ use Rattle.ts_watch.specs.SectionPids.{access_pid, association_pids, descriptor_
 use Rattle.ts_watch.specs.SectionPids.{with_found, with_pids}
 use Rattle.end_faults.specs.StoppedClocks.{clocks_by, clocks_in, last_place, longest_without, reference_place, with_clocks}
 use Rattle.end_faults.specs.StoppedEvents.{stopped_by}
-use Rattle.ts_watch.specs.SystemEvents.{excess_by, size_of}
+use Rattle.ts_watch.specs.SystemEvents.{kind_of, size_of}
 use Rattle.ts_watch.specs.TableEvents.{begin_events, distance_events, distances_after, error_events as table_events_error_events, findings_events, is_wrong}
 use Rattle.ts_watch.specs.TableEvents.{is_wrong_offset, more_errors, other_events, placed, placed_if, placed_whole, soon_events, with_begin, with_findings}
 use Rattle.ts_watch.specs.WindowEvents.{service_of, window_by}
@@ -145,7 +146,7 @@ unfolding has_times lead_of step_of times_at line_in clock_moment_by step_after 
     reported_cause video_closing_events video_ended_events figures_of is_video_good limits_of sizes_if with_late_if with_video_row ahead_by due_by
     events_entered framed_after held_after held_in is_unread last_buffer parts_delayed same_counter tally_in video_tally_after frames_after frames_events
     frames_held front_count is_leak_idle leak_busy_of leak_ended leak_under_way unit_after unit_tick walk_begun main_held buffer_fault fault_of input_fault
-    kind_of_cause owner_of rule_fault of_coding first_sixteen private_at private_in data_at five_at flags_at header_at pts_at pts_dts_at stamp_at stamps_at
+    kind_of_cause excess_kind owner_of rule_fault of_coding first_sixteen private_at private_in data_at five_at flags_at header_at pts_at pts_dts_at stamp_at stamps_at
     start_at has_flags bodiless bytes_without_body by_break by_role ended found_appended found_at found_if found_or_cut found_within last_bytes last_bytes_by
     undecided unless_decided next_open step_marked unbroken break_after break_at is_repeat mark repeats seen begun_kind decided last_in of_header of_pes
     of_section sections_in taken_by role role_by role_by_pointer role_of windows_counts_in counts_or_zero with_one association entries entries_of first_pat
@@ -169,11 +170,11 @@ unfolding has_times lead_of step_of times_at line_in clock_moment_by step_after 
     events_if events_in new_framed taken_at stream_tables_taken_if after_all after_read events_all events_read without_stream service_descriptions_in_force
     sdt_found sdt_in sdt_of_section in_descriptors in_entries length_prefixed of_descriptor of_entry service service_found service_in with_provider clock_by
     clock_in stream_by stream_in streams_by named_streams_taken_if service_names_begun known_name name_among name_of some_text chosen given_or is_among
-    rates_if ahead_of behind_of drift_after drift_at on_line error_event clock_events_error_events errors_in report_events_if clock_windows_counts_in
+    rates_if ahead_of behind_of drift_after drift_at on_line clock_events_error_events errors_in report_events_if clock_windows_counts_in
     counts_or_none drift_or_none clock_windows_taken by_program in_programs in_tables label_by of_clock of_map events_by accuracy_count accuracy_events
     cat_events first_scrambled gap_after gap_event_if gap_events gaps_by has_type is_map is_steady is_typed is_watched_by judge_after longest_seconds
     stopped_pids_by places_in rule_events_place_at pts_events stamp_events stamps_by access_pid association_pids descriptor_pid
-    section_pids_map_pids may_name pids_by with_each with_found with_pids stopped_by clocks_by clocks_in last_place longest_without reference_place with_clocks excess_by size_of begin_events distance_events distances_after
+    section_pids_map_pids may_name pids_by with_each with_found with_pids stopped_by clocks_by clocks_in last_place longest_without reference_place with_clocks kind_of size_of begin_events distance_events distances_after
     table_events_error_events findings_events is_wrong is_wrong_offset more_errors other_events placed placed_if placed_whole soon_events with_begin
     with_findings service_of window_by busy_of busy_with leak_busy entering_after after_begin after_first after_part after_payload entered entered_first
     entered_part payload_main payload_main_least payload_main_most payload_transport payload_transport_most unit_ended payload_video video_of video_unit_ended

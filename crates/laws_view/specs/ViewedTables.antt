@@ -22,6 +22,7 @@ use Rattle.arrival.specs.declared.arrival.Arrival.TheVariants.{AtRate}
 use Rattle.events.specs.declared.event.Event.{Event}
 use Rattle.events.specs.declared.event.Event.TheVariants as found
 use Rattle.events.specs.declared.event.TableFault.{TableFault}
+use Rattle.events.specs.declared.fault_kind.FaultKind.TheVariants as kinds
 use Rattle.ts_watch.specs.Choices.{RequestView}
 use Rattle.ts_watch.specs.TableEvents.{error_event}
 use Rattle.ts_report.specs.StreamTables.{has_stream}
@@ -30,7 +31,7 @@ use Rattle.laws_view.specs.ViewedSections.{sections_in}
 
 -- the fault of an event about a section that begins too late
 unfoldable pub late_of : Event → Option TableFault
-late_of (found.TableRepetition fault) = Some fault
+late_of (found.TableFault kinds.TableRepetition fault) = Some fault
 late_of _ = None
 
 -- whether a fault is on a PID, of any table or of one table

@@ -4,12 +4,12 @@ use Rattle.ts_tables.specs.NamedStreams.{NamedView}
 use Rattle.events.specs.declared.event.ClockFault.{ClockFault}
 use Rattle.events.specs.declared.event.Event.{Event}
 use Rattle.events.specs.declared.event.Event.TheVariants as found
-use Rattle.events.specs.declared.rule_event.RuleEvent.TheVariants as rules
+use Rattle.events.specs.declared.fault_kind.FaultKind.TheVariants.{PidRepetition}
 use Rattle.pid_gaps.specs.Watched.{is_watched}
 
 -- of a PID that the first tables name as video or audio
 abbrev pub watched_event : NamedView → ClockFault → List Event
-watched_event named gap = if is_watched named gap.pid then found.Rule (rules.PidRepetition gap) ∷ [] else []
+watched_event named gap = if is_watched named gap.pid then found.ClockFault PidRepetition gap ∷ [] else []
 
 unfoldable pub gap_event_if : NamedView → Option ClockFault → List Event
 gap_event_if named None = []

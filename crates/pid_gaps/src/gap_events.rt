@@ -3,7 +3,7 @@ ghost use Rattle.std.specs.Prelude.{◌≡◌, ◌++◌, OnOk};
 ghost use Rattle.pid_gaps.specs.GapEvents as spec;
 
 use crate::watched::is_watched;
-use events::{ClockFault, Event, RuleEvent};
+use events::{ClockFault, Event, FaultKind};
 use std::alloc::AllocError;
 use ts_tables::NamedStreams;
 
@@ -17,7 +17,7 @@ fn push_gap(
     ensures { OnOk result (events.new.items ≡ events.old.items ++ spec.watched_event named.now gap) }
 {
     if is_watched(named, gap.pid) {
-        events.push(Event::Rule(RuleEvent::PidRepetition(gap)))?;
+        events.push(Event::ClockFault(FaultKind::PidRepetition, gap))?;
     }
     Ok(())
 }

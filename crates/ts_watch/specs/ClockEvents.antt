@@ -11,9 +11,9 @@ use Rattle.tr101290.specs.declared.rate_judge.PidError.{PidError}
 use Rattle.events.specs.declared.event.ClockFault.{ClockFault}
 use Rattle.events.specs.declared.event.Event.{Event}
 use Rattle.events.specs.declared.event.Event.TheVariants as found
+use Rattle.events.specs.declared.fault_kind.FaultKind.{FaultKind}
+use Rattle.events.specs.declared.fault_kind.FaultKind.TheVariants.{PcrRepetition, PcrDiscontinuity, PcrAccuracy}
 use Rattle.events.specs.declared.rule_event.RuleEvent.TheVariants as rules
-use Rattle.ts_watch.specs.declared.clock_events.ClockRule.{ClockRule}
-use Rattle.ts_watch.specs.declared.clock_events.ClockRule.TheVariants.{Repetition, Discontinuity, Accuracy}
 
 -- 1. The errors of a reference, with the packet of the reference
 
@@ -21,18 +21,16 @@ abbrev pub fault_of : ℕ → PcrError → ClockFault
 fault_of pid e = record { pid = pid; packet = e.byte / 188; value = e.value; limit = e.limit }
 
 -- the time since the reference before, in ticks of 27 MHz; the ticks from its value; how far it lies from its place, in nanoseconds
-unfoldable pub error_event : ClockRule → ℕ → PcrError → Event
-error_event Repetition pid e = found.PcrRepetition (fault_of pid e)
-error_event Discontinuity pid e = found.PcrDiscontinuity (fault_of pid e)
-error_event Accuracy pid e = found.PcrAccuracy (fault_of pid e)
+abbrev pub error_event : FaultKind → ℕ → PcrError → Event
+error_event kind pid e = found.ClockFault kind (fault_of pid e)
 
-unfoldable pub error_events : ClockRule → ℕ → Option PcrError → List Event
-error_events rule pid None = []
-error_events rule pid (Some e) = error_event rule pid e ∷ []
+unfoldable pub error_events : FaultKind → ℕ → Option PcrError → List Event
+error_events kind pid None = []
+error_events kind pid (Some e) = error_event kind pid e ∷ []
 
 abbrev pub report_events : ℕ → PcrReport → List Event
 report_events pid report =
-    error_events Repetition pid (repetition_error report) ++ error_events Discontinuity pid (discontinuity_error report)
+    error_events PcrRepetition pid (repetition_error report) ++ error_events PcrDiscontinuity pid (discontinuity_error report)
 
 unfoldable pub report_events_if : ℕ → Option PcrReport → List Event
 report_events_if pid None = []
@@ -40,7 +38,7 @@ report_events_if pid (Some report) = report_events pid report
 
 -- events of its accuracy, if that is meaningful
 abbrev pub inaccuracy_events : List PidError → List Event
-inaccuracy_events errors = map (λ e. error_event Accuracy e.pid e.error) errors
+inaccuracy_events errors = map (λ e. error_event PcrAccuracy e.pid e.error) errors
 
 -- an event when it is decided that the rate varies
 abbrev pub variable_events : Bool → ℕ → JudgeState → List Event

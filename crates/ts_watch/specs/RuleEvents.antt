@@ -6,6 +6,7 @@ use Rattle.arrival.specs.declared.arrival.Arrival.{Arrival}
 use Rattle.arrival.specs.declared.arrival.Arrival.TheVariants.{Unknown, AtRate, OnLines}
 use Rattle.events.specs.declared.event.Event.{Event}
 use Rattle.events.specs.declared.event.Event.TheVariants as found
+use Rattle.events.specs.declared.fault_kind.FaultKind.TheVariants as kinds
 use Rattle.events.specs.declared.pid_name.PidName.{PidName}
 use Rattle.events.specs.declared.pid_name.PidName.TheVariants as names
 use Rattle.events.specs.declared.rule_event.RuleEvent.TheVariants as rules
@@ -99,7 +100,7 @@ stamps_by stamps (Some place) packet = stamping.taken stamps place packet
 
 unfoldable pub pts_events : Option PtsError → List Event
 pts_events None = []
-pts_events (Some e) = found.Rule (rules.PtsRepetition (record { pid = e.pid; packet = e.packet; value = e.value; limit = e.limit })) ∷ []
+pts_events (Some e) = found.ClockFault kinds.PtsRepetition (record { pid = e.pid; packet = e.packet; value = e.value; limit = e.limit }) ∷ []
 
 unfoldable pub stamp_events : StampState → ℕ → Option ℕ → PacketView → List Event
 stamp_events stamps index None packet = []

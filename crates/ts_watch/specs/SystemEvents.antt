@@ -10,7 +10,8 @@ use Rattle.system_tables.specs.declared.table_excess.TableBuffer.TheVariants.{Tr
 use Rattle.system_tables.specs.declared.table_excess.TableExcess.{TableExcess}
 use Rattle.events.specs.declared.event.Event.{Event}
 use Rattle.events.specs.declared.event.Event.TheVariants as found
-use Rattle.events.specs.declared.event.ProgramExcess.{ProgramExcess}
+use Rattle.events.specs.declared.rule_event.BufferKind.{BufferKind}
+use Rattle.events.specs.declared.rule_event.BufferKind.TheVariants as buffers
 use Rattle.es_events.specs.declared.view_options.ViewOptions.{ViewOptions}
 use Rattle.ts_watch.specs.Choices.{ChoiceView, takes}
 use Rattle.es_events.specs.EntryEvents.{moment_of, with_one}
@@ -21,14 +22,15 @@ unfoldable pub size_of : TableBuffer → ℕ
 size_of Transport = tb_size
 size_of System = bsys_size
 
--- events for excesses of the transport buffer, and of the system buffer, reported at the packet where the excess ends
-unfoldable pub excess_by : TableBuffer → ProgramExcess → Event
-excess_by Transport e = found.SystemExcess e
-excess_by System e = found.SystemMainExcess e
+unfoldable pub kind_of : TableBuffer → BufferKind
+kind_of Transport = buffers.TableTransport
+kind_of System = buffers.System
 
+-- reported at the packet where the excess ends
 abbrev pub excess_event : ViewOptions → ℕ → TableExcess → Event
-excess_event options packet e = excess_by e.buffer (record {
-  program = e.program;
+excess_event options packet e = found.Excess (record {
+  number = e.program;
+  buffer = kind_of e.buffer;
   packet = packet;
   begin = moment_of options DRAIN e.excess.begin;
   end = moment_of options DRAIN e.excess.end;

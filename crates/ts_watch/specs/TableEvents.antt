@@ -27,6 +27,7 @@ use Rattle.events.specs.declared.event.Event.{Event}
 use Rattle.events.specs.declared.event.TableFault.{TableFault}
 use Rattle.events.specs.declared.rule_event.RuleEvent.TheVariants as rules
 use Rattle.events.specs.declared.event.Event.TheVariants as found
+use Rattle.events.specs.declared.fault_kind.FaultKind.TheVariants as kinds
 use Rattle.es_events.specs.declared.view_options.ViewOptions.{ViewOptions}
 use Rattle.es_events.specs.Clocks.{first_byte}
 use Rattle.ts_watch.specs.SectionPids.{with_each}
@@ -38,7 +39,7 @@ abbrev pub fault_of : TableError → TableFault
 fault_of e = record { pid = e.section.pid; table = e.section.table_id; packet = e.section.packet; value = e.value; limit = e.limit }
 
 abbrev pub error_event : TableError → Event
-error_event e = found.TableRepetition (fault_of e)
+error_event e = found.TableFault kinds.TableRepetition (fault_of e)
 
 unfoldable pub error_events : Option TableError → List Event
 error_events None = []
@@ -107,7 +108,7 @@ other_events (Some w) =
 
 unfoldable pub soon_events : Option TableError → List Event
 soon_events None = []
-soon_events (Some e) = found.Rule (rules.SectionDistance (fault_of e)) ∷ []
+soon_events (Some e) = found.TableFault kinds.SectionDistance (fault_of e) ∷ []
 
 unfoldable pub distances_after : DistanceState → Option WholeSection → DistanceState
 distances_after d None = d

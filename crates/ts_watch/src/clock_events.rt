@@ -2,46 +2,36 @@
 ghost use Rattle.std.specs.Prelude.{◌≡◌, ◌++◌, OnOk};
 ghost use Rattle.ts_watch.specs.ClockEvents as spec;
 
-use events::{ClockFault, ClockTotals, Event, RuleEvent, VariableRate};
+use events::{ClockFault, ClockTotals, Event, FaultKind, RuleEvent, VariableRate};
 use std::alloc::{AllocError, Global};
 use tr101290::{PcrError, PcrReport, PcrWatch, PcrWatches, PidError, RateJudge};
 
-/// What a reference is measured by (ETSI TR 101 290, 5.2.2, 2.3a, 2.3b and 2.4).
-#[derive(Clone, Copy)]
-pub enum ClockRule {
-    Repetition,
-    Discontinuity,
-    Accuracy,
-}
-
-#[tactic(auto, unfolding(crate::specs::ClockEvents::error_event))]
-fn error_event(rule: ClockRule, pid: u16, error: PcrError) -> Event
-    ensures { result ≡ spec.error_event rule pid error }
+// Returns the event of a reference in error, by the kind of the error.
+fn error_event(kind: FaultKind, pid: u16, error: PcrError) -> Event
+    ensures { result ≡ spec.error_event kind pid error }
 {
-    let fault = ClockFault {
-        pid,
-        packet: error.byte / 188,
-        value: error.value,
-        limit: error.limit,
-    };
-    match rule {
-        ClockRule::Repetition => Event::PcrRepetition(fault),
-        ClockRule::Discontinuity => Event::PcrDiscontinuity(fault),
-        ClockRule::Accuracy => Event::PcrAccuracy(fault),
-    }
+    Event::ClockFault(
+        kind,
+        ClockFault {
+            pid,
+            packet: error.byte / 188,
+            value: error.value,
+            limit: error.limit,
+        },
+    )
 }
 
 #[tactic(auto, unfolding(crate::specs::ClockEvents::error_events))]
 fn push_error_if(
     events: &mut Vec<Event>,
-    rule: ClockRule,
+    kind: FaultKind,
     pid: u16,
     error: Option<PcrError>,
 ) -> Result<(), AllocError>
-    ensures { OnOk result (events.new.items ≡ events.old.items ++ spec.error_events rule pid error) }
+    ensures { OnOk result (events.new.items ≡ events.old.items ++ spec.error_events kind pid error) }
 {
     if let Some(error) = error {
-        events.push(error_event(rule, pid, error))?;
+        events.push(error_event(kind, pid, error))?;
     }
     Ok(())
 }
@@ -51,13 +41,13 @@ fn push_errors(events: &mut Vec<Event>, pid: u16, report: &PcrReport) -> Result<
 {
     push_error_if(
         events,
-        ClockRule::Repetition,
+        FaultKind::PcrRepetition,
         pid,
         report.repetition_error(),
     )?;
     push_error_if(
         events,
-        ClockRule::Discontinuity,
+        FaultKind::PcrDiscontinuity,
         pid,
         report.discontinuity_error(),
     )
@@ -100,7 +90,7 @@ pub(crate) fn push_inaccuracies(
     ensures { OnOk result (events.new.items ≡ events.old.items ++ spec.inaccuracy_events errors.now) }
 {
     for error in errors {
-        events.push(error_event(ClockRule::Accuracy, error.pid, error.error))?;
+        events.push(error_event(FaultKind::PcrAccuracy, error.pid, error.error))?;
     }
     Ok(())
 }

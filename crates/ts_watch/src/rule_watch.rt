@@ -7,7 +7,7 @@ use crate::clock_events::{push_inaccuracies, push_variable_if};
 use crate::pid_labels::label_of;
 use arrival::Arrival;
 use es_events::clocks::first_byte;
-use events::{ClockFault, Event, PidName, RuleEvent, ScrambledPacket};
+use events::{ClockFault, Event, FaultKind, PidName, RuleEvent, ScrambledPacket};
 use pid_gaps::{PidGaps, push_gap_if};
 use std::alloc::{AllocError, Global};
 use std::marker::Model;
@@ -56,12 +56,13 @@ pub fn place_at(arrival: &Arrival, index: u64) -> Option<u64>
 fn push_pts(events: &mut Vec<Event>, error: &PtsError) -> Result<(), AllocError>
     ensures { OnOk result (events.new.items ≡ events.old.items ++ spec.pts_events (Some error.now)) }
 {
-    events.push(Event::Rule(RuleEvent::PtsRepetition(ClockFault {
+    let fault = ClockFault {
         pid: error.pid,
         packet: error.packet,
         value: error.value,
         limit: error.limit,
-    })))?;
+    };
+    events.push(Event::ClockFault(FaultKind::PtsRepetition, fault))?;
     Ok(())
 }
 

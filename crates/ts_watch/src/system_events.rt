@@ -7,7 +7,7 @@ ghost use Rattle.ts_watch.specs.SystemEvents as spec;
 use crate::view_choice::ViewChoice;
 use es_events::entry_events::{moment_of, with_one};
 use es_events::view_options::ViewOptions;
-use events::{Event, ProgramExcess, SystemTotals};
+use events::{BufferExcess, BufferKind, Event, SystemTotals};
 use std::alloc::AllocError;
 use system_tables::{DRAIN, ProgramTables, TableBuffer, TableExcess};
 use tstd_rows::{Excess, SYSTEM_BYTES, TABLE_TRANSPORT_BYTES};
@@ -22,28 +22,28 @@ fn size_of(buffer: TableBuffer) -> u64
     }
 }
 
-#[tactic(auto, unfolding(crate::specs::SystemEvents::excess_by))]
-fn excess_by(buffer: TableBuffer, excess: ProgramExcess) -> Event
-    ensures { result ≡ spec.excess_by buffer excess }
+#[tactic(auto, unfolding(crate::specs::SystemEvents::kind_of))]
+fn kind_of(buffer: TableBuffer) -> BufferKind
+    ensures { result ≡ spec.kind_of buffer }
 {
     match buffer {
-        TableBuffer::Transport => Event::SystemExcess(excess),
-        TableBuffer::System => Event::SystemMainExcess(excess),
+        TableBuffer::Transport => BufferKind::TableTransport,
+        TableBuffer::System => BufferKind::System,
     }
 }
 
 fn excess_event(options: &ViewOptions, packet: u64, reported: &TableExcess) -> Event
     ensures { result ≡ spec.excess_event options.now packet reported.now }
 {
-    let excess = ProgramExcess {
-        program: reported.program,
+    Event::Excess(BufferExcess {
+        number: reported.program,
+        buffer: kind_of(reported.buffer),
         packet,
         begin: moment_of(options, DRAIN, reported.excess.begin),
         end: moment_of(options, DRAIN, reported.excess.end),
         peak: reported.excess.peak,
         size: size_of(reported.buffer),
-    };
-    excess_by(reported.buffer, excess)
+    })
 }
 
 // Appends an excess, if its program is viewed.

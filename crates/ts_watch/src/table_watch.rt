@@ -15,7 +15,7 @@ use arrival::Arrival;
 use demux::HeaderDemux;
 use es_events::clocks::first_byte;
 use es_events::view_options::ViewOptions;
-use events::{Event, OtherTable, RuleEvent, TableFault, TableTotals};
+use events::{Event, FaultKind, OtherTable, RuleEvent, TableFault, TableTotals};
 use pid_findings::Finding;
 use std::alloc::{AllocError, Global};
 use std::marker::Model;
@@ -79,7 +79,7 @@ fn fault_of(error: &TableError) -> TableFault
 pub fn error_event(error: &TableError) -> Event
     ensures { result ≡ spec.error_event error.now }
 {
-    Event::TableRepetition(fault_of(error))
+    Event::TableFault(FaultKind::TableRepetition, fault_of(error))
 }
 
 #[tactic(auto, unfolding(crate::specs::TableEvents::soon_events))]
@@ -87,7 +87,8 @@ fn push_soon_if(events: &mut Vec<Event>, error: &Option<TableError>) -> Result<(
     ensures { OnOk result (events.new.items ≡ events.old.items ++ spec.soon_events error.now) }
 {
     if let Some(error) = error {
-        events.push(Event::Rule(RuleEvent::SectionDistance(fault_of(error))))?;
+        let kind = FaultKind::SectionDistance;
+        events.push(Event::TableFault(kind, fault_of(error)))?;
     }
     Ok(())
 }

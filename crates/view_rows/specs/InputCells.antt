@@ -4,11 +4,10 @@ use Rattle.events.specs.declared.input_event.FileForm.{FileForm}
 use Rattle.events.specs.declared.input_event.OtherRate.{OtherRate}
 use Rattle.events.specs.declared.input_event.RestBytes.{RestBytes}
 use Rattle.events.specs.declared.input_event.SlippedBytes.{SlippedBytes}
-use Rattle.events.specs.declared.input_event.StampJump.{StampJump}
 use Rattle.events.specs.declared.fault_kind.FaultKind.TheVariants as kinds
 use Rattle.view_rows.specs.declared.cells.Cell.{Cell}
 use Rattle.view_rows.specs.declared.cells.Cell.TheVariants.{Number, Word, Form}
-use Rattle.view_rows.specs.declared.cells.CellUnit.TheVariants.{Same, Ticks}
+use Rattle.view_rows.specs.declared.cells.CellUnit.TheVariants.{Same}
 use Rattle.view_rows.specs.declared.cells.CellWord.TheVariants as words
 use Rattle.view_rows.specs.Cells.{short}
 
@@ -46,8 +45,3 @@ other_rate_cells e =
 abbrev pub no_stamps_cells : List Cell
 no_stamps_cells =
     Word (words.Fault kinds.NoStamps) ∷ Word words.Nothing ∷ Word words.Nothing ∷ Word words.Nothing ∷ Word words.Nothing ∷ Word words.Nothing ∷ []
-
--- cells for an arrival time stamp that jumps
-abbrev pub stamp_jump_cells : StampJump → List Cell
-stamp_jump_cells e =
-    Word (words.Fault kinds.StampJump) ∷ Word words.Nothing ∷ Number e.packet Same ∷ Number e.value Ticks ∷ Number e.limit Ticks ∷ Word words.Millis ∷ []

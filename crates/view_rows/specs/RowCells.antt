@@ -3,25 +3,16 @@ use Rattle.std.specs.Prelude.{ℕ, List, [], ◌∷◌, Option, Some, None}
 use Rattle.events.specs.declared.check_counts.CheckTotals.{CheckTotals}
 use Rattle.events.specs.declared.check_counts.NoVerdict.{NoVerdict}
 use Rattle.events.specs.declared.check_counts.NoVerdict.TheVariants as reasons
-use Rattle.events.specs.declared.event.BufferExcess.{BufferExcess}
-use Rattle.events.specs.declared.event.ClockFault.{ClockFault}
 use Rattle.events.specs.declared.event.ClockTotals.{ClockTotals}
-use Rattle.events.specs.declared.event.FarAhead.{FarAhead}
 use Rattle.events.specs.declared.event.LateUnit.{LateUnit}
 use Rattle.events.specs.declared.event.MainTotals.{MainTotals}
 use Rattle.events.specs.declared.event.PidTotals.{PidTotals}
-use Rattle.events.specs.declared.event.ProgramExcess.{ProgramExcess}
 use Rattle.events.specs.declared.event.StreamBegin.{StreamBegin}
 use Rattle.events.specs.declared.event.SystemTotals.{SystemTotals}
-use Rattle.events.specs.declared.event.TableFault.{TableFault}
 use Rattle.events.specs.declared.event.TableTotals.{TableTotals}
 use Rattle.events.specs.declared.event.TransportTotals.{TransportTotals}
 use Rattle.events.specs.declared.event.UnclockedPackets.{UnclockedPackets}
-use Rattle.events.specs.declared.packet_fault.CheckWordFault.{CheckWordFault}
 use Rattle.events.specs.declared.packet_fault.CounterFault.{CounterFault}
-use Rattle.events.specs.declared.packet_fault.RefusalCause.{RefusalCause}
-use Rattle.events.specs.declared.packet_fault.RefusalCause.TheVariants as causes
-use Rattle.events.specs.declared.packet_fault.RefusedPacket.{RefusedPacket}
 use Rattle.events.specs.declared.video_event.ElementaryLate.{ElementaryLate}
 use Rattle.events.specs.declared.video_event.LateCause.{LateCause}
 use Rattle.events.specs.declared.video_event.LateCause.TheVariants as late_causes
@@ -89,16 +80,6 @@ abbrev pub pid_cells : PidTotals → List Cell
 pid_cells e =
     Number e.number Same ∷ Carried e.number ∷ Number e.packets Same ∷ Number e.pcrs Same ∷ []
 
--- cells for an excess of a buffer
-abbrev pub excess_cells : FaultKind → BufferExcess → List Cell
-excess_cells kind e =
-    Word (words.Fault kind) ∷ Number e.pid Same ∷ Number e.packet Same ∷ Number (short e.peak) Same ∷ Number e.size Same ∷ Word words.Bytes ∷ []
-
--- cells for an excess of a buffer of tables
-abbrev pub program_excess_cells : FaultKind → ProgramExcess → List Cell
-program_excess_cells kind e =
-    Word (words.Fault kind) ∷ Program e.program ∷ Number e.packet Same ∷ Number (short e.peak) Same ∷ Number e.size Same ∷ Word words.Bytes ∷ []
-
 -- cells for a late unit
 abbrev pub late_cells : LateUnit → List Cell
 late_cells e =
@@ -113,28 +94,6 @@ abbrev pub elementary_late_cells : ElementaryLate → List Cell
 elementary_late_cells e =
     Word (late_word e.cause) ∷ Number e.pid Same ∷ Number e.packet Same ∷ Number (short e.by) Ticks ∷ Word words.Nothing ∷ Word words.Millis ∷ []
 
--- cells for a unit too far ahead
-abbrev pub ahead_cells : FarAhead → List Cell
-ahead_cells e =
-    Word (words.Fault kinds.Ahead) ∷ Number e.pid Same ∷ Number e.packet Same ∷ Number e.by Ticks ∷ Number e.limit Ticks ∷ Word words.Millis ∷ []
-
--- cells for a clock reference whose time is wrong
-abbrev pub clock_time_cells : FaultKind → ClockFault → List Cell
-clock_time_cells kind e =
-    Word (words.Fault kind) ∷ Number e.pid Same ∷ Number e.packet Same ∷ Number (short e.value) Ticks ∷ Number e.limit Ticks ∷ Word words.Millis ∷ []
-
--- cells for an inaccurate clock reference
-abbrev pub clock_place_cells : ClockFault → List Cell
-clock_place_cells e =
-    Word (words.Fault kinds.PcrAccuracy) ∷ Number e.pid Same ∷ Number e.packet Same ∷ Number (short e.value) Same ∷ Number e.limit Same
-    ∷ Word words.Nanos ∷ []
-
--- cells for a section that begins too late
-abbrev pub table_fault_cells : TableFault → List Cell
-table_fault_cells e =
-    Word (words.Fault kinds.TableRepetition) ∷ Number e.pid Same ∷ Number e.packet Same ∷ Number (short e.value) Ticks ∷ Number e.limit Ticks
-    ∷ Word words.Millis ∷ []
-
 -- cells for packets without a moment
 abbrev pub unclocked_cells : UnclockedPackets → List Cell
 unclocked_cells e =
@@ -144,26 +103,11 @@ unclocked_cells e =
 abbrev pub reference_cells : FaultKind → ℕ → List Cell
 reference_cells kind pid = Number pid Same ∷ Word (words.Fault kind) ∷ []
 
--- cells for a packet that is refused
-unfoldable pub cause_word : RefusalCause → CellWord
-cause_word causes.SyncByte = (words.Fault kinds.SyncByte)
-cause_word causes.Header = (words.Fault kinds.Header)
-cause_word causes.TransportError = (words.Fault kinds.TransportError)
-
-abbrev pub refused_cells : RefusedPacket → List Cell
-refused_cells e =
-    Word (cause_word e.cause) ∷ Word words.Nothing ∷ Number e.packet Same ∷ Word words.Nothing ∷ Word words.Nothing ∷ Word words.Nothing ∷ []
-
 -- cells for a continuity_counter that does not follow
 abbrev pub continuity_cells : CounterFault → List Cell
 continuity_cells e =
     Word (words.Fault kinds.Continuity) ∷ Number e.pid Same ∷ Number e.packet Same ∷ Number e.found Same ∷ Number e.expected Same
     ∷ Word words.Nothing ∷ []
-
--- cells for a section with a wrong check word
-abbrev pub check_word_cells : CheckWordFault → List Cell
-check_word_cells e =
-    Word (words.Fault kinds.CheckWord) ∷ Number e.pid Same ∷ Number e.packet Same ∷ Word words.Nothing ∷ Word words.Nothing ∷ Word words.Nothing ∷ []
 
 -- how often a check failed, with a mark if it did, or why it can't be made
 unfoldable pub result_cell : Option NoVerdict → ℕ → Cell

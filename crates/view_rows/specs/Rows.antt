@@ -1,13 +1,9 @@
 -- The rows that an event adds.
 use Rattle.std.specs.Prelude.{◌+◌, ◌-◌, ◌^◌, min, nat_lt, if◌then◌else◌, ℕ, List, [], ◌∷◌, ◌++◌, codes, flat_map, Option, Some, None}
 use Rattle.events.specs.declared.event.Event.{Event}
-use Rattle.events.specs.declared.event.Event.TheVariants.{Input, Stream, Excess, MainExcess, MultiplexingExcess}
-use Rattle.events.specs.declared.event.Event.TheVariants.{ElementaryExcess, SystemExcess, SystemMainExcess, Late}
-use Rattle.events.specs.declared.event.Event.TheVariants.{ElementaryLate, Ahead, PcrRepetition, PcrDiscontinuity}
-use Rattle.events.specs.declared.event.Event.TheVariants.{PcrAccuracy, TableRepetition, Unclocked, Refused, Continuity}
-use Rattle.events.specs.declared.event.Event.TheVariants.{CheckWord, Transport, Main, Multiplexing, Elementary, Marks}
-use Rattle.events.specs.declared.event.Event.TheVariants.{System, Clock, Table, Pid, Unreferenced, Missing, Check, Rule}
-use Rattle.events.specs.declared.event.Event.TheVariants.{Summary}
+use Rattle.events.specs.declared.event.Event.TheVariants.{Input, Stream, Late, ElementaryLate, Unclocked, Continuity}
+use Rattle.events.specs.declared.event.Event.TheVariants.{Transport, Main, Multiplexing, Elementary, Marks, System}
+use Rattle.events.specs.declared.event.Event.TheVariants.{Clock, Table, Pid, Unreferenced, Missing, Check, Summary}
 use Rattle.events.specs.declared.timed_event.TimedEvent.{TimedEvent}
 use Rattle.events.specs.declared.event.StreamBegin.{StreamBegin}
 use Rattle.events.specs.declared.input_event.InputEvent.{InputEvent}
@@ -22,12 +18,10 @@ use Rattle.view_rows.specs.declared.cells.Cell.{Cell}
 use Rattle.events.specs.declared.fault_kind.FaultKind.TheVariants as kinds
 use Rattle.view_rows.specs.declared.rows.TheConstants.{MOST_FAULTS}
 use Rattle.view_rows.specs.Cells.{cell, row}
-use Rattle.view_rows.specs.RowCells.{ahead_cells, check_cells, check_word_cells, clock_cells, clock_place_cells, clock_time_cells, continuity_cells}
-use Rattle.view_rows.specs.RowCells.{elementary_cells, elementary_late_cells, excess_cells, late_cells, main_cells, multiplexing_cells, pid_cells}
-use Rattle.view_rows.specs.RowCells.{program_excess_cells, reference_cells, refused_cells, stream_cells, system_cells, table_cells, table_fault_cells}
-use Rattle.view_rows.specs.RowCells.{transport_cells, unclocked_cells}
-use Rattle.view_rows.specs.InputCells.{empty_cells, no_stream_cells, no_stamps_cells, other_rate_cells, stamp_jump_cells, packet_size_cells, rest_cells}
-use Rattle.view_rows.specs.InputCells.{slip_cells}
+use Rattle.view_rows.specs.RowCells.{check_cells, clock_cells, continuity_cells, elementary_cells, elementary_late_cells, late_cells, main_cells}
+use Rattle.view_rows.specs.RowCells.{multiplexing_cells, pid_cells, reference_cells, stream_cells, system_cells, table_cells, transport_cells}
+use Rattle.view_rows.specs.RowCells.{unclocked_cells}
+use Rattle.view_rows.specs.InputCells.{empty_cells, no_stream_cells, no_stamps_cells, other_rate_cells, packet_size_cells, rest_cells, slip_cells}
 use Rattle.page_curves.specs.PidLabels.{LabelsState}
 use Rattle.view_rows.specs.MarkCells.{mark_cells}
 use Rattle.view_rows.specs.SummaryCells.{fault_cells, sentence_text, time_cells, totals_cells}
@@ -67,10 +61,10 @@ with_fault labels fault r cells = record r {
   count = min (r.count + 1) (2 ^ 64 - 1);
 }
 
--- the row of a rule's event, if it is a fault
-unfoldable pub with_rule_fault : LabelsState → RowTexts → Option Fault → RowTexts
-with_rule_fault labels r None = r
-with_rule_fault labels r (Some fault) = with_fault labels (Some fault) r (fault_cells fault)
+-- the row of a fault, if there is one, with what every fault has: its kind, its place, its packet, its value and limit
+unfoldable pub with_known_fault : LabelsState → RowTexts → Option Fault → RowTexts
+with_known_fault labels r None = r
+with_known_fault labels r (Some fault) = with_fault labels (Some fault) r (fault_cells fault)
 
 abbrev pub begun_row : LabelsState → List Cell → List ℕ
 begun_row labels cells = codes "<tr>" ++ flat_map (cell labels) cells
@@ -89,26 +83,13 @@ unfoldable pub with_summary : LabelsState → RowTexts → SummaryEvent → RowT
 with_summary labels r (totals.Faults e) = with_totals labels r e
 with_summary labels r (totals.Verdict e) = with_sentence r e
 
+-- an event that says more than its fault has cells of its own
 unfoldable pub with_fault_event : LabelsState → Option Fault → RowTexts → Event → RowTexts
-with_fault_event labels fault r (Excess e) = with_fault labels fault r (excess_cells kinds.Excess e)
-with_fault_event labels fault r (MainExcess e) = with_fault labels fault r (excess_cells kinds.MainExcess e)
-with_fault_event labels fault r (MultiplexingExcess e) = with_fault labels fault r (excess_cells kinds.MultiplexingExcess e)
-with_fault_event labels fault r (ElementaryExcess e) = with_fault labels fault r (excess_cells kinds.ElementaryExcess e)
-with_fault_event labels fault r (SystemExcess e) = with_fault labels fault r (program_excess_cells kinds.SystemExcess e)
-with_fault_event labels fault r (SystemMainExcess e) = with_fault labels fault r (program_excess_cells kinds.SystemMainExcess e)
 with_fault_event labels fault r (Late e) = with_fault labels fault r (late_cells e)
 with_fault_event labels fault r (ElementaryLate e) = with_fault labels fault r (elementary_late_cells e)
-with_fault_event labels fault r (Ahead e) = with_fault labels fault r (ahead_cells e)
-with_fault_event labels fault r (PcrRepetition e) = with_fault labels fault r (clock_time_cells kinds.PcrRepetition e)
-with_fault_event labels fault r (PcrDiscontinuity e) = with_fault labels fault r (clock_time_cells kinds.PcrDiscontinuity e)
-with_fault_event labels fault r (PcrAccuracy e) = with_fault labels fault r (clock_place_cells e)
-with_fault_event labels fault r (TableRepetition e) = with_fault labels fault r (table_fault_cells e)
 with_fault_event labels fault r (Unclocked e) = with_fault labels fault r (unclocked_cells e)
-with_fault_event labels fault r (Refused e) = with_fault labels fault r (refused_cells e)
 with_fault_event labels fault r (Continuity e) = with_fault labels fault r (continuity_cells e)
-with_fault_event labels fault r (CheckWord e) = with_fault labels fault r (check_word_cells e)
-with_fault_event labels fault r (Rule e) = with_rule_fault labels r fault
-with_fault_event labels fault r _ = r
+with_fault_event labels fault r _ = with_known_fault labels r fault
 
 -- how the bytes of the input are packets: packets of another size are no fault
 unfoldable pub with_input : LabelsState → Option Fault → RowTexts → InputEvent → RowTexts
@@ -119,7 +100,7 @@ with_input labels fault r (inputs.NoStream form) = with_fault labels fault r (no
 with_input labels fault r (inputs.OtherRate e) = with_fault labels fault r (other_rate_cells e)
 with_input labels fault r (inputs.Rest e) = with_fault labels fault r (rest_cells e)
 with_input labels fault r inputs.NoStamps = with_fault labels fault r no_stamps_cells
-with_input labels fault r (inputs.StampJump e) = with_fault labels fault r (stamp_jump_cells e)
+with_input labels fault r (inputs.StampJump e) = with_known_fault labels r fault
 
 abbrev pub with_stream : LabelsState → RowTexts → StreamBegin → RowTexts
 with_stream labels r e = record r { streams = r.streams ++ record { pid = e.pid; cells = flat_map (cell labels) (stream_cells e) } ∷ [] }

@@ -3,7 +3,7 @@ ghost use Rattle.std.specs.Prelude.{◌≡◌};
 ghost use Rattle.view_rows.specs.InputCells as spec;
 
 use crate::cells::{Cell, CellUnit, CellWord, short};
-use events::{FaultKind, FileForm, OtherRate, RestBytes, SlippedBytes, StampJump};
+use events::{FaultKind, FileForm, OtherRate, RestBytes, SlippedBytes};
 
 /// Returns the cells of bytes that are in no packet.
 pub(crate) fn slip_cells(e: &SlippedBytes) -> [Cell; 6]
@@ -96,19 +96,5 @@ pub(crate) fn no_stamps_cells() -> [Cell; 6]
         Cell::Word(CellWord::Nothing),
         Cell::Word(CellWord::Nothing),
         Cell::Word(CellWord::Nothing),
-    ]
-}
-
-/// Returns the cells of an arrival time stamp that jumps.
-pub(crate) fn stamp_jump_cells(e: &StampJump) -> [Cell; 6]
-    ensures { result ≡ spec.stamp_jump_cells e.now }
-{
-    [
-        Cell::Word(CellWord::Fault(FaultKind::StampJump)),
-        Cell::Word(CellWord::Nothing),
-        Cell::Number(e.packet, CellUnit::Same),
-        Cell::Number(e.value, CellUnit::Ticks),
-        Cell::Number(e.limit, CellUnit::Ticks),
-        Cell::Word(CellWord::Millis),
     ]
 }

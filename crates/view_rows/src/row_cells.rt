@@ -4,10 +4,9 @@ ghost use Rattle.view_rows.specs.RowCells as spec;
 
 use crate::cells::{Cell, CellUnit, CellWord, limit_if, short};
 use events::{
-    BufferExcess, CheckTotals, CheckWordFault, ClockFault, ClockTotals, CounterFault,
-    ElementaryLate, ElementaryTotals, FarAhead, FaultKind, LateCause, LateUnit, MainTotals,
-    MultiplexingTotals, NoVerdict, PidTotals, ProgramExcess, RefusalCause, RefusedPacket,
-    StreamBegin, SystemTotals, TableFault, TableTotals, TransportTotals, UnclockedPackets,
+    CheckTotals, ClockTotals, CounterFault, ElementaryLate, ElementaryTotals, FaultKind, LateCause,
+    LateUnit, MainTotals, MultiplexingTotals, NoVerdict, PidTotals, StreamBegin, SystemTotals,
+    TableTotals, TransportTotals, UnclockedPackets,
 };
 
 /// Returns the cells of a stream, after its PID and what the PID carries.
@@ -150,34 +149,6 @@ pub(crate) fn pid_cells(e: &PidTotals) -> [Cell; 4]
     ]
 }
 
-/// Returns the cells of an excess of a buffer.
-pub(crate) fn excess_cells(kind: FaultKind, e: &BufferExcess) -> [Cell; 6]
-    ensures { result ≡ spec.excess_cells kind e.now }
-{
-    [
-        Cell::Word(CellWord::Fault(kind)),
-        Cell::Number(u64::from(e.pid), CellUnit::Same),
-        Cell::Number(e.packet, CellUnit::Same),
-        Cell::Number(short(e.peak), CellUnit::Same),
-        Cell::Number(e.size, CellUnit::Same),
-        Cell::Word(CellWord::Bytes),
-    ]
-}
-
-/// Returns the cells of an excess of a buffer of tables.
-pub(crate) fn program_excess_cells(kind: FaultKind, e: &ProgramExcess) -> [Cell; 6]
-    ensures { result ≡ spec.program_excess_cells kind e.now }
-{
-    [
-        Cell::Word(CellWord::Fault(kind)),
-        Cell::Program(e.program),
-        Cell::Number(e.packet, CellUnit::Same),
-        Cell::Number(short(e.peak), CellUnit::Same),
-        Cell::Number(e.size, CellUnit::Same),
-        Cell::Word(CellWord::Bytes),
-    ]
-}
-
 /// Returns the cells of a late unit.
 pub(crate) fn late_cells(e: &LateUnit) -> [Cell; 6]
     ensures { result ≡ spec.late_cells e.now }
@@ -217,62 +188,6 @@ pub(crate) fn elementary_late_cells(e: &ElementaryLate) -> [Cell; 6]
     ]
 }
 
-/// Returns the cells of a unit too far ahead.
-pub(crate) fn ahead_cells(e: &FarAhead) -> [Cell; 6]
-    ensures { result ≡ spec.ahead_cells e.now }
-{
-    [
-        Cell::Word(CellWord::Fault(FaultKind::Ahead)),
-        Cell::Number(u64::from(e.pid), CellUnit::Same),
-        Cell::Number(e.packet, CellUnit::Same),
-        Cell::Number(e.by, CellUnit::Ticks),
-        Cell::Number(e.limit, CellUnit::Ticks),
-        Cell::Word(CellWord::Millis),
-    ]
-}
-
-/// Returns the cells of a clock reference whose time is wrong.
-pub(crate) fn clock_time_cells(kind: FaultKind, e: &ClockFault) -> [Cell; 6]
-    ensures { result ≡ spec.clock_time_cells kind e.now }
-{
-    [
-        Cell::Word(CellWord::Fault(kind)),
-        Cell::Number(u64::from(e.pid), CellUnit::Same),
-        Cell::Number(e.packet, CellUnit::Same),
-        Cell::Number(short(e.value), CellUnit::Ticks),
-        Cell::Number(e.limit, CellUnit::Ticks),
-        Cell::Word(CellWord::Millis),
-    ]
-}
-
-/// Returns the cells of an inaccurate clock reference.
-pub(crate) fn clock_place_cells(e: &ClockFault) -> [Cell; 6]
-    ensures { result ≡ spec.clock_place_cells e.now }
-{
-    [
-        Cell::Word(CellWord::Fault(FaultKind::PcrAccuracy)),
-        Cell::Number(u64::from(e.pid), CellUnit::Same),
-        Cell::Number(e.packet, CellUnit::Same),
-        Cell::Number(short(e.value), CellUnit::Same),
-        Cell::Number(e.limit, CellUnit::Same),
-        Cell::Word(CellWord::Nanos),
-    ]
-}
-
-/// Returns the cells of a section that begins too late.
-pub(crate) fn table_fault_cells(e: &TableFault) -> [Cell; 6]
-    ensures { result ≡ spec.table_fault_cells e.now }
-{
-    [
-        Cell::Word(CellWord::Fault(FaultKind::TableRepetition)),
-        Cell::Number(u64::from(e.pid), CellUnit::Same),
-        Cell::Number(e.packet, CellUnit::Same),
-        Cell::Number(short(e.value), CellUnit::Ticks),
-        Cell::Number(e.limit, CellUnit::Ticks),
-        Cell::Word(CellWord::Millis),
-    ]
-}
-
 /// Returns the cells of packets without a moment.
 pub(crate) fn unclocked_cells(e: &UnclockedPackets) -> [Cell; 6]
     ensures { result ≡ spec.unclocked_cells e.now }
@@ -297,31 +212,6 @@ pub(crate) fn reference_cells(kind: FaultKind, pid: u16) -> [Cell; 2]
     ]
 }
 
-#[tactic(auto, unfolding(crate::specs::RowCells::cause_word))]
-fn cause_word(cause: RefusalCause) -> CellWord
-    ensures { result ≡ spec.cause_word cause }
-{
-    match cause {
-        RefusalCause::SyncByte => CellWord::Fault(FaultKind::SyncByte),
-        RefusalCause::Header => CellWord::Fault(FaultKind::Header),
-        RefusalCause::TransportError => CellWord::Fault(FaultKind::TransportError),
-    }
-}
-
-/// Returns the cells of a refused packet.
-pub(crate) fn refused_cells(e: &RefusedPacket) -> [Cell; 6]
-    ensures { result ≡ spec.refused_cells e.now }
-{
-    [
-        Cell::Word(cause_word(e.cause)),
-        Cell::Word(CellWord::Nothing),
-        Cell::Number(e.packet, CellUnit::Same),
-        Cell::Word(CellWord::Nothing),
-        Cell::Word(CellWord::Nothing),
-        Cell::Word(CellWord::Nothing),
-    ]
-}
-
 /// Returns the cells of a continuity_counter that does not follow: its value, beside the expected value.
 pub(crate) fn continuity_cells(e: &CounterFault) -> [Cell; 6]
     ensures { result ≡ spec.continuity_cells e.now }
@@ -332,20 +222,6 @@ pub(crate) fn continuity_cells(e: &CounterFault) -> [Cell; 6]
         Cell::Number(e.packet, CellUnit::Same),
         Cell::Number(u64::from(e.found), CellUnit::Same),
         Cell::Number(u64::from(e.expected), CellUnit::Same),
-        Cell::Word(CellWord::Nothing),
-    ]
-}
-
-/// Returns the cells of a section with a wrong check word.
-pub(crate) fn check_word_cells(e: &CheckWordFault) -> [Cell; 6]
-    ensures { result ≡ spec.check_word_cells e.now }
-{
-    [
-        Cell::Word(CellWord::Fault(FaultKind::CheckWord)),
-        Cell::Number(u64::from(e.pid), CellUnit::Same),
-        Cell::Number(e.packet, CellUnit::Same),
-        Cell::Word(CellWord::Nothing),
-        Cell::Word(CellWord::Nothing),
         Cell::Word(CellWord::Nothing),
     ]
 }

@@ -6,15 +6,13 @@ use crate::cells::{Cell, write_cells, write_row};
 use crate::fault_rows::{FaultRow, buffer_of, fault_buffer};
 use crate::input_cells::{
     empty_cells, no_stamps_cells, no_stream_cells, other_rate_cells, packet_size_cells, rest_cells,
-    slip_cells, stamp_jump_cells,
+    slip_cells,
 };
 use crate::mark_cells::mark_cells;
 use crate::row_cells::{
-    ahead_cells, check_cells, check_word_cells, clock_cells, clock_place_cells, clock_time_cells,
-    continuity_cells, elementary_cells, elementary_late_cells, excess_cells, late_cells,
-    main_cells, multiplexing_cells, pid_cells, program_excess_cells, reference_cells,
-    refused_cells, stream_cells, system_cells, table_cells, table_fault_cells, transport_cells,
-    unclocked_cells,
+    check_cells, clock_cells, continuity_cells, elementary_cells, elementary_late_cells,
+    late_cells, main_cells, multiplexing_cells, pid_cells, reference_cells, stream_cells,
+    system_cells, table_cells, transport_cells, unclocked_cells,
 };
 use crate::summary_cells::{fault_cells, time_cells, totals_cells, write_sentence};
 use events::{
@@ -145,10 +143,10 @@ impl Rows {
         }
     }
 
-    // Takes the fault of a rule, if there is one.
-    #[tactic(auto, unfolding(crate::specs::Rows::with_rule_fault))]
-    fn take_rule(&mut self, labels: &PidLabels, fault: &Option<Fault>) -> Result<(), AllocError>
-        ensures { OnOk result (self.new ≡ spec.with_rule_fault labels.now self.old fault.now) }
+    // Takes a fault, if there is one, with the cells that say what every fault has.
+    #[tactic(auto, unfolding(crate::specs::Rows::with_known_fault))]
+    fn take_known(&mut self, labels: &PidLabels, fault: &Option<Fault>) -> Result<(), AllocError>
+        ensures { OnOk result (self.new ≡ spec.with_known_fault labels.now self.old fault.now) }
     {
         match fault {
             None => Ok(()),
@@ -198,61 +196,11 @@ impl Rows {
         ensures { OnOk result (self.new ≡ spec.with_fault_event labels.now fault.now self.old event.now) }
     {
         match event {
-            Event::Excess(e) => self.take_fault(labels, fault, &excess_cells(FaultKind::Excess, e)),
-            Event::MainExcess(e) => self.take_fault(
-                labels,
-                fault,
-                &excess_cells(FaultKind::MainExcess, e),
-            ),
-            Event::MultiplexingExcess(e) => {
-                self.take_fault(
-                    labels,
-                    fault,
-                    &excess_cells(FaultKind::MultiplexingExcess, e),
-                )
-            }
-            Event::ElementaryExcess(e) => {
-                self.take_fault(labels, fault, &excess_cells(FaultKind::ElementaryExcess, e))
-            }
-            Event::SystemExcess(e) => {
-                self.take_fault(
-                    labels,
-                    fault,
-                    &program_excess_cells(FaultKind::SystemExcess, e),
-                )
-            }
-            Event::SystemMainExcess(e) => {
-                self.take_fault(
-                    labels,
-                    fault,
-                    &program_excess_cells(FaultKind::SystemMainExcess, e),
-                )
-            }
             Event::Late(e) => self.take_fault(labels, fault, &late_cells(e)),
             Event::ElementaryLate(e) => self.take_fault(labels, fault, &elementary_late_cells(e)),
-            Event::Ahead(e) => self.take_fault(labels, fault, &ahead_cells(e)),
-            Event::PcrRepetition(e) => {
-                self.take_fault(
-                    labels,
-                    fault,
-                    &clock_time_cells(FaultKind::PcrRepetition, e),
-                )
-            }
-            Event::PcrDiscontinuity(e) => {
-                self.take_fault(
-                    labels,
-                    fault,
-                    &clock_time_cells(FaultKind::PcrDiscontinuity, e),
-                )
-            }
-            Event::PcrAccuracy(e) => self.take_fault(labels, fault, &clock_place_cells(e)),
-            Event::TableRepetition(e) => self.take_fault(labels, fault, &table_fault_cells(e)),
             Event::Unclocked(e) => self.take_fault(labels, fault, &unclocked_cells(e)),
-            Event::Refused(e) => self.take_fault(labels, fault, &refused_cells(e)),
             Event::Continuity(e) => self.take_fault(labels, fault, &continuity_cells(e)),
-            Event::CheckWord(e) => self.take_fault(labels, fault, &check_word_cells(e)),
-            Event::Rule(_) => self.take_rule(labels, fault),
-            _ => Ok(()),
+            _ => self.take_known(labels, fault),
         }
     }
 
@@ -276,7 +224,7 @@ impl Rows {
             InputEvent::OtherRate(e) => self.take_fault(labels, fault, &other_rate_cells(e)),
             InputEvent::Rest(e) => self.take_fault(labels, fault, &rest_cells(e)),
             InputEvent::NoStamps => self.take_fault(labels, fault, &no_stamps_cells()),
-            InputEvent::StampJump(e) => self.take_fault(labels, fault, &stamp_jump_cells(e)),
+            InputEvent::StampJump(_) => self.take_known(labels, fault),
         }
     }
 
