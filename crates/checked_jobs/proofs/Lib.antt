@@ -1,2 +1,6 @@
 pub mod JobReaders
 pub mod LongerJobs
+pub mod UnitLists
+pub mod JobTaking
+pub mod MuxJobs
+pub mod MuxOutcomes

@@ -2,3 +2,8 @@ pub mod FaultLines
 pub mod Jobs
 pub mod JobFaults
 pub mod JobSchedules
+pub mod JobTaking
+pub mod FoundFaults
+pub mod UnitList
+pub mod MuxJobs
+pub mod Multiplexing

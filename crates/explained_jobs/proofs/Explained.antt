@@ -15,11 +15,11 @@ use Rattle.devices.specs.WholeInput.{IsWhole}
 use Rattle.diagnosis.specs.Explained.{IsExplained, explained}
 use Rattle.diagnosis.specs.TomlNotes.{TomlNoteView}
 use Rattle.mux_core.specs.declared.multiplexing.MuxError.{MuxError}
-use Rattle.tsmux_cli.specs.MuxJobs.{IsMuxJob, MuxFaultView, MuxJobView, ReadsMuxJob, mux_fault_view, mux_job_of, mux_job_view}
-use Rattle.tsmux_cli.specs.Multiplexing.{cause_of}
-use Rattle.tsmux_cli.specs.declared.mux_jobs.MuxFault.{MuxFault}
-use Rattle.tsmux_cli.specs.declared.mux_jobs.MuxJob.{MuxJob}
-use Rattle.tsmux_cli.specs.declared.mux_jobs.MuxJobError.TheVariants.{Fault}
+use Rattle.checked_jobs.specs.MuxJobs.{IsMuxJob, MuxFaultView, MuxJobView, ReadsMuxJob, mux_fault_view, mux_job_of, mux_job_view}
+use Rattle.checked_jobs.specs.Multiplexing.{cause_of}
+use Rattle.checked_jobs.specs.declared.mux_jobs.MuxFault.{MuxFault}
+use Rattle.checked_jobs.specs.declared.mux_jobs.MuxJob.{MuxJob}
+use Rattle.checked_jobs.specs.declared.mux_jobs.MuxJobError.TheVariants.{Fault}
 use Rattle.explained_jobs.specs.JobWords.{ArePartsExplained, IsJobExplained, IsRestExplained, IsSecondAlone, IsSecondExplained, after_plan}
 use Rattle.explained_jobs.specs.JobWords.{begins_plan, dry, error_words, fault_words, headed, lacks_plan, or_words, parts_words, plan_line}
 use Rattle.explained_jobs.specs.JobWords.{second_alone, second_words, units_words}

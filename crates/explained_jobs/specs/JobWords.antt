@@ -12,9 +12,9 @@ use Rattle.checked_jobs.specs.Jobs.{first_plan_line, job_of, parts_of}
 use Rattle.plan_diagnosis.specs.ConditionLines.{switch_line}
 use Rattle.diagnosis.specs.Explained.{explained}
 use Rattle.diagnosis.specs.TomlNotes.{TomlNoteView}
-use Rattle.tsmux_cli.specs.MuxJobs.{InJob, InRecord, MuxFaultView, MuxJobView, mux_job_of}
-use Rattle.tsmux_cli.specs.Multiplexing.{cause_of}
-use Rattle.tsmux_cli.specs.declared.request.MuxOptions.{MuxOptions}
+use Rattle.checked_jobs.specs.MuxJobs.{InJob, InRecord, MuxFaultView, MuxJobView, mux_job_of}
+use Rattle.checked_jobs.specs.Multiplexing.{cause_of}
+use Rattle.checked_jobs.specs.declared.multiplexing.MuxOptions.{MuxOptions}
 use Rattle.explained_jobs.specs.UnitWords.{refused_words}
 
 -- 1. Records and units

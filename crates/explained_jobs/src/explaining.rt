@@ -4,18 +4,17 @@ ghost use Rattle.std.specs.Prelude.{◌≡◌, ◌++◌, IfOk, OnOk, Ok, map, st
 ghost use Rattle.diagnosis.specs.Explained.{IsExplained};
 ghost use Rattle.diagnosis.specs.TomlNotes.{TomlNoteView};
 ghost use Rattle.checked_jobs.specs.Jobs.{parts_of};
-ghost use Rattle.tsmux_cli.specs.MuxJobs.{mux_fault_view, mux_job_of, mux_job_view};
-ghost use Rattle.tsmux_cli.specs.Multiplexing.{cause_of};
+ghost use Rattle.checked_jobs.specs.MuxJobs.{mux_fault_view, mux_job_of, mux_job_view};
+ghost use Rattle.checked_jobs.specs.Multiplexing.{cause_of};
 ghost use Rattle.explained_jobs.specs.JobWords as spec;
 
 use crate::fault_words::write_fault;
 use crate::unit_words::write_refused;
 use crate::whole_jobs::{description_of, mux_fault, whole_job};
-use checked_jobs::{JobReadError, parts_of, read_job};
+use checked_jobs::{JobReadError, MuxFault, MuxJob, parts_of, read_job};
 use diagnosis::explain;
 use mux_core::MuxError;
 use std::alloc::{AllocError, Global};
-use tsmux_cli::{MuxFault, MuxJob};
 
 /// The first line of a plan's text.
 const FIRST_PLAN_LINE: &[u8] = b"tsplan 1\n";

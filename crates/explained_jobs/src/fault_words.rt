@@ -3,14 +3,13 @@
 ghost use Rattle.std.specs.Prelude.{◌≡◌, ◌++◌, OnOk, string_bytes};
 ghost use Rattle.checked_jobs.specs.JobFaults.{fault_view};
 ghost use Rattle.plan_checker.specs.Refusals.{entry_of};
-ghost use Rattle.tsmux_cli.specs.MuxJobs.{mux_fault_view};
+ghost use Rattle.checked_jobs.specs.MuxJobs.{mux_fault_view};
 ghost use Rattle.explained_jobs.specs.JobWords as spec;
 
-use checked_jobs::JobFault;
+use checked_jobs::{JobFault, MuxFault};
 use plan_checker::Refusal;
 use std::alloc::AllocError;
 use std::fmt::Write;
-use tsmux_cli::MuxFault;
 use unit_records::UnitFileError;
 
 // Appends that the input ends inside a record.

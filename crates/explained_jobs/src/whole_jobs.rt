@@ -2,16 +2,17 @@
 
 ghost use Rattle.std.specs.Prelude.{◌≡◌, [], IfOk};
 ghost use Rattle.checked_jobs.specs.JobFaults.{plans_view};
-ghost use Rattle.tsmux_cli.specs.Multiplexing.{cause_of};
-ghost use Rattle.tsmux_cli.specs.MuxJobs.{IsMuxJob, mux_job_of, mux_job_view};
+ghost use Rattle.checked_jobs.specs.Multiplexing.{cause_of};
+ghost use Rattle.checked_jobs.specs.MuxJobs.{IsMuxJob, mux_job_of, mux_job_view};
 ghost use Rattle.explained_jobs.specs.JobWords.{dry};
 
-use checked_jobs::JobPlans;
+use checked_jobs::{
+    JobPlans, MuxFault, MuxJob, MuxJobError, MuxOptions, read_mux_job, write_packets,
+};
 use counted_io::Counted;
 use description::Description;
 use mux_core::MuxError;
 use std::alloc::{AllocError, Global};
-use tsmux_cli::{MuxFault, MuxJob, MuxJobError, MuxOptions, read_mux_job, write_packets};
 
 /// Returns the job in these bytes with its units, or its first fault.
 #[tactic(auto, using(crate::proofs::Explained::job_read, crate::proofs::Explained::fault_read))]

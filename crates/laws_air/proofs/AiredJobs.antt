@@ -28,10 +28,10 @@ use Rattle.on_air.specs.Airing.{Air, Run, air_output, is_tick, ended, heard, las
 use Rattle.on_air.specs.Laws.{ComeInOrder, greatest_of, records_of, without_ticks}
 use Rattle.on_air.proofs.AsMultiplexed.{aired_as_multiplexed, first_taken}
 use Rattle.on_air.proofs.InOrder.{aired_in_order}
-use Rattle.tsmux_cli.specs.UnitList.{Units, units_in}
-use Rattle.tsmux_cli.specs.declared.request.MuxOptions.{MuxOptions}
-use Rattle.tsmux_cli.specs.MuxJobs.{MuxJobView, default_slots, mux_job_of, served, with_records, with_units}
-use Rattle.tsmux_cli.specs.Multiplexing.{cause_of, packets_of, range_cause, schedule_of, slots_of}
+use Rattle.checked_jobs.specs.UnitList.{Units, units_in}
+use Rattle.checked_jobs.specs.declared.multiplexing.MuxOptions.{MuxOptions}
+use Rattle.checked_jobs.specs.MuxJobs.{MuxJobView, default_slots, mux_job_of, served, with_records, with_units}
+use Rattle.checked_jobs.specs.Multiplexing.{cause_of, packets_of, range_cause, schedule_of, slots_of}
 use Rattle.tsair_cli.specs.declared.arguments.AirOptions.{AirOptions}
 use Rattle.tsair_cli.specs.AirRuns.{Begins, EndsRun, GoesOnAir, run_of}
 use Rattle.tsair_cli.specs.Endings.{end_outcome, slots_outcome, why_outcome}

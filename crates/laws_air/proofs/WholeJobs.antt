@@ -10,8 +10,8 @@ use Rattle.unit_records.specs.declared.reading.UnitFileError.{UnitFileError}
 use Rattle.unit_records.specs.declared.reading.UnitFileError.TheVariants.{Cut, Size}
 use Rattle.carry.specs.RecordRuns.{after_records}
 use Rattle.on_air.specs.Laws.{with_entry, records_of}
-use Rattle.tsmux_cli.specs.UnitList.{ReadSoFar, Units, joined, units_from, units_in}
-use Rattle.tsmux_cli.proofs.UnitLists.{read_all, read_more, read_none, read_stopped}
+use Rattle.checked_jobs.specs.UnitList.{ReadSoFar, Units, joined, units_from, units_in}
+use Rattle.checked_jobs.proofs.UnitLists.{read_all, read_more, read_none, read_stopped}
 
 same_units : (a b : List (ℕ × AccessUnit)) → ◌≡◌ {A = Result (List (ℕ × AccessUnit)) (ℕ × UnitFileError)} (Ok a) (Ok b) → a ≡ b
 same_units a b e = cc

@@ -3,9 +3,9 @@ use Rattle.std.specs.Prelude.{◌≡◌, ◌≤◌, ℕ, false, List, Some, None
 use Rattle.devices.specs.Devices.{Device, Takes, between}
 use Rattle.on_air.specs.Airing.{Run, lead_of, needed_room}
 use Rattle.on_air.specs.Laws.{ComeInOrder, without_ticks}
-use Rattle.tsmux_cli.specs.declared.request.MuxOptions.{MuxOptions}
-use Rattle.tsmux_cli.specs.MuxJobs.{MuxJobView, mux_job_of}
-use Rattle.tsmux_cli.specs.Multiplexing.{cause_of, packets_of}
+use Rattle.checked_jobs.specs.declared.multiplexing.MuxOptions.{MuxOptions}
+use Rattle.checked_jobs.specs.MuxJobs.{MuxJobView, mux_job_of}
+use Rattle.checked_jobs.specs.Multiplexing.{cause_of, packets_of}
 use Rattle.tsair_cli.specs.declared.arguments.AirOptions.{AirOptions}
 use Rattle.tsair_cli.specs.AirRuns.{AirsJob, EndsRun, GoesOnAir, run_of}
 

@@ -31,8 +31,8 @@ use Rattle.job_run.specs.StreamFiles.{FilesLead, HasRead, IsStop, PerformsFiles,
 use Rattle.job_run.specs.Streams.{findings_for, notes_for}
 use Rattle.tsjob_cli.specs.Arguments.{arguments_in}
 use Rattle.tsjob_cli.specs.FileWords.{file_arguments, file_words, option_words, unless_streamed}
-use Rattle.tsmux_cli.specs.declared.request.MuxOptions.{MuxOptions}
-use Rattle.tsmux_cli.specs.MuxJobs.{mux_job_of}
+use Rattle.checked_jobs.specs.declared.multiplexing.MuxOptions.{MuxOptions}
+use Rattle.checked_jobs.specs.MuxJobs.{mux_job_of}
 use Rattle.laws_pipe.specs.PipedFiles.{FilesGoThrough, JoinedIsRead, TakesInput, TheFilePipe, as_joined_job, wire_units_in}
 use Rattle.laws_pipe.specs.PipedJobs.{MuxesAll}
 use Rattle.laws_pipe.proofs.DescriptionLines.{PlainInformation, description_passes}

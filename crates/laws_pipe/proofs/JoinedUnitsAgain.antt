@@ -21,9 +21,9 @@ use Rattle.stream_jobs.proofs.JoinedUnits.{at_place}
 use Rattle.laws_job.specs.JoinedLaws.{JoinedAgainLaw}
 use Rattle.laws_job.proofs.AcceptedUnits.{stream_there}
 use Rattle.job_run.specs.Streams.{findings_of}
-use Rattle.tsmux_cli.specs.declared.request.MuxOptions.{MuxOptions}
-use Rattle.tsmux_cli.specs.MuxJobs.{MuxJobView, greatest_dts}
-use Rattle.tsmux_cli.specs.Multiplexing.{packets_of, slots_of}
+use Rattle.checked_jobs.specs.declared.multiplexing.MuxOptions.{MuxOptions}
+use Rattle.checked_jobs.specs.MuxJobs.{MuxJobView, greatest_dts}
+use Rattle.checked_jobs.specs.Multiplexing.{packets_of, slots_of}
 use Rattle.laws_pipe.specs.PipedFiles.{wire_units_in}
 use Rattle.laws_pipe.specs.PipedJobs.{AreLater}
 use Rattle.laws_pipe.proofs.UnitsAgain.{all_due, packets_are, slots_within}

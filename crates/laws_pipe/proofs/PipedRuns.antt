@@ -29,9 +29,9 @@ use Rattle.job_run.specs.JobArguments.{JobArgumentsView}
 use Rattle.tsjob_cli.specs.Arguments.{arguments_in}
 use Rattle.job_run.specs.Outcomes.{BytesLead, Gives, GivesJob, InputLeads, Leads}
 use Rattle.job_run.specs.Streams.{findings_for, notes_for}
-use Rattle.tsmux_cli.specs.declared.request.MuxOptions.{MuxOptions}
-use Rattle.tsmux_cli.specs.MuxJobs.{MuxJobView, mux_job_of}
-use Rattle.tsmux_cli.specs.Multiplexing.{IsKept, KeepsPromises, KeptUnlessRefused, Muxes, cause_of, multiplexed, packets_of, unless_refused, with_job}
+use Rattle.checked_jobs.specs.declared.multiplexing.MuxOptions.{MuxOptions}
+use Rattle.checked_jobs.specs.MuxJobs.{MuxJobView, mux_job_of}
+use Rattle.checked_jobs.specs.Multiplexing.{IsKept, KeepsPromises, KeptUnlessRefused, Muxes, cause_of, multiplexed, packets_of, unless_refused, with_job}
 use Rattle.laws_pipe.specs.PipedJobs.{GoesThrough, MuxesAll, ThePipe, WrittenIsRead, as_mux_job}
 use Rattle.laws_pipe.proofs.DescriptionLines.{PlainInformation, description_passes, information_plain}
 use Rattle.laws_pipe.proofs.PlainLines.{Passes}

@@ -36,8 +36,8 @@ use Rattle.stream_jobs.specs.Rates.{IsText}
 use Rattle.es_records.specs.Records.{records_of, written}
 use Rattle.checked_jobs.specs.Jobs.{Fails, described, fault_of, job, job_of, of_parts, parts_of, plan_offset, planned, unless_failed, with_description}
 use Rattle.checked_jobs.specs.Jobs.{with_plan}
-use Rattle.tsmux_cli.specs.MuxJobs.{mux_job_of, served, with_records, with_units}
-use Rattle.tsmux_cli.specs.UnitList.{units_in}
+use Rattle.checked_jobs.specs.MuxJobs.{mux_job_of, served, with_records, with_units}
+use Rattle.checked_jobs.specs.UnitList.{units_in}
 use Rattle.laws_pipe.proofs.PlainLines.{Passes}
 
 -- 1. A description that is read is in its ranges

@@ -9,9 +9,9 @@ use Rattle.mux_core.specs.declared.multiplexing.MuxError.TheVariants.{TooManySlo
 use Rattle.stream_jobs.specs.Jobs.{AreUnits}
 use Rattle.laws_job.specs.Laws.{AcceptedLaw, schedule_for}
 use Rattle.checked_jobs.specs.JobSchedules.{schedule_by}
-use Rattle.tsmux_cli.specs.declared.request.MuxOptions.{MuxOptions}
-use Rattle.tsmux_cli.specs.MuxJobs.{MuxJobView, default_slots, greatest_dts}
-use Rattle.tsmux_cli.specs.Multiplexing.{cause_of, range_cause, range_cause_of, first_of, periods_of, schedule_of, slots_of}
+use Rattle.checked_jobs.specs.declared.multiplexing.MuxOptions.{MuxOptions}
+use Rattle.checked_jobs.specs.MuxJobs.{MuxJobView, default_slots, greatest_dts}
+use Rattle.checked_jobs.specs.Multiplexing.{cause_of, range_cause, range_cause_of, first_of, periods_of, schedule_of, slots_of}
 
 default_of : (given : Option ℕ) (n : ℕ) → given ≡ None → unwrap_or given n ≡ n
 default_of None n e = refl

@@ -24,9 +24,9 @@ use Rattle.stream_jobs.proofs.JobUnits.{unit_stream_of}
 use Rattle.laws_job.specs.Laws.{AllDue, FoundAgainLaw, schedule_for}
 use Rattle.checked_jobs.specs.JobSchedules.{schedule_by}
 use Rattle.job_run.specs.Streams.{findings_of}
-use Rattle.tsmux_cli.specs.declared.request.MuxOptions.{MuxOptions}
-use Rattle.tsmux_cli.specs.MuxJobs.{MuxJobView, greatest_dts}
-use Rattle.tsmux_cli.specs.Multiplexing.{first_of, packets_of, periods_of, schedule_of, slots_of}
+use Rattle.checked_jobs.specs.declared.multiplexing.MuxOptions.{MuxOptions}
+use Rattle.checked_jobs.specs.MuxJobs.{MuxJobView, greatest_dts}
+use Rattle.checked_jobs.specs.Multiplexing.{first_of, packets_of, periods_of, schedule_of, slots_of}
 use Rattle.laws_pipe.specs.PipedJobs.{AreLater}
 use Rattle.laws_pipe.proofs.TakenJobs.{all_slots}
 

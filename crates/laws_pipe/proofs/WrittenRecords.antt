@@ -18,7 +18,7 @@ use Rattle.mux_core.specs.Scheduled.{Scheduled}
 use Rattle.mux_core.proofs.UnitCounts.{own_units, units_append}
 use Rattle.laws_job.proofs.AcceptedUnits.{stream_there}
 use Rattle.laws_job.proofs.PrivateData.{Sixteen}
-use Rattle.tsmux_cli.specs.UnitList.{units_from, units_in, units_step, with_first}
+use Rattle.checked_jobs.specs.UnitList.{units_from, units_in, units_step, with_first}
 
 abbrev pub Fits : ℕ × AccessUnit → Type 0
 Fits entry = FitsRecord entry.1

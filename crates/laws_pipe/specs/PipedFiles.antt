@@ -22,9 +22,9 @@ use Rattle.job_run.specs.StreamFiles.{HasRead}
 use Rattle.job_run.specs.Streams.{findings_of}
 use Rattle.tsjob_cli.specs.FileWords.{file_arguments, file_words}
 use Rattle.tsjob_cli.specs.NamedInputs.{ReadsFiles}
-use Rattle.tsmux_cli.specs.declared.request.MuxOptions.{MuxOptions}
-use Rattle.tsmux_cli.specs.MuxJobs.{MuxJobView, greatest_dts, mux_job_of}
-use Rattle.tsmux_cli.specs.Multiplexing.{IsKept, packets_of}
+use Rattle.checked_jobs.specs.declared.multiplexing.MuxOptions.{MuxOptions}
+use Rattle.checked_jobs.specs.MuxJobs.{MuxJobView, greatest_dts, mux_job_of}
+use Rattle.checked_jobs.specs.Multiplexing.{IsKept, packets_of}
 use Rattle.laws_pipe.specs.PipedJobs.{AreLater, MuxesAll}
 
 -- ---- the job that is read from the output

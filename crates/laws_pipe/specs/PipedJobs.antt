@@ -21,9 +21,9 @@ use Rattle.job_run.specs.JobArguments.{JobArgumentsView}
 use Rattle.tsjob_cli.specs.Arguments.{arguments_in}
 use Rattle.job_run.specs.Outcomes.{GivesJob, Leads}
 use Rattle.job_run.specs.Streams.{findings_for, findings_of}
-use Rattle.tsmux_cli.specs.declared.request.MuxOptions.{MuxOptions}
-use Rattle.tsmux_cli.specs.MuxJobs.{MuxJobView, greatest_dts, mux_job_of}
-use Rattle.tsmux_cli.specs.Multiplexing.{IsKept, Muxes, packets_of}
+use Rattle.checked_jobs.specs.declared.multiplexing.MuxOptions.{MuxOptions}
+use Rattle.checked_jobs.specs.MuxJobs.{MuxJobView, greatest_dts, mux_job_of}
+use Rattle.checked_jobs.specs.Multiplexing.{IsKept, Muxes, packets_of}
 
 -- ---- the job that is read from the output
 

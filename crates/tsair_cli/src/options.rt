@@ -3,8 +3,7 @@ ghost use Rattle.std.specs.Prelude.{◌≡◌};
 ghost use Rattle.tsair_cli.specs.Options as spec;
 ghost use Rattle.word_faults.specs.KnownWords.{known_of};
 
-use option_lists::Scale;
-use word_faults::{KnownWords, OptionRow, ValueKind};
+use word_faults::{KnownWords, OptionRow, Scale, ValueKind};
 
 /// The options. The values that are read, the faults of words, and the usage follow from these rows.
 pub(crate) const OPTIONS: [OptionRow; 11] = [

@@ -2,7 +2,7 @@
 
 ghost use Rattle.std.specs.Prelude.{◌≡◌, IfOk, map, option_map};
 ghost use Rattle.clap.specs.Words.{found_of, rows_of};
-ghost use Rattle.option_lists.specs.NameLists.{network_if_given};
+ghost use Rattle.word_faults.specs.NameLists.{network_if_given};
 ghost use Rattle.given_values.specs.GivenNames.{network_name_view};
 ghost use Rattle.tsjob_cli.specs.Arguments as spec;
 ghost use Rattle.tsjob_cli.specs.Subcommands.{subcommand_of};
@@ -11,12 +11,15 @@ use crate::file_mark::has_mark;
 use crate::options::OPTIONS;
 use clap::ArgMatches;
 use devices::{is_given, text_of};
+use given_buffers::buffer_list;
 use given_values::NetworkName;
 use job_lines::Reporting;
 use job_run::{JobArguments, Subcommand};
-use option_lists::{base_of, buffer_list, declare_by_of, name_list, network_in, start_of};
 use std::alloc::{AllocError, Global};
-use word_faults::{given_options, number_if, number_of, numbers_of};
+use word_faults::{
+    base_of, declare_by_of, given_options, name_list, network_in, number_if, number_of, numbers_of,
+    start_of,
+};
 
 // Returns the subcommand of this name; without a name, the whole job.
 #[tactic(auto, unfolding(crate::specs::Subcommands::subcommand_of))]
@@ -33,7 +36,7 @@ pub(crate) fn subcommand_of(text: Option<&str>) -> Option<Subcommand>
 }
 
 // Returns the network, if the option is given; `None` if its value is no network.
-#[tactic(auto, unfolding(option_lists::specs::NameLists::network_if_given))]
+#[tactic(auto, unfolding(word_faults::specs::NameLists::network_if_given))]
 fn network_if_given<'a>(
     alloc: Global,
     text: Option<&'a str>,

@@ -1,7 +1,6 @@
 //! The rows of options that several programs have.
 
-use option_lists::Scale;
-use word_faults::{OptionRow, ValueKind};
+use word_faults::{OptionRow, Scale, ValueKind};
 
 /// The rate.
 pub const RATE: OptionRow = OptionRow {

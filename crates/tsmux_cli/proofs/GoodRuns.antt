@@ -5,10 +5,10 @@ use Rattle.mux_core.specs.declared.multiplexing.MuxError.{MuxError}
 use Rattle.devices.specs.Devices.{Device, Takes}
 use Rattle.devices.specs.Outcomes.{Outcome}
 use Rattle.devices.specs.WholeInput.{ReadsInput}
-use Rattle.tsmux_cli.specs.MuxJobs.{MuxFaultView, MuxJobView, mux_job_of}
-use Rattle.tsmux_cli.specs.Multiplexing.{IsKept, KeepsPromises, KeptUnlessRefused, cause_of, packets_of, unless_refused, with_job}
+use Rattle.checked_jobs.specs.MuxJobs.{MuxFaultView, MuxJobView, mux_job_of}
+use Rattle.checked_jobs.specs.Multiplexing.{IsKept, KeepsPromises, KeptUnlessRefused, cause_of, packets_of, unless_refused, with_job}
 use Rattle.tsmux_cli.specs.Laws.{GoodRuns, MuxesJob}
-use Rattle.tsmux_cli.specs.declared.request.MuxOptions.{MuxOptions}
+use Rattle.checked_jobs.specs.declared.multiplexing.MuxOptions.{MuxOptions}
 
 of_job : (o : MuxOptions) (bytes : List ℕ) (outcome : Outcome) (input packets : Device) (j : MuxJobView) (cause : Option MuxError) →
     ReadsInput input (Ok bytes) → mux_job_of (is_some o.periods) bytes ≡ Ok j → cause_of o j ≡ cause → outcome ≡ unless_refused cause (packets_of o j) →

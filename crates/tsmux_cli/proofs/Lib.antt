@@ -4,10 +4,6 @@ pub mod Subcommands
 pub mod HeaderLines
 pub mod Listing
 pub mod PlanOutcomes
-pub mod UnitLists
-pub mod JobTaking
-pub mod MuxJobs
-pub mod MuxOutcomes
 pub mod Monitored
 pub mod GoodRuns
 pub mod GoodCarries

@@ -3,12 +3,12 @@ use Rattle.std.specs.Prelude.{◌≡◌, ℕ, List, None, Ok, is_some}
 use Rattle.devices.specs.Devices.{Device, Takes}
 use Rattle.devices.specs.Runs.{Performs}
 use Rattle.devices.specs.WholeInput.{ReadsInput}
-use Rattle.tsmux_cli.specs.MuxJobs.{MuxJobView, mux_job_of}
-use Rattle.tsmux_cli.specs.Multiplexing.{IsKept, Muxes, cause_of, packets_of}
+use Rattle.checked_jobs.specs.MuxJobs.{MuxJobView, mux_job_of}
+use Rattle.checked_jobs.specs.Multiplexing.{IsKept, Muxes, cause_of, packets_of}
 use Rattle.carry.specs.RecordRuns.{Finished, IsOwn, carried, run_of}
 use Rattle.tsmux_cli.specs.Carrying.{Carries}
 use Rattle.tsmux_cli.specs.declared.request.CarryOptions.{CarryOptions}
-use Rattle.tsmux_cli.specs.declared.request.MuxOptions.{MuxOptions}
+use Rattle.checked_jobs.specs.declared.multiplexing.MuxOptions.{MuxOptions}
 
 -- an input was read to its end, and its bytes are a job with nothing that is refused: the packets of this job are written, and they keep every promise
 pub record MuxesJob (o : MuxOptions) (input packets : Device) : Type 0 where

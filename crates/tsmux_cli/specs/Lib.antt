@@ -5,10 +5,6 @@ pub mod Carrying
 pub mod FindingLines
 pub mod Demultiplexing
 pub mod Checking
-pub mod JobTaking
-pub mod UnitList
-pub mod MuxJobs
-pub mod Multiplexing
 pub mod Planning
 pub mod Monitoring
 pub mod Laws

@@ -1,38 +1,15 @@
 //! `check`: the first fault in a job.
 ghost use Rattle.std.specs.Prelude.{◌≡◌, IfOk, option_map};
-ghost use Rattle.tsmux_cli.specs.Checking.{Checks, FindsFault, verdict_of};
+ghost use Rattle.tsmux_cli.specs.Checking.{Checks, verdict_of};
 ghost use Rattle.devices.specs.Devices.{reads, writes};
 ghost use Rattle.checked_jobs.specs.JobFaults.{fault_view};
 ghost use Rattle.devices.specs.Lines.{Reports, WritesLine};
 ghost use Rattle.devices.specs.Runs.{Performs};
 
-use crate::job_taker::{JobTaker, PIECE};
-use crate::rest_taker::Dropped;
-use checked_jobs::{JobFault, JobReadError, is_refusal, report_fault, write_fault};
+use checked_jobs::{JobFault, find_fault, is_refusal, report_fault, write_fault};
 use counted_io::{Sink, Source};
-use devices::{Halt, report_halt, take_input, write_line};
+use devices::{Halt, report_halt, write_line};
 use std::alloc::Global;
-
-/// Reads the job in the input to its end, and returns its first fault, if it has one. Keeps nothing after the plans.
-fn find_fault<R: Source>(
-    alloc: Global,
-    switch: bool,
-    input: &mut R,
-) -> Result<Option<JobFault>, Halt>
-    ensures { FindsFault switch (reads R.Source input.old input.new) result }
-{
-    let mut taker = JobTaker::new(alloc, switch, Dropped {});
-    take_input(alloc, input, PIECE, &mut taker)?;
-    match taker.finish() {
-        Ok((plans, _)) => {
-            // By a call: at the end of a function the drop of each part would be a step of its proof.
-            drop(plans);
-            Ok(None)
-        }
-        Err(JobReadError::Fault(fault)) => Ok(Some(fault)),
-        Err(JobReadError::Memory) => Err(Halt::Memory),
-    }
-}
 
 /// Writes the verdict on the plans to the output, if there is one: accepted, or the first condition that does not hold.
 /// Returns the status.

@@ -5,6 +5,7 @@ ghost use Rattle.tsmux_cli.specs.Request as asked;
 
 use crate::command_line;
 use crate::options::{CARRY, MONITOR, MUX};
+use checked_jobs::MuxOptions;
 use clap::ArgMatches;
 use clap::error::ErrorKind;
 use clock27::Rate;
@@ -22,17 +23,6 @@ pub struct CarryOptions {
     pub pid: u16,
     /// the stream_id of the PES packets: 189, or 192 to 239
     pub id: u8,
-}
-
-/// The options of `mux`: it writes the packets of a job.
-#[derive(Clone, Copy)]
-pub struct MuxOptions {
-    /// the packets are written as lines of hexadecimal digits, and not as bytes
-    pub hex: bool,
-    /// the number of packets; by default the slots up to the greatest DTS
-    pub slots: Option<u64>,
-    /// the number of periods of the first plan before the second; by default there is one plan
-    pub periods: Option<u64>,
 }
 
 /// The options of `monitor`.

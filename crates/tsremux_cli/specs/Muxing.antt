@@ -3,9 +3,9 @@ use Rattle.std.specs.Prelude.{◌≡◌, ℕ, false, List, Some, None, Result, O
 use Rattle.devices.specs.Devices.{Device, IsClean, IsUntouched, Takes}
 use Rattle.devices.specs.Runs.{Performs}
 use Rattle.devices.specs.WholeInput.{ReadsInput}
-use Rattle.tsmux_cli.specs.MuxJobs.{MuxJobView, mux_job_of}
-use Rattle.tsmux_cli.specs.Multiplexing.{IsKept, Muxes, packets_of, slots_of}
-use Rattle.tsmux_cli.specs.declared.request.MuxOptions.{MuxOptions}
+use Rattle.checked_jobs.specs.MuxJobs.{MuxJobView, mux_job_of}
+use Rattle.checked_jobs.specs.Multiplexing.{IsKept, Muxes, packets_of, slots_of}
+use Rattle.checked_jobs.specs.declared.multiplexing.MuxOptions.{MuxOptions}
 use Rattle.tsremux_cli.specs.UnkeptFrames.{unkept_of}
 use Rattle.tsremux_cli.specs.declared.figures.Figures.{Figures}
 

@@ -8,7 +8,7 @@ use Rattle.sound_frames.specs.FrameHeaders.{frame_kind}
 use Rattle.sound_frames.specs.Frames.{unit_frames}
 use Rattle.sound_frames.specs.declared.frame_headers.FrameKind.{FrameKind}
 use Rattle.job_units.specs.CrossingFrames.{crosses}
-use Rattle.tsmux_cli.specs.MuxJobs.{MuxJobView}
+use Rattle.checked_jobs.specs.MuxJobs.{MuxJobView}
 use Rattle.tsremux_cli.specs.declared.figures.UnkeptFrames.{UnkeptFrames}
 
 -- a unit has several frames

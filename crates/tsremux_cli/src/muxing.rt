@@ -1,18 +1,18 @@
 //! A job in memory to all its packets.
 ghost use Rattle.std.specs.Prelude.{◌≡◌, IfOk};
 ghost use Rattle.devices.specs.Devices.{reads, writes};
-ghost use Rattle.tsmux_cli.specs.MuxJobs.{mux_job_view};
+ghost use Rattle.checked_jobs.specs.MuxJobs.{mux_job_view};
 ghost use Rattle.tsremux_cli.specs.Muxing as spec;
 
 use crate::figures::Figures;
 use crate::unkept_frames::unkept_frames;
-use counted_io::{Counted, Sink, Source};
-use devices::{Halt, report_halt};
-use std::alloc::{AllocError, Global};
-use tsmux_cli::{
+use checked_jobs::{
     MuxJob, MuxJobError, MuxOptions, rate_of, read_mux_job, report_error, report_mux_fault,
     slots_of, write_packets,
 };
+use counted_io::{Counted, Sink, Source};
+use devices::{Halt, report_halt};
+use std::alloc::{AllocError, Global};
 
 // Returns the figures of a job.
 fn figures_of(alloc: Global, job: &MuxJob) -> Result<Figures, AllocError>

@@ -2,17 +2,16 @@
 ghost use Rattle.std.specs.Prelude.{◌≡◌, ◌++◌, ◌||◌, [], IfOk, OnOk, find, option_map};
 ghost use Rattle.std.specs.List.{list_any};
 ghost use Rattle.checked_jobs.specs.JobFaults.{plans_view};
-ghost use Rattle.tsmux_cli.specs.MuxJobs.{mux_job_view};
+ghost use Rattle.checked_jobs.specs.MuxJobs.{mux_job_view};
 ghost use Rattle.tsremux_cli.specs.UnkeptFrames as spec;
 
 use crate::figures::UnkeptFrames;
-use checked_jobs::JobPlans;
+use checked_jobs::{JobPlans, MuxJob};
 use description::Description;
 use description_parts::StreamDescription;
 use job_units::crossing_frames::crosses;
 use sound_frames::{FrameKind, frame_kind, unit_frames};
 use std::alloc::{AllocError, Global};
-use tsmux_cli::MuxJob;
 use unit_records::Unit;
 
 // Returns whether a unit has several frames.

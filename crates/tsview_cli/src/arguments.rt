@@ -10,7 +10,7 @@ use arrival::Arrival;
 use clap::ArgMatches;
 use clock27::Rate;
 use devices::{is_given, text_of};
-use option_lists::buffer_list;
+use given_buffers::buffer_list;
 use std::alloc::{AllocError, Global};
 use ts_report::{ViewChoice, ViewOptions, ViewRequest, ViewSpan};
 use word_faults::{given_options, number_if, number_of, numbers_of};

@@ -3,8 +3,7 @@ ghost use Rattle.std.specs.Prelude.{◌≡◌};
 ghost use Rattle.tsview_cli.specs.Options as spec;
 ghost use Rattle.word_faults.specs.KnownWords.{known_of};
 
-use option_lists::Scale;
-use word_faults::{KnownWords, OptionRow, ValueKind};
+use word_faults::{KnownWords, OptionRow, Scale, ValueKind};
 
 /// The options and the name of a file. The reader, the first faulty word and the usage follow these rows.
 pub(crate) const OPTIONS: [OptionRow; 14] = [

@@ -1,4 +1,5 @@
 pub mod Found
+pub mod AllOf
 pub mod GivenOptions
 pub mod UsageReports
 pub mod NamedWords

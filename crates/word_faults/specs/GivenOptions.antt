@@ -2,9 +2,9 @@
 use Rattle.std.specs.Prelude.{ℕ, true, max, min, unwrap_or, List, [], ◌∷◌, Option, Some, None, option_map}
 use Rattle.clap.specs.Words.{App, Kinds, Row, fault_of, first_of, matches_of, new_app, new_rule, with_rule}
 use Rattle.devices.specs.Options.{flag_rule, number_given, number_if_given, number_option, option_rule}
-use Rattle.option_lists.specs.Lists.{number_list}
-use Rattle.option_lists.specs.Scaled.{scaled_in}
-use Rattle.option_lists.specs.declared.scaled.Scale.{Scale}
+use Rattle.word_faults.specs.Lists.{number_list}
+use Rattle.word_faults.specs.Scaled.{scaled_in}
+use Rattle.word_faults.specs.declared.scaled.Scale.{Scale}
 use Rattle.word_faults.specs.CommandLine.{Text}
 use Rattle.word_faults.specs.OptionRows.{OptionRow, kind_named}
 use Rattle.word_faults.specs.declared.option_row.ValueKind.{ValueKind}

@@ -1,4 +1,8 @@
 pub mod CommandLine
+pub mod Lists
+pub mod NameLists
+pub mod JobValues
+pub mod Scaled
 pub mod OptionRows
 pub mod OptionUsage
 pub mod Hints

@@ -2,7 +2,7 @@
 use Rattle.std.specs.Prelude.{◌-◌, Bool, false, if◌then◌else◌, List, [], ◌∷◌, ◌++◌, Option, Some, None, length, replicate, codes, flat_map}
 use Rattle.std.specs.Str.{bytes_eq}
 use Rattle.devices.specs.Usage.{range_text}
-use Rattle.option_lists.specs.JobValues.{greatest_base}
+use Rattle.word_faults.specs.JobValues.{greatest_base}
 use Rattle.word_faults.specs.CommandLine.{Text}
 use Rattle.word_faults.specs.OptionRows.{OptionRow}
 use Rattle.word_faults.specs.declared.option_row.ValueKind.{ValueKind}

@@ -1,7 +1,7 @@
 //! What to type in place of a word that cannot be taken: what an option takes, or the word that may be meant.
 ghost use Rattle.std.specs.Prelude.{◌≡◌, ◌++◌, IfOk, OnOk, codes, map, option_map, string_bytes};
 ghost use Rattle.devices.specs.Usage.{range_text};
-ghost use Rattle.option_lists.specs.JobValues.{greatest_base};
+ghost use Rattle.word_faults.specs.JobValues.{greatest_base};
 ghost use Rattle.word_faults.specs.Hints as spec;
 ghost use Rattle.word_faults.specs.KnownWords.{meant_words, word_of};
 ghost use Rattle.word_faults.specs.OptionRows.{view};

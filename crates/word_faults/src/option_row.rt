@@ -3,11 +3,11 @@ ghost use Rattle.std.specs.Prelude.{◌≡◌, IfOk, find, map, option_map};
 ghost use Rattle.std.specs.Str.{bytes_eq};
 ghost use Rattle.word_faults.specs.OptionRows as spec;
 
+use crate::job_values::{base_of, declare_by_of, start_of};
+use crate::lists::{buffer_sizes, number_list};
+use crate::name_lists::{name_list, network_in};
+use crate::scaled::{Scale, scaled_in};
 use devices::number_in;
-use option_lists::{
-    Scale, base_of, buffer_list, declare_by_of, name_list, network_in, number_list, scaled_in,
-    start_of,
-};
 use pes_packet::is_unit_id;
 use std::alloc::{AllocError, Global};
 
@@ -161,7 +161,7 @@ pub(crate) fn is_value(alloc: Global, kind: ValueKind, text: &str) -> Result<boo
             ..
         } => Ok(scaled_in(text, scale, least, greatest).is_some()),
         ValueKind::Numbers { greatest } => Ok(number_list(alloc, greatest, Some(text))?.is_some()),
-        ValueKind::Buffers => Ok(buffer_list(alloc, Some(text))?.is_some()),
+        ValueKind::Buffers => Ok(buffer_sizes(alloc, Some(text))?.is_some()),
         ValueKind::StreamId => Ok(is_id(text)),
         ValueKind::Moment => Ok(start_of(Some(text)).is_some()),
         ValueKind::Declare => Ok(declare_by_of(Some(text)).is_some()),

@@ -7,11 +7,12 @@ ghost use Rattle.devices.specs.Options.{number_option};
 ghost use Rattle.word_faults.specs.GivenOptions as spec;
 ghost use Rattle.word_faults.specs.OptionRows.{view};
 
+use crate::lists::number_list;
 use crate::option_row::{OptionRow, ValueKind, kind_named};
+use crate::scaled::{Scale, scaled_in};
 use clap::error::ErrorKind;
 use clap::{Arg, ArgMatches, Command, Error};
 use devices::{flag, number_given, number_in, option, text_of};
-use option_lists::{Scale, number_list, scaled_in};
 use std::alloc::{AllocError, Global};
 
 // Returns a command line with the option of one more row.

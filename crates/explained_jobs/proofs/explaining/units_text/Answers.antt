@@ -1,4 +1,4 @@
-use Rattle.tsmux_cli.specs.MuxJobs.{mux_job_of}
+use Rattle.checked_jobs.specs.MuxJobs.{mux_job_of}
 use Rattle.explained_jobs.proofs.Explained.{error_said, fault_said}
 use Rattle.explained_jobs.proofs.explaining.units_text.Goals as goal
 

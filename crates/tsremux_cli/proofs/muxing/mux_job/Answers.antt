@@ -1,7 +1,7 @@
 use Rattle.std.proofs.Common.{refl}
-use Rattle.tsmux_cli.specs.Multiplexing.{Muxes}
-use Rattle.tsmux_cli.specs.MuxJobs.{mux_fault_line, mux_fault_view, mux_job_view}
-use Rattle.tsmux_cli.proofs.MuxOutcomes.{failed, not_read}
+use Rattle.checked_jobs.specs.Multiplexing.{Muxes}
+use Rattle.checked_jobs.specs.MuxJobs.{mux_fault_line, mux_fault_view, mux_job_view}
+use Rattle.checked_jobs.proofs.MuxOutcomes.{failed, not_read}
 use Rattle.devices.proofs.Performances.{no_room, reported_only, unread}
 use Rattle.tsremux_cli.specs.Muxing.{plain}
 use Rattle.tsremux_cli.proofs.muxing.mux_job.Goals as goal

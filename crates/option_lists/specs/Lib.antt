@@ -1,4 +1,0 @@
-pub mod Lists
-pub mod NameLists
-pub mod JobValues
-pub mod Scaled

@@ -1,0 +1,21 @@
+use Rattle.std.proofs.Common.{◌∙◌, sym}
+use Rattle.word_faults.specs.Lists.{colon_parts}
+use Rattle.word_faults.specs.NameLists.{name_of}
+use Rattle.word_faults.proofs.AllOf.{all_taken, missing, more}
+use Rattle.word_faults.proofs.name_lists.all_names.Goals as goal
+
+pub returns-in-None : goal.returns-in-None
+returns-in-None c =
+    missing (λ text. name_of (colon_parts text)) (λ s. s.now) c.loop-part.all.items c.args.parts.now c.loop-part.part-index _ _ c.loop-part-test.true
+    (sym c.in_ok-name.ensures ∙ c.in-None.is) c.loop-part.invariant
+
+pub loop-part-preserved : goal.loop-part-preserved
+loop-part-preserved c =
+    rw c.in_ok-push-in-Some.ensures.items
+    (more (λ text. name_of (colon_parts text)) (λ s. s.now) c.loop-part.all.items c.args.parts.now c.loop-part.part-index _ c.in-Some.name _
+    c.loop-part-test.true
+    (sym c.in_ok-name.ensures ∙ c.in-Some.is) c.loop-part.invariant)
+
+pub returns : goal.returns
+returns c = all_taken (λ text. name_of (colon_parts text)) (λ s. s.now) c.loop-part.all.items c.args.parts.now c.loop-part.part-index _ c.loop-part-test.false
+    c.loop-part.invariant

@@ -1,0 +1,53 @@
+-- Options that are lists: their parts have commas between them.
+use Rattle.std.specs.Prelude.{ℕ, ◌==◌, List, [], ◌∷◌, Option, Some, None, map, option_and_then, option_map}
+use Rattle.std.specs.List.{slice_split}
+use Rattle.clap.specs.Words.{Text}
+use Rattle.word_faults.specs.declared.lists.BufferSizes.{BufferSizes}
+use Rattle.devices.specs.Options.{decimal, within}
+
+-- the parts of a text between commas, and between colons
+abbrev pub comma_parts : Text → List Text
+comma_parts text = slice_split (λ b. b == 44) text
+
+abbrev pub colon_parts : Text → List Text
+colon_parts text = slice_split (λ b. b == 58) text
+
+-- a function of a value, if there is one
+abbrev pub given : {A B : Type 0} → Option A → (A → Option B) → Option B
+given value f = option_and_then f value
+
+-- all values; none if any value is none
+unfoldable pub all_of : {T : Type 0} → List (Option T) → Option (List T)
+all_of [] = Some []
+all_of (None ∷ values) = None
+all_of (Some x ∷ values) = option_map (λ xs. x ∷ xs) (all_of values)
+
+-- a number of decimal digits in its range
+abbrev pub number_in : ℕ → ℕ → Text → Option ℕ
+number_in low high text = option_and_then (within low high) (decimal text)
+
+-- numbers up to `most`
+abbrev pub numbers_of : ℕ → List Text → Option (List ℕ)
+numbers_of most texts = all_of (map (number_in 0 most) texts)
+
+-- N,..: no numbers if the option is not given
+unfoldable pub number_list : ℕ → Option Text → Option (List ℕ)
+number_list most None = Some []
+number_list most (Some text) = numbers_of most (comma_parts text)
+
+-- PID:RX:MAIN, each in its range
+unfoldable pub sizes_of : List Text → Option BufferSizes
+sizes_of (pid ∷ rx ∷ main ∷ []) =
+    given (number_in 0 8191 pid) (λ p.
+    given (number_in 64000 200000000 rx) (λ r.
+    given (number_in 1 10000000 main) (λ m.
+    Some (record { pid = p; rx = r; main = m }))))
+sizes_of parts = None
+
+abbrev pub all_sizes : List Text → Option (List BufferSizes)
+all_sizes texts = all_of (map (λ text. sizes_of (colon_parts text)) texts)
+
+-- PID:RX:MAIN,..: no sizes if the option is not given
+unfoldable pub buffer_sizes : Option Text → Option (List BufferSizes)
+buffer_sizes None = Some []
+buffer_sizes (Some text) = all_sizes (comma_parts text)
