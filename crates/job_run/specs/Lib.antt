@@ -2,6 +2,7 @@ pub mod JobArguments
 pub mod Streams
 pub mod RecodingLines
 pub mod JumpLines
+pub mod LeftOutCount
 pub mod Outcomes
 pub mod SeveralInputs
 pub mod StreamFiles

@@ -43,6 +43,7 @@ use Rattle.es_records.specs.Records.{records_of, written}
 use Rattle.job_lines.specs.RefusalLine.{refusal_in, refusal_line}
 use Rattle.job_lines.specs.SlipLines.{slip_lines, wrong_line}
 use Rattle.job_run.specs.JumpLines.{any_jump, jump_lines}
+use Rattle.job_run.specs.LeftOutCount.{count_line}
 use Rattle.job_run.specs.RecodingLines.{recodings_text}
 use Rattle.job_run.specs.Streams.{PacketNotesView, findings_for, notes_for}
 use Rattle.job_lines.specs.TableLines.{other_table_lines, reported_tables}
@@ -133,13 +134,14 @@ loss_lines falling slips fields tables warnings = slip_lines slips ++ field_line
 abbrev pub unless_quiet : Bool → List ℕ → List ℕ
 unless_quiet quiet lines = if quiet then [] else lines
 
--- the lines about a stream from which a job takes this input
+-- the lines about a stream from which a job takes this input; the last one counts the elementary streams that are left out
 abbrev pub reported_lines : Reporting → PacketNotesView → List FindingView → JobInputView → List ℕ
 reported_lines r notes findings m =
     unless_quiet r.quiet
-    ((loss_lines notes.falling notes.slips (reported_fields r.all m notes.fields) (reported_tables r.all m (other_tables findings))
+    (((loss_lines notes.falling notes.slips (reported_fields r.all m notes.fields) (reported_tables r.all m (other_tables findings))
     (reported_warnings r m.warnings)
     ++ recodings_text r.all notes.recodings) ++ jump_lines m notes.jumps)
+    ++ count_line m)
 
 -- whether something is lost, or a clock of the job's programs jumps ahead
 abbrev pub reports_loss : Reporting → PacketNotesView → List FindingView → JobInputView → Bool

@@ -14,6 +14,7 @@ ghost use Rattle.job_programs.specs.declared.refusal.JobError.TheVariants.{Memor
 ghost use Rattle.job_inputs.specs.JoinedInputs.{AreStreamsIn, JoinedInputsView};
 ghost use Rattle.job_run.specs.Outcomes as spec;
 ghost use Rattle.job_run.specs.JumpLines.{jump_lines};
+ghost use Rattle.job_run.specs.LeftOutCount.{count_line};
 ghost use Rattle.job_run.specs.RecodingLines.{recodings_text};
 ghost use Rattle.job_run.specs.SeveralInputs.{GivesIn, GivesJobIn};
 ghost use Rattle.job_run.specs.Streams.{IsRead};
@@ -24,6 +25,7 @@ ghost use Rattle.job_inputs.specs.JobInput.{AreStreams};
 use crate::carried_stream::{PacketNotes, ReadStream};
 use crate::job_arguments::{JobArguments, Subcommand};
 use crate::jump_lines::{any_jump, push_jumps};
+use crate::left_out_count::push_count;
 use crate::reading::StreamReading;
 use crate::reason_output::reason_output;
 use crate::recoding_lines::push_recodings;
@@ -186,7 +188,8 @@ fn loss_report(
     Ok(lines)
 }
 
-// Returns the lines about losses, about changes of codings, and about clocks that jump ahead; no line if `quiet`.
+// Returns the lines about losses, about changes of codings, and about clocks that jump ahead, and the count of the
+// streams that are left out; no line if `quiet`.
 fn report_as_asked(
     alloc: Global,
     reporting: Reporting,
@@ -197,8 +200,9 @@ fn report_as_asked(
     warnings: &[Warning],
 ) -> Result<String, AllocError>
     ensures { IfOk result (λ lines. string_bytes lines
-        ≡ spec.unless_quiet reporting.quiet ((spec.loss_lines notes.now.falling notes.now.slips fields.now tables.now
-        warnings.now ++ recodings_text reporting.all notes.now.recodings) ++ jump_lines input.now notes.now.jumps)) }
+        ≡ spec.unless_quiet reporting.quiet (((spec.loss_lines notes.now.falling notes.now.slips fields.now tables.now
+        warnings.now ++ recodings_text reporting.all notes.now.recodings) ++ jump_lines input.now notes.now.jumps)
+        ++ count_line input.now)) }
 {
     if reporting.quiet {
         return Ok(String::new(alloc));
@@ -213,6 +217,7 @@ fn report_as_asked(
     )?;
     push_recodings(reporting.all, &notes.recodings, &mut lines)?;
     push_jumps(input, &notes.jumps, &mut lines)?;
+    push_count(input, &mut lines)?;
     Ok(lines)
 }
 
