@@ -1,6 +1,6 @@
 -- The output of an answer, and the outcome of the input that was read.
 use Rattle.std.proofs.Common.{◌≡◌, ◌∙◌, ◌+◌, ◌++◌, ◌∷◌, ◌/◌, ◌==◌, ◌&&◌, ℕ, suc, Bool, true, false, List, [], length, refl, sym, ap, ap₂, subst, append-nil}
-use Rattle.std.proofs.Common.{Option, Some, None, Result, Ok, Err, IfOk, IsUtf8, All, inl, inr, arith}
+use Rattle.std.proofs.Common.{Option, Some, None, is_some, Result, Ok, Err, IfOk, IsUtf8, All, inl, inr, arith}
 use Rattle.std.specs.List.{AllZip}
 use Rattle.std.proofs.lemmas.Bool.Decides.{nat_tests}
 use Rattle.pes_packet.specs.AccessUnits.{AccessUnit}
@@ -25,24 +25,24 @@ use Rattle.pid_findings.specs.Views.{FindingView}
 use Rattle.devices.specs.Devices.{Device, IsUntouched}
 use Rattle.devices.specs.Outcomes.{halt_line, Outcome, reported}
 use Rattle.devices.specs.Lines.{Reports}
-use Rattle.devices.specs.Runs.{Performs}
-use Rattle.devices.specs.WholeInput.{IsReadAs}
 use Rattle.devices.specs.declared.halt.Halt.TheVariants as halt
 use Rattle.devices.proofs.Performances.{no_room, performed, unwritten}
 use Rattle.job_run.specs.declared.job_arguments.Subcommand.{Subcommand}
 use Rattle.job_run.specs.declared.job_arguments.Subcommand.TheVariants.{Whole, Describe, Units, Why}
 use Rattle.job_run.specs.JobArguments.{JobArgumentsView}
 use Rattle.packet_sync.specs.Slips.{carried}
-use Rattle.packet_sync.specs.WrongPackets.{wrong_packets}
+use Rattle.packet_sync.specs.WrongPackets.{searched, wrong_packets}
 use Rattle.packet_sync.specs.declared.packet_search.WrongPackets.{WrongPackets}
 use Rattle.job_lines.specs.SlipLines.{wrong_line}
 use Rattle.job_run.specs.Outcomes.{BytesLead, FindingsLead, Gives, GivesJob, GivesReasons, GivesUnits, IsFound, IsReasonOutput, IsWritten, Leads, InputLeads}
-use Rattle.job_run.specs.Outcomes.{ReportsRefusal, ReportsWhy, Withholds, found_line}
+use Rattle.job_run.specs.Outcomes.{LeadsWhole, PerformsJob, ReportsRefusal, ReportsWhy, Withholds, found_line}
 use Rattle.std.specs.Int.{bytes_high_first}
 use Rattle.unit_records.specs.Records.{private_bytes, private_size, record_head, word_of}
 use Rattle.es_records.specs.Records.{records_of, written}
 use Rattle.job_run.specs.SeveralInputs.{GivesJobIn}
-use Rattle.job_run.specs.Streams.{IsOfStream, IsRead, PacketNotesView, ReadingView, asked_findings, findings_by, findings_for, notes_by, notes_for}
+use Rattle.job_run.specs.Streams.{IsOfStream, IsRead, PacketNotesView, ReadingView, ReadsStream, asked_findings, findings_by, findings_for, notes_by}
+use Rattle.job_run.specs.Streams.{notes_for}
+use Rattle.job_run.proofs.Readings.{wrong_stays}
 use Rattle.job_programs.specs.FoundUnits.{FitsQueue}
 
 -- 1. The output of a subcommand
@@ -234,15 +234,32 @@ pub wrong_lead : (arguments : JobArgumentsView) (bytes : List ℕ) (wrong : Wron
     o ≡ reported (wrong_line wrong) → Leads arguments bytes o
 wrong_lead arguments bytes wrong o e l = subst (λ (x : Option WrongPackets). BytesLead arguments bytes x o) e l
 
-pub outcome_written : (arguments : JobArgumentsView) (r : ReadingView) (o : Outcome) (input output faults : Device) (status : ℕ) →
-    IsReadAs input (λ bytes. IsRead bytes r) →
-    ((bytes : List ℕ) → IsRead bytes r → Leads arguments bytes o) → IsWritten o output faults status → Performs (Leads arguments) input output faults status
-outcome_written arguments r o input output faults status s l (inl w) =
-    performed (Leads arguments) s.bytes o input output faults status s.read (l s.bytes s.is) w.0 w.1 w.2 w.3
-outcome_written arguments r o input output faults status s l (inr w) =
-    unwritten (Leads arguments) s.bytes o input output faults status s.read (l s.bytes s.is) w.0 w.1 w.2 w.3
+-- The first 4 MiB show that bytes are no stream, whatever bytes follow.
+leads_on : (arguments : JobArgumentsView) (front more : List ℕ) (w : Option WrongPackets) (o : Outcome) → length front ≡ searched →
+    wrong_packets front ≡ w → is_some w ≡ true → BytesLead arguments front w o → Leads arguments (front ++ more) o
+leads_on arguments front more None o size e some l = absurd cc
+leads_on arguments front more (Some wrong) o size e some l =
+    subst (λ (x : Option WrongPackets). BytesLead arguments (front ++ more) x o) (sym (wrong_stays front more size ∙ e)) l
 
-pub no_memory_left : (arguments : JobArgumentsView) (r : ReadingView) (input output faults : Device) (status : ℕ) →
-    IsReadAs input (λ bytes. IsRead bytes r) → IsUntouched output → Reports faults (halt_line halt.Memory) → status ≡ 3 →
-    Performs (Leads arguments) input output faults status
-no_memory_left arguments r input output faults status s u m e = no_room (Leads arguments) s.bytes input output faults status s.read u m e
+pub outcome_written : (arguments : JobArgumentsView) (r : ReadingView) (o : Outcome) (input output faults : Device) (status : ℕ) → ReadsStream input (Ok r) →
+    ((bytes : List ℕ) → IsRead bytes r → Leads arguments bytes o) → IsWritten o output faults status → PerformsJob arguments input output faults status
+outcome_written arguments r o input output faults status (inl s) l (inl w) =
+    inl (performed (LeadsWhole arguments) s.bytes o input output faults status s.read (l s.bytes s.is.0, s.is.1) w.0 w.1 w.2 w.3)
+outcome_written arguments r o input output faults status (inl s) l (inr w) =
+    inl (unwritten (LeadsWhole arguments) s.bytes o input output faults status s.read (l s.bytes s.is.0, s.is.1) w.0 w.1 w.2 w.3)
+outcome_written arguments r o input output faults status (inr f) l w = inr (record {
+  front = f.front;
+  size_is = f.has.size_is;
+  read = f.has.read;
+  clean = f.has.clean;
+  outcome = o;
+  leads = λ more. leads_on arguments f.front more (wrong_packets f.front) o f.has.size_is refl f.wrong (l f.front f.has.is);
+  written = w;
+})
+
+pub no_memory_left : (arguments : JobArgumentsView) (r : ReadingView) (input output faults : Device) (status : ℕ) → ReadsStream input (Ok r) →
+    IsUntouched output → Reports faults (halt_line halt.Memory) → status ≡ 3 → PerformsJob arguments input output faults status
+no_memory_left arguments r input output faults status (inl s) u m e =
+    inl (no_room (LeadsWhole arguments) s.bytes input output faults status s.read u m e)
+no_memory_left arguments r input output faults status (inr f) u m e =
+    inl (inr (inr (inl (record { clean = f.has.clean; unwritten = u; reports = m; status_is = e }))))

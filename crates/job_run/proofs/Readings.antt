@@ -1,8 +1,21 @@
--- A stream that is being read: whether it is refused.
-use Rattle.std.proofs.Common.{◌≡◌, Bool, true, false, List, [], ◌++◌, ℕ, refl, sym, ap, subst, ◌∙◌, append_assoc, append-nil, Option, None, is_some}
+-- A stream that is being read: whether it is refused, and how much of it is read.
+use Rattle.std.proofs.Common.{◌≡◌, ◌≤◌, ◌<◌, ◌==◌, ◌&&◌, Bool, true, false, not, nat_le, List, [], ◌++◌, ℕ, ◌+◌, length, take, drop, min, refl, sym, ap, ap₂}
+use Rattle.std.proofs.Common.{subst, ◌∙◌, append_assoc, append-nil, length-append, Option, Some, None, is_some, Result, Ok, Err, inl, inr}
+use Rattle.std.proofs.Common.{arith, eq-eqb, eqb-true}
+use Rattle.std.proofs.lemmas.List.{length-take-le, take-append-drop, take-append-le}
+use Rattle.std.specs.Io.KnownBytes.{Consumes}
+use Rattle.counted_io.specs.Device.{Failed, IsFront}
+use Rattle.devices.specs.Devices.{Port, between}
+use Rattle.devices.specs.WholeInput as rooms
+use Rattle.devices.specs.WholeInput.{IsLong, IsShort, IsWhole, ReadsInput, TakesAll, longest_input}
+use Rattle.devices.specs.declared.halt.Halt.{Halt}
+use Rattle.devices.specs.declared.halt.Halt.TheVariants.{Read, Write, Memory}
+use Rattle.devices.proofs.TakenInput.{front_end, front_none}
 use Rattle.packet_sync.specs.PacketSearch.{IsSearched, SearchView}
-use Rattle.packet_sync.specs.WrongPackets.{wrong_packets}
-use Rattle.job_run.specs.Streams.{CarriedView, IsCarriedTo, IsRead, ReadingView}
+use Rattle.packet_sync.specs.WrongPackets.{has_five, searched, wrong_by, wrong_packets}
+use Rattle.packet_sync.specs.declared.packet_search.WrongPackets.{WrongPackets}
+use Rattle.packet_sync.proofs.FrontBytes.{other_front}
+use Rattle.job_run.specs.Streams.{CarriedView, HasFront, HasPackets, IsCarriedTo, IsRead, ReadingView, ReadsFront, ReadsStream, TakesFront}
 
 -- 1. More bytes
 
@@ -44,3 +57,140 @@ unrefused_by bytes r so none true t =
 
 pub unrefused : (bytes : List ℕ) (r : ReadingView) → IsRead bytes r → wrong_packets bytes ≡ None → r.refused ≡ false
 unrefused bytes r so none = unrefused_by bytes r so none r.refused refl
+
+-- 3. More bytes after the first ones
+
+any_more : (limit : ℕ) (bytes more : List ℕ) → limit ≤ length bytes →
+    (nat_le limit (length (bytes ++ more)) && not (has_five (take limit (bytes ++ more)))) ≡ (nat_le limit (length bytes) && not (has_five (take limit bytes)))
+any_more limit bytes more long =
+    let longer : limit ≤ length (bytes ++ more) = omega (arith, long, length-append bytes more) in
+    let some : nat_le limit (length bytes) ≡ true = search (arith, long) in
+    let all : nat_le limit (length (bytes ++ more)) ≡ true = search (arith, longer) in
+    ap₂ (λ (x y : Bool). x && y) (all ∙ sym some) (ap (λ (r : List ℕ). not (has_five r)) (take-append-le limit bytes more long))
+
+-- The first 4 MiB determine whether bytes are no stream of packets of 188 bytes.
+pub wrong_stays : (front more : List ℕ) → length front ≡ searched → wrong_packets (front ++ more) ≡ wrong_packets front
+wrong_stays front more size =
+    ap₂ wrong_by (sym (other_front front more (omega (arith, size)))) (any_more 4194304 front more (omega (arith, size)))
+
+-- 4. The first 4 MiB of an input
+
+consumed : (old new : Option (List ℕ)) (piece : List ℕ) (n : ℕ) →
+    ((xs : List ℕ) → old ≡ Some xs → (n ≡ min (length piece) (length xs)) × IsFront xs new piece n) → Consumes old new (take n piece)
+consumed None new piece n known = tt
+consumed (Some xs) new piece n known =
+    let k = (known xs refl).1 in
+    subst (λ (x : Option (List ℕ)). Consumes (Some xs) x (take n piece)) (sym k.rest)
+    (sym (take-append-drop n xs) ∙ ap (λ (x : List ℕ). x ++ drop n xs) (sym k.front))
+
+-- They were read.
+front_of : (old new : Port) (piece : List ℕ) (n : ℕ) (r : ReadingView) → n ≡ searched → rooms.ReadsFront (between old new) piece n →
+    IsRead (take n piece) r → HasFront (between old new) (take n piece) r
+front_of old new piece n r size f is = record {
+  size_is = length-take-le n piece f.fits ∙ size;
+  read = consumed old.bytes new.bytes piece n f.known;
+  clean = f.clean;
+  is = is;
+}
+
+-- The input ended before.
+short_of : (old new : Port) (piece : List ℕ) (n : ℕ) (r : ReadingView) → n < searched → length piece ≡ searched → rooms.ReadsFront (between old new) piece n →
+    IsRead (take n piece) r → ReadsStream (between old new) (Ok r)
+short_of old new piece n r few room f is =
+    let size : length (take n piece) ≡ n = length-take-le n piece f.fits in
+    let all = front_end (λ bytes. bytes ≡ []) (λ bytes. IsRead bytes r × HasPackets bytes) 1 old old new 0 n piece (Ok n)
+    (front_none (λ bytes. bytes ≡ []) 1 old refl) f
+    (λ bytes whole none. subst (λ (x : List ℕ). IsRead (x ++ take n piece) r × HasPackets (x ++ take n piece)) (sym none)
+    (is, λ long. absurd (let no : ⊥ = omega (arith, long, size, few) in no)))
+    (omega (arith, few, room)) (refl, omega (arith, few)) tt in
+    inl (record { bytes = all.bytes; read = all.read; is = all.taken })
+
+taken_by : (old new : Port) (piece : List ℕ) (n : ℕ) (r : ReadingView) (result : Bool) (w : Option WrongPackets) (b : Bool) → length piece ≡ searched →
+    rooms.ReadsFront (between old new) piece n → IsRead (take n piece) r → wrong_packets (take n piece) ≡ w → (n == searched) ≡ b →
+    result ≡ (b && not (is_some w)) → TakesFront (between old new) r (Ok result)
+taken_by old new piece n r result w false room f is e at same =
+    subst (λ (x : Bool). TakesFront (between old new) r (Ok x)) (sym same)
+    (let fits : n ≤ length piece = f.fits in
+    let other : n ≡ searched → ⊥ = λ x. let no : false ≡ true = sym at ∙ eq-eqb n searched x in absurd cc in
+    short_of old new piece n r (omega (arith, fits, room, other)) room f is)
+taken_by old new piece n r result None true room f is e at same =
+    subst (λ (x : Bool). TakesFront (between old new) r (Ok x)) (sym same) (take n piece, front_of old new piece n r (eqb-true n searched at) f is, e)
+taken_by old new piece n r result (Some w) true room f is e at same =
+    subst (λ (x : Bool). TakesFront (between old new) r (Ok x)) (sym same)
+    (inr (record { front = take n piece; has = front_of old new piece n r (eqb-true n searched at) f is; wrong = ap is_some e }))
+
+pub front_taken : (old new : Port) (piece : List ℕ) (n : ℕ) (r : ReadingView) (result : Bool) → length piece ≡ searched →
+    rooms.ReadsFront (between old new) piece n → IsRead (take n piece) r → result ≡ (n == searched && not (is_some (wrong_packets (take n piece)))) →
+    TakesFront (between old new) r (Ok result)
+front_taken old new piece n r result room f is same =
+    taken_by old new piece n r result (wrong_packets (take n piece)) (n == searched) room f is refl refl same
+
+-- 5. The bytes after them
+
+whole_of : (old mid : Option (List ℕ)) (front rest : List ℕ) → Consumes old mid front → IsWhole mid rest → IsWhole old (front ++ rest)
+whole_of None mid front rest c w = tt
+whole_of (Some xs) None front rest c w = absurd c
+whole_of (Some xs) (Some ys) front rest c w = ap (λ (x : List ℕ). front ++ x) w ∙ sym c
+
+short_all : (old mid : Option (List ℕ)) (front rest : List ℕ) → length (front ++ rest) ≤ longest_input → Consumes old mid front → IsWhole mid rest →
+    IsShort old
+short_all None mid front rest s c w = tt
+short_all (Some xs) None front rest s c w = absurd c
+short_all (Some xs) (Some ys) front rest s c w =
+    subst (λ (x : List ℕ). length x ≤ longest_input) (whole_of (Some xs) (Some ys) front rest c w) s
+
+ends_all : (old mid new : Option (List ℕ)) (front : List ℕ) → Consumes old mid front → ((ys : List ℕ) → mid ≡ Some ys → new ≡ Some []) → (xs : List ℕ) →
+    old ≡ Some xs → new ≡ Some []
+ends_all None mid new front c ends xs e = absurd cc
+ends_all (Some xs) None new front c ends zs e = absurd c
+ends_all (Some xs) (Some ys) new front c ends zs e = ends ys refl
+
+long_all : (old mid : Option (List ℕ)) (front : List ℕ) → Consumes old mid front → IsLong mid → IsLong old
+long_all None mid front c l = tt
+long_all (Some xs) None front c l = absurd c
+long_all (Some xs) (Some ys) front c l =
+    let all : length xs ≡ length front + length ys = ap length c ∙ length-append front ys in omega (arith, all, l)
+
+long_sum : (old mid : Option (List ℕ)) (front rest : List ℕ) → longest_input < length front + length rest → Consumes old mid front → IsWhole mid rest →
+    IsLong old
+long_sum None mid front rest l c w = tt
+long_sum (Some xs) None front rest l c w = absurd c
+long_sum (Some xs) (Some ys) front rest l c w =
+    let all : length xs ≡ length front + length ys = ap length c ∙ length-append front ys in
+    let same : length rest ≡ length ys = ap length w in
+    omega (arith, all, same, l)
+
+later_failed : (a b c : ℕ) → b ≡ a → Failed b c → Failed a c
+later_failed a b c e f = subst (λ (n : ℕ). Failed n c) e f
+
+pub rest_taken : (old mid new : Port) (front : List ℕ) (s r : ReadingView) (size : ℕ) → HasFront (between old mid) front s → wrong_packets front ≡ None →
+    TakesAll (λ bytes. (before : List ℕ) → IsRead before s → IsRead (before ++ bytes) r) (between mid new) size → 4194304 + size ≤ longest_input →
+    ReadsStream (between old new) (Ok r)
+rest_taken old mid new front s r size has none all within =
+    let many : length (front ++ all.bytes) ≡ length front + length all.bytes = length-append front all.bytes in
+    inl (record {
+      bytes = front ++ all.bytes;
+      read = (
+        whole_of old.bytes mid.bytes front all.bytes has.read all.read.0,
+        record {
+          short = short_all old.bytes mid.bytes front all.bytes (omega (arith, many, has.size_is, all.size_is, within)) has.read all.read.0;
+          ends = λ xs known. ends_all old.bytes mid.bytes new.bytes front has.read all.read.1.ends xs known;
+          clean = all.read.1.clean ∙ has.clean;
+        },
+      );
+      is = (all.taken front has.is, λ long. wrong_stays front all.bytes has.size_is ∙ none);
+    })
+
+pub rest_failed : (old mid new : Port) (front : List ℕ) (s : ReadingView) (halt : Halt) → HasFront (between old mid) front s →
+    ReadsInput (between mid new) (Err halt) → ReadsStream (between old new) (Err halt)
+rest_failed old mid new front s Read has (inl failed) = inl (later_failed old.failed mid.failed new.failed has.clean failed)
+rest_failed old mid new front s Read has (inr long) = inr (long_all old.bytes mid.bytes front has.read long)
+rest_failed old mid new front s Write has f = absurd f
+rest_failed old mid new front s Memory has clean = clean ∙ has.clean
+
+pub rest_long : (old mid new : Port) (front : List ℕ) (s r : ReadingView) (size : ℕ) (halt : Halt) → HasFront (between old mid) front s →
+    TakesAll (λ bytes. (before : List ℕ) → IsRead before s → IsRead (before ++ bytes) r) (between mid new) size →
+    (halt ≡ Read) × (longest_input < 4194304 + size) → ReadsStream (between old new) (Err halt)
+rest_long old mid new front s r size halt has all long =
+    subst (λ (x : Halt). ReadsStream (between old new) (Err x)) (sym long.0)
+    (inr (long_sum old.bytes mid.bytes front all.bytes (omega (arith, long.1, has.size_is, all.size_is)) has.read all.read.0))

@@ -6,22 +6,23 @@ use Rattle.std.proofs.Common.{add-one, drop}
 use Rattle.std.proofs.Math.Seq.{drop-cons}
 use Rattle.std.proofs.lemmas.List.{drop_all, take_all, take_more}
 use Rattle.std.specs.Borrow.{Bor}
+use Rattle.std.specs.Io.KnownBytes.{Consumes}
 use Rattle.std.specs.Prelude.{IfOk}
 use Rattle.std.proofs.lemmas.List.{length-map}
 use Rattle.std.proofs.lemmas.List.Elements.{All-cons, All-head, All-nil, All-tail}
 use Rattle.std.proofs.lemmas.Option.{same_Some, slice_get-get_or, slice_get_within}
-use Rattle.std.specs.Prelude.{is_ok}
+use Rattle.std.specs.Prelude.{is_ok, is_some}
 use Rattle.std.specs.List.{AllZip, list_any}
 use Rattle.pid_findings.specs.Views.{FindingView}
 use Rattle.devices.specs.Devices.{Device, HasFailed}
 use Rattle.devices.specs.Files.{Files, IsOpened}
 use Rattle.devices.specs.Outcomes.{Outcome, reported}
-use Rattle.devices.specs.WholeInput.{IsReadAs, IsWhole, ReadsInput}
+use Rattle.devices.specs.WholeInput.{IsWhole, ReadsInput}
 use Rattle.devices.specs.declared.halt.Halt.{Halt}
 use Rattle.devices.specs.declared.halt.Halt.TheVariants as Halted
 use Rattle.devices.proofs.NamedReaders.{is_unread}
 use Rattle.packet_sync.specs.Slips.{carried}
-use Rattle.packet_sync.specs.WrongPackets.{wrong_packets}
+use Rattle.packet_sync.specs.WrongPackets.{searched, wrong_packets}
 use Rattle.packet_sync.specs.declared.packet_search.WrongPackets.{WrongPackets}
 use Rattle.job_lines.specs.InputLines.{are_lost, input_line, name_of, note_lines}
 use Rattle.job_lines.specs.RefusalLine.{refusal_in}
@@ -37,13 +38,14 @@ use Rattle.job_programs.specs.declared.refusal.JobError.{JobError}
 use Rattle.job_programs.specs.declared.refusal.JobError.TheVariants.{Memory, Refused}
 use Rattle.job_programs.specs.declared.refusal.JobRefusal.{JobRefusal}
 use Rattle.job_inputs.proofs.JoinedStreams.{joined_found}
+use Rattle.job_run.proofs.Readings.{wrong_stays}
 use Rattle.job_run.specs.JobArguments.{JobArgumentsView}
 use Rattle.job_run.specs.Outcomes.{ReportsRefusal, ReportsWhy, Withholds, reports_loss, status_of, reported_lines, unless_quiet}
 use Rattle.job_run.specs.SeveralInputs.{GivesIn, InputsLead, JoinedLead, NamedStream, all_findings, all_joined, are_streams_less, input_or_line, names_of}
 use Rattle.job_run.specs.SeveralInputs.{packets_input, stream_input, stream_inputs, streams_lines, under, with_first}
 use Rattle.job_run.specs.StreamFiles.{AreNamedInputs, AreTaken, EndsAt, FilesLead, HasRead, IsInput, IsInputIn, IsInputOf, IsLedTo, IsNamedInput, IsRefusalOf}
 use Rattle.job_run.specs.StreamFiles.{IsTakenFrom, IsTakenOf, JoinedLeads, TakenLead, TakenView, read_line, stopped_by, taken_lines, headed_outcome}
-use Rattle.job_run.specs.Streams.{IsOfStream, IsRead, PacketNotesView, ReadingView, asked_findings, findings_by, findings_for, notes_by, notes_for}
+use Rattle.job_run.specs.Streams.{IsOfStream, IsRead, PacketNotesView, ReadingView, ReadsStream, asked_findings, findings_by, findings_for, notes_by, notes_for}
 
 -- 1. One stream
 
@@ -128,21 +130,48 @@ wrong_is_input a bytes wrong o is outcome_is = record {
   is = outcome_is;
 }
 
+-- More bytes after the first 4 MiB, which show that they are no stream
+still_input : (a : JobArgumentsView) (front more : List ℕ) (w : Option WrongPackets) (x : Result TakenView Outcome) → length front ≡ searched →
+    wrong_packets front ≡ w → is_some w ≡ true → IsInput a front x → IsInput a (front ++ more) x
+unfolding packets_input
+still_input a front more None x size e some is = absurd cc
+still_input a front more (Some wrong) (Ok t) size e some is =
+    let no : false ≡ true = ap (λ (r : Result JobInputView (List ℕ)). is_ok r) (sym (ap (packets_input a.options front) e) ∙ is.input_is) in absurd cc
+still_input a front more (Some wrong) (Err o) size e some is = record {
+  line = is.line;
+  refused = ap (packets_input a.options (front ++ more)) (wrong_stays front more size ∙ e) ∙ sym (ap (packets_input a.options front) e) ∙ is.refused;
+  is = is.is;
+}
+
 -- 2. The file with a name
+
+-- The bytes of a file, of which these are the first ones
+record Lengthened (known : Option (List ℕ)) (front : List ℕ) : Type 0 where
+  pub bytes : List ℕ
+  pub whole : IsWhole known bytes
+  pub more : List ℕ
+  pub bytes_are : front ++ more ≡ bytes
+
+lengthened : (known left : Option (List ℕ)) (front : List ℕ) → Consumes known left front → Lengthened known front
+lengthened None left front c = record { bytes = front; whole = tt; more = []; bytes_are = append-nil front }
+lengthened (Some xs) None front c = absurd c
+lengthened (Some xs) (Some ys) front c = record { bytes = xs; whole = refl; more = ys; bytes_are = sym c }
+
+named_of : (a : JobArgumentsView) (files : Files) (name : List ℕ) (bytes : List ℕ) (x : Result TakenView Outcome) → IsOpened files name →
+    IsWhole (files.contents name) bytes → IsInput a bytes x → IsNamedInput a files name x
+named_of a files name bytes (Ok t) opened whole is = record { opened = opened; bytes = bytes; whole = whole; is = is }
+named_of a files name bytes (Err o) opened whole is = inr (record { opened = opened; bytes = bytes; whole = whole; is = is })
 
 pub named_read : (a : JobArgumentsView) (files : Files) (name : List ℕ) (input : Device) (r : ReadingView) (x : Result TakenView Outcome) →
     IsOpened files name → input.before.bytes ≡ files.contents name →
-    IsReadAs input (λ bytes. IsRead bytes r) → ((bytes : List ℕ) → IsRead bytes r → IsInput a bytes x) → IsNamedInput a files name x
-named_read a files name input r (Ok t) opened same read of =
-    record { opened = opened; bytes = read.bytes; whole = subst (λ (k : Option (List ℕ)). IsWhole k read.bytes) same read.read.0; is = of read.bytes read.is }
-named_read a files name input r (Err o) opened same read of =
-    inr (record {
-      opened = opened;
-      bytes = read.bytes;
-      whole = subst (λ (k : Option (List ℕ)). IsWhole k read.bytes) same read.read.0;
-      is =
-          of read.bytes read.is;
-    })
+    ReadsStream input (Ok r) → ((bytes : List ℕ) → IsRead bytes r → IsInput a bytes x) → IsNamedInput a files name x
+named_read a files name input r x opened same (inl read) of =
+    named_of a files name read.bytes x opened (subst (λ (k : Option (List ℕ)). IsWhole k read.bytes) same read.read.0) (of read.bytes read.is.0)
+named_read a files name input r x opened same (inr f) of =
+    let l = lengthened input.before.bytes input.after.bytes f.front f.has.read in
+    named_of a files name l.bytes x opened (subst (λ (k : Option (List ℕ)). IsWhole k l.bytes) same l.whole)
+    (subst (λ (b : List ℕ). IsInput a b x) l.bytes_are
+    (still_input a f.front l.more (wrong_packets f.front) x f.has.size_is refl f.wrong (of f.front f.has.is)))
 
 -- The file can't be read to its end.
 pub named_unread : (a : JobArgumentsView) (files : Files) (name : List ℕ) (input : Device) (halt : Halt) (o : Outcome) → IsOpened files name →
@@ -436,7 +465,7 @@ ends_lead a files names o e = ended a files names o e e.is
 
 pub named_answer : {E : Type 0} (a : JobArgumentsView) (files : Files) (name : List ℕ) (input : Device) (r : ReadingView)
     (x : Result (Result TakenView Outcome) E) → IsOpened files name →
-    input.before.bytes ≡ files.contents name → IsReadAs input (λ bytes. IsRead bytes r) → ((bytes : List ℕ) → IsRead bytes r → IfOk x (IsInput a bytes)) →
+    input.before.bytes ≡ files.contents name → ReadsStream input (Ok r) → ((bytes : List ℕ) → IsRead bytes r → IfOk x (IsInput a bytes)) →
     IfOk x (IsNamedInput a files name)
 named_answer a files name input r (Ok y) opened same read of = named_read a files name input r y opened same read of
 named_answer a files name input r (Err e) opened same read of = tt

@@ -3,6 +3,7 @@ use Rattle.std.specs.Prelude.{◌≡◌, ◌⊎◌, ℕ, ◌/◌, ◌==◌, ◌|
 use Rattle.std.specs.Prelude.{None, Result, Ok, Err}
 use Rattle.std.specs.List.{list_any}
 use Rattle.std.specs.Str.{IsUtf8}
+use Rattle.std.specs.Io.KnownBytes.{Consumes}
 use Rattle.pes_packet.specs.AccessUnits.{AccessUnit}
 use Rattle.pid_findings.specs.Views.{FindingView}
 use Rattle.description_parts.specs.Described.{Described}
@@ -19,7 +20,7 @@ use Rattle.other_tables.specs.declared.tables.OtherTable.{OtherTable}
 use Rattle.packet_sync.specs.Fields.{is_loss as is_field_loss}
 use Rattle.packet_sync.specs.Slips.{carried}
 use Rattle.packet_sync.specs.declared.left_out.FieldLeftOut.{FieldLeftOut}
-use Rattle.packet_sync.specs.WrongPackets.{wrong_packets}
+use Rattle.packet_sync.specs.WrongPackets.{searched, wrong_packets}
 use Rattle.packet_sync.specs.declared.packet_search.WrongPackets.{WrongPackets}
 use Rattle.packet_sync.specs.declared.slip.Slip.{Slip}
 use Rattle.job_programs.specs.Warnings.{are_damaged}
@@ -33,6 +34,7 @@ use Rattle.job_programs.specs.declared.refusal.JobRefusal.{JobRefusal}
 use Rattle.devices.specs.Devices.{Device, HasFailed, IsClean, Takes}
 use Rattle.devices.specs.Outcomes.{halt_line, Outcome, reported}
 use Rattle.devices.specs.Lines.{Reports, Stopped}
+use Rattle.devices.specs.Runs.{Performs}
 use Rattle.devices.specs.declared.halt.Halt.TheVariants.{Write}
 use Rattle.job_lines.specs.declared.reporting.Reporting.{Reporting}
 use Rattle.job_run.specs.declared.job_arguments.Subcommand.{Subcommand}
@@ -45,7 +47,7 @@ use Rattle.job_lines.specs.SlipLines.{slip_lines, wrong_line}
 use Rattle.job_run.specs.JumpLines.{any_jump, jump_lines}
 use Rattle.job_run.specs.LeftOutCount.{count_line}
 use Rattle.job_run.specs.RecodingLines.{recodings_text}
-use Rattle.job_run.specs.Streams.{PacketNotesView, findings_for, notes_for}
+use Rattle.job_run.specs.Streams.{HasPackets, PacketNotesView, findings_for, notes_for}
 use Rattle.job_lines.specs.TableLines.{other_table_lines, reported_tables}
 use Rattle.job_lines.specs.WarningLines.{reported_warnings, warning_lines}
 
@@ -203,3 +205,23 @@ abbrev pub IsWritten : Outcome → Device → Device → ℕ → Type 0
 IsWritten o output faults status =
     (Takes output o.output × IsClean output × Reports faults o.report × (status ≡ o.status))
     ⊎ (Stopped o.output output × HasFailed output × Reports faults (halt_line Write) × (status ≡ 3))
+
+-- 4. A run over an input
+
+-- the whole input leads to the outcome
+abbrev pub LeadsWhole : JobArgumentsView → List ℕ → Outcome → Type 0
+LeadsWhole arguments bytes o = Leads arguments bytes o × HasPackets bytes
+
+-- its first 4 MiB lead to the outcome, whatever bytes follow, and no more is read
+pub record EndsEarly (arguments : JobArgumentsView) (input output faults : Device) (status : ℕ) : Type 0 where
+  pub front : List ℕ
+  pub size_is : length front ≡ searched
+  pub read : Consumes input.before.bytes input.after.bytes front
+  pub clean : IsClean input
+  pub outcome : Outcome
+  pub leads : (more : List ℕ) → Leads arguments (front ++ more) outcome
+  pub written : IsWritten outcome output faults status
+
+abbrev pub PerformsJob : JobArgumentsView → Device → Device → Device → ℕ → Type 0
+PerformsJob arguments input output faults status =
+    Performs (LeadsWhole arguments) input output faults status ⊎ EndsEarly arguments input output faults status

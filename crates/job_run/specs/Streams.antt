@@ -1,6 +1,7 @@
 -- A transport stream through a demultiplexer, piece by piece.
-use Rattle.std.specs.Prelude.{◌≡◌, ℕ, ◌+◌, ◌&&◌, not, Bool, true, false, List, [], ◌++◌, length, filter, is_some, Result, Ok, Err}
-use Rattle.devices.specs.Devices.{Device}
+use Rattle.std.specs.Prelude.{◌≡◌, ◌⊎◌, ◌≤◌, ℕ, ◌+◌, ◌&&◌, not, Bool, true, false, List, [], ◌++◌, length, filter, is_some, None, Result, Ok, Err}
+use Rattle.std.specs.Io.KnownBytes.{Consumes}
+use Rattle.devices.specs.Devices.{Device, IsClean}
 use Rattle.devices.specs.WholeInput.{IsReadAs, ReadsInput}
 use Rattle.devices.specs.declared.halt.Halt.{Halt}
 use Rattle.pid_findings.specs.Views.{FindingView}
@@ -22,7 +23,7 @@ use Rattle.packet_sync.specs.Notes.{NotesView, SayAlike, no_notes}
 use Rattle.packet_sync.specs.PacketSearch.{IsSearched, SearchView}
 use Rattle.packet_sync.specs.Slips.{carried, slips}
 use Rattle.packet_sync.specs.declared.left_out.FieldLeftOut.{FieldLeftOut}
-use Rattle.packet_sync.specs.WrongPackets.{wrong_packets}
+use Rattle.packet_sync.specs.WrongPackets.{searched, wrong_packets}
 use Rattle.packet_sync.specs.declared.slip.Slip.{Slip}
 use Rattle.job_inputs.specs.AskedMarks.{as_asked}
 use Rattle.job_programs.specs.JobOptions.{JobOptionsView}
@@ -152,7 +153,32 @@ pub record IsRead (bytes : List ℕ) (r : ReadingView) : Type 0 where
   pub settled : r.refused ≡ true → (more : List ℕ) → is_some (wrong_packets (bytes ++ more)) ≡ true
   pub so_far : r.refused ≡ false → IsCarriedTo bytes false r.stream
 
--- the whole input was read; or a call of the reader failed, or the input is too long; or there was no memory for it
+-- 3. A stream that is read
+
+-- the first 4 MiB, if there are so many bytes, do not show that they are no stream of packets of 188 bytes
+abbrev pub HasPackets : List ℕ → Type 0
+HasPackets bytes = searched ≤ length bytes → wrong_packets bytes ≡ None
+
+-- the first 4 MiB of the input were read
+pub record HasFront (input : Device) (front : List ℕ) (r : ReadingView) : Type 0 where
+  pub size_is : length front ≡ searched
+  pub read : Consumes input.before.bytes input.after.bytes front
+  pub clean : IsClean input
+  pub is : IsRead front r
+
+-- they show that it is no stream of packets of 188 bytes: no more is read
+pub record ReadsFront (input : Device) (r : ReadingView) : Type 0 where
+  pub front : List ℕ
+  pub has : HasFront input front r
+  pub wrong : is_some (wrong_packets front) ≡ true
+
+-- otherwise the whole input was read; or a call of the reader failed, or the input is too long; or there was no memory for it
 abbrev pub ReadsStream : Device → Result ReadingView Halt → Type 0
-ReadsStream input (Ok r) = IsReadAs input (λ bytes. IsRead bytes r)
+ReadsStream input (Ok r) = IsReadAs input (λ bytes. IsRead bytes r × HasPackets bytes) ⊎ ReadsFront input r
 ReadsStream input (Err halt) = ReadsInput input (Err halt)
+
+-- whether more is to be read after the first 4 MiB
+abbrev pub TakesFront : Device → ReadingView → Result Bool Halt → Type 0
+TakesFront input r (Ok true) = (front : List ℕ) × (HasFront input front r × (wrong_packets front ≡ None))
+TakesFront input r (Ok false) = ReadsStream input (Ok r)
+TakesFront input r (Err halt) = ReadsStream input (Err halt)

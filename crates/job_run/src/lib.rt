@@ -1,12 +1,12 @@
 //! What `tsjob` makes of a transport stream: a job or a part of it, or why there is none, its lines, and the status.
 //!
-//! `job_arguments` is the request. `reading` takes the bytes of a stream piece by piece, and `carried_stream` puts the
-//! packets in step through a demultiplexer (`specs/Streams`); `outcome` makes the job of its findings, and
-//! `reason_output` says why there is no plan (`specs/Outcomes`). `written` reads a stream, makes its outcome and writes
-//! it to the program's writers. `stream_files` takes streams from named files (`specs/StreamFiles`), and
-//! `files_outcome` makes one job of all of them (`specs/SeveralInputs`). `job_lines` writes the lines, `recoding_lines`
-//! and `jump_lines` the lines about codings and clocks, and `left_out_count` the last; the status is the same whichever
-//! lines are reported (`status_stays`).
+//! `job_arguments` is the request. `reading` takes the bytes of a stream piece by piece (only the first 4 MiB of an
+//! input that has no packets), and `carried_stream` puts the packets in step through a demultiplexer (`specs/Streams`);
+//! `outcome` makes the job of its findings, and `reason_output` says why there is no plan (`specs/Outcomes`). `written`
+//! reads a stream, makes its outcome and writes it to the program's writers. `stream_files` takes streams from named
+//! files (`specs/StreamFiles`), and `files_outcome` makes one job of all of them (`specs/SeveralInputs`). `job_lines`
+//! writes the lines, `recoding_lines` and `jump_lines` the lines about codings and clocks, and `left_out_count` the
+//! last; the status is the same whichever lines are reported (`status_stays`).
 #![tactic(auto)]
 
 mod carried_stream;

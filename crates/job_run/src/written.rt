@@ -1,7 +1,6 @@
 //! Writes an outcome: the output, and then the lines for the second writer.
 
 ghost use Rattle.devices.specs.Devices.{reads, writes};
-ghost use Rattle.devices.specs.Runs.{Performs};
 ghost use Rattle.job_run.specs.Outcomes as spec;
 
 use crate::job_arguments::JobArguments;
@@ -35,7 +34,7 @@ pub fn perform<R: Source, W: Sink, E: Sink>(
     output: &mut W,
     faults: &mut E,
 ) -> u8
-    ensures { Performs (spec.Leads arguments.now) (reads R.Source input.old input.new)
+    ensures { spec.PerformsJob arguments.now (reads R.Source input.old input.new)
         (writes W.Sink output.old output.new) (writes E.Sink faults.old faults.new) result }
 {
     let stream = match read_stream(alloc, input) {

@@ -12,16 +12,15 @@ use Rattle.devices.specs.Files.{Files, IsOpened}
 use Rattle.devices.specs.Lines.{Reports, line_text}
 use Rattle.description_keys.specs.Codes.{fault_code, fault_item}
 use Rattle.description_keys.specs.declared.fault.DescFault.{DescFault}
-use Rattle.devices.specs.Outcomes.{halt_line, Outcome}
+use Rattle.devices.specs.Outcomes.{halt_line}
 use Rattle.devices.specs.WholeInput.{IsWhole, ReadsInput}
 use Rattle.devices.specs.declared.halt.Halt.{Halt}
 use Rattle.devices.specs.declared.halt.Halt.TheVariants as halt
 use Rattle.devices.proofs.NamedReaders.{is_unread}
-use Rattle.devices.specs.Runs.{Performs}
 use Rattle.description_parts.specs.Ranges.{IsInRange}
 use Rattle.job_run.specs.JobArguments.{JobArgumentsView}
 use Rattle.job_programs.specs.JobOptions.{JobOptionsView}
-use Rattle.job_run.specs.Outcomes.{Leads}
+use Rattle.job_run.specs.Outcomes.{PerformsJob}
 use Rattle.tsjob_cli.specs.StreamedUnits.{IsDescriptionIn, IsNamedDescription, StreamsUnits, fed_stream, none_outcome, refused_line, streams_from}
 use Rattle.tsjob_cli.specs.declared.streaming.NoDescription.{NoDescription}
 use Rattle.tsjob_cli.specs.declared.streaming.NoDescription.TheVariants.{Unopened, Stopped, Refused}
@@ -82,10 +81,10 @@ of_none files name input halt.Memory opened same never read = tt
 
 -- 3. The results of the words
 
-pub no_memory_for_words : (Leads : List ℕ → Outcome → Type 0) (input output faults : Device) (status : ℕ) → IsUntouched input → IsUntouched output →
-    Reports faults (halt_line halt.Memory) → status ≡ 3 → Performs Leads input output faults status
-no_memory_for_words Leads input output faults status i o t s =
-    inr (inr (inl (record { clean = ap (λ (p : Port). p.failed) i; unwritten = o; reports = t; status_is = s })))
+pub no_memory_for_words : (a : JobArgumentsView) (input output faults : Device) (status : ℕ) → IsUntouched input → IsUntouched output →
+    Reports faults (halt_line halt.Memory) → status ≡ 3 → PerformsJob a input output faults status
+no_memory_for_words a input output faults status i o t s =
+    inl (inr (inr (inl (record { clean = ap (λ (p : Port). p.failed) i; unwritten = o; reports = t; status_is = s }))))
 
 pub no_memory_for_stream : (w : JobOptionsView) (files : Files) (name : Text) (input output faults : Device) (status : ℕ) → IsUntouched input →
     IsUntouched output → Reports faults (halt_line halt.Memory) → status ≡ 3 →
@@ -98,10 +97,10 @@ same_arguments : (x : Option JobArgumentsView) (a b : JobArgumentsView) → Some
 same_arguments x a b e f = let both : Some a ≡ Some b = e ∙ f in cc
 
 pub job_asked : (x : Option JobArgumentsView) (a b : JobArgumentsView) (input output faults : Device) (status : ℕ) → Some a ≡ x → x ≡ Some b →
-    (a.stream ≡ None → Performs (Leads a) input output faults status) →
-    b.stream ≡ None → Performs (Leads b) input output faults status
+    (a.stream ≡ None → PerformsJob a input output faults status) →
+    b.stream ≡ None → PerformsJob b input output faults status
 job_asked x a b input output faults status e f p =
-    subst (λ (v : JobArgumentsView). v.stream ≡ None → Performs (Leads v) input output faults status) (same_arguments x a b e f) p
+    subst (λ (v : JobArgumentsView). v.stream ≡ None → PerformsJob v input output faults status) (same_arguments x a b e f) p
 
 pub stream_asked : (x : Option JobArgumentsView) (a b : JobArgumentsView) (files : Files) (name : Text) (input output faults : Device) (status : ℕ) →
     Some a ≡ x → x ≡ Some b →

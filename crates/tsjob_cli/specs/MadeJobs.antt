@@ -6,7 +6,7 @@ use Rattle.devices.specs.Devices.{Device}
 use Rattle.devices.specs.Files.{Files}
 use Rattle.devices.specs.Runs.{Performs}
 use Rattle.job_run.specs.JobArguments.{JobArgumentsView}
-use Rattle.job_run.specs.Outcomes.{Leads}
+use Rattle.job_run.specs.Outcomes.{PerformsJob}
 use Rattle.tsjob_cli.specs.Arguments.{arguments_in}
 use Rattle.tsjob_cli.specs.Explaining.{ExplainLeads, is_explain}
 use Rattle.tsjob_cli.specs.FileWords.{file_arguments, file_words}
@@ -17,7 +17,7 @@ use Rattle.tsjob_cli.specs.StreamedUnits.{StreamsUnits}
 -- the effects of the program with these words: each clause of the contract of its `run`
 pub record RunsJob (words : List Text) (files : Files) (input job faults : Device) (status : ℕ) : Type 0 where
   pub explain : is_explain words ≡ true → Performs ExplainLeads input job faults status
-  pub stream : is_explain words ≡ false → (a : JobArgumentsView) → arguments_in words ≡ Some a → a.stream ≡ None → Performs (Leads a) input job faults status
+  pub stream : is_explain words ≡ false → (a : JobArgumentsView) → arguments_in words ≡ Some a → a.stream ≡ None → PerformsJob a input job faults status
   pub units : is_explain words ≡ false → (a : JobArgumentsView) (name : Text) → arguments_in words ≡ Some a → a.stream ≡ Some name →
       StreamsUnits a.options files name input job faults status
   pub files_read : is_explain words ≡ false → (a : JobArgumentsView) → arguments_in words ≡ None → file_arguments words ≡ Some a →

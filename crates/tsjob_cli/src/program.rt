@@ -45,7 +45,7 @@ fn answer<F: NamedFiles, R: Source, W: Sink, E: Sink>(
     output: &mut W,
     faults: &mut E,
 ) -> u8
-    ensures job { arguments.now.stream ≡ None → Performs (spec.Leads arguments.now) (reads R.Source input.old input.new)
+    ensures job { arguments.now.stream ≡ None → spec.PerformsJob arguments.now (reads R.Source input.old input.new)
         (writes W.Sink output.old output.new) (writes E.Sink faults.old faults.new) result }
     ensures stream { (name : Text) → arguments.now.stream ≡ Some name →
         StreamsUnits arguments.now.options (files_of (F.contents_of files.now) (F.opens files.now) F.never_fails) name
@@ -103,7 +103,7 @@ fn run_on_stream<F: NamedFiles, R: Source, W: Sink, E: Sink>(
 ) -> u8
     // A transport stream to what the command line asks for.
     ensures job { (a : JobArgumentsView) → arguments words.now ≡ Some a → a.stream ≡ None →
-        Performs (spec.Leads a) (reads R.Source input.old input.new) (writes W.Sink output.old output.new)
+        spec.PerformsJob a (reads R.Source input.old input.new) (writes W.Sink output.old output.new)
         (writes E.Sink faults.old faults.new) result }
     // A stream that arrives on the input, to the units of the streams of a description in a file.
     ensures stream { (a : JobArgumentsView) (name : Text) → arguments words.now ≡ Some a → a.stream ≡ Some name →
@@ -148,7 +148,7 @@ pub fn run<F: NamedFiles, R: Source, W: Sink, E: Sink>(
     ensures job { is_explain (map (λ s. s.now) words.now) ≡ false → (a : JobArgumentsView) →
         arguments words.now ≡ Some a →
         a.stream ≡ None →
-        Performs (spec.Leads a) (reads R.Source input.old input.new) (writes W.Sink output.old output.new)
+        spec.PerformsJob a (reads R.Source input.old input.new) (writes W.Sink output.old output.new)
         (writes E.Sink faults.old faults.new) result }
     // A stream that arrives on the input, to the units of the streams of a description in a file.
     ensures stream { is_explain (map (λ s. s.now) words.now) ≡ false → (a : JobArgumentsView) (name : Text) →
