@@ -3,6 +3,7 @@
 
 mod airing;
 mod checks;
+mod devices;
 mod measuring;
 mod memory;
 mod plan_texts;
