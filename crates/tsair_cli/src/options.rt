@@ -107,7 +107,7 @@ pub(crate) const OPTIONS: [OptionRow; 11] = [
         form: "",
         unit: "",
         apart: "",
-        help: "or -V, alone: the version, and the kit that proved it",
+        help: "or -V, alone: the version, and the logic of its proof",
     },
     OptionRow {
         name: "help",
@@ -131,7 +131,7 @@ const USAGE: &str = "usage: tsair [OPTIONS] < JOB > PACKETS
   --switch Q                     the periods of the first plan before the second
   --unframe                      read frames of records instead of a job, and write their records
   --progress                     report each second how many bytes are read, on a terminal
-  --version                      or -V, alone: the version, and the kit that proved it
+  --version                      or -V, alone: the version, and the logic of its proof
   --help                         or -h: this text, on standard output
 ";
 

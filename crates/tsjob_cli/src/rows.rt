@@ -234,7 +234,7 @@ pub const VERSION: OptionRow = OptionRow {
     form: "",
     unit: "",
     apart: "",
-    help: "or -V, alone: the version, and the kit that proved it",
+    help: "or -V, alone: the version, and the logic of its proof",
 };
 
 /// A call for help.

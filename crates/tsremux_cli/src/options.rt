@@ -110,7 +110,7 @@ const USAGE: &str = "usage: tsremux [OPTIONS] [FILE..|-] -o OUT
   --quiet                        or -q: report only why nothing is written
   --verbose                      or -v: report also what is left out without a loss
   --progress                     report each second how many bytes are read, on a terminal
-  --version                      or -V, alone: the version, and the kit that proved it
+  --version                      or -V, alone: the version, and the logic of its proof
   --help                         or -h: this text, on standard output
 ";
 

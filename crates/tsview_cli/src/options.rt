@@ -129,7 +129,7 @@ pub(crate) const OPTIONS: [OptionRow; 14] = [
         form: "",
         unit: "",
         apart: "",
-        help: "or -V, alone: the version, and the kit that proved it",
+        help: "or -V, alone: the version, and the logic of its proof",
     },
     OptionRow {
         name: "help",
@@ -156,7 +156,7 @@ const USAGE: &str = "usage: tsview [OPTIONS] [FILE|-] < PACKETS
   --buffers PID:RX:MAIN,..       buffers of a PID, in bits a second and bytes
   --progress                     report each second how many bytes are read, on a terminal
   --plan                         alone: a page of HTML of the plan in a job
-  --version                      or -V, alone: the version, and the kit that proved it
+  --version                      or -V, alone: the version, and the logic of its proof
   --help                         or -h: this text, on standard output
 ";
 

@@ -89,9 +89,9 @@ abbrev pub asks_version : List Text → Bool
 asks_version (w ∷ []) = bytes_eq w (codes "--version") || bytes_eq w (codes "-V")
 asks_version words = false
 
--- the program, its version, and the kit that proved it
+-- the program, its version, and the logic in which it is proved
 abbrev pub version_text : Text → Text
-version_text program = program ++ codes " 1.0, rattle-kit-13f, logic dac8208d650f15bf\n"
+version_text program = program ++ codes " 1.0, logic dac8208d650f15bf\n"
 
 -- nothing is read, and this text is the output
 pub record Printed (text : Text) (input output faults : Device) (status : ℕ) : Type 0 where

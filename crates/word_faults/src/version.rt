@@ -17,13 +17,13 @@ pub fn is_version(words: &[&str]) -> bool
     }
 }
 
-// Returns the program, its version, and the kit that proved it.
+// Returns the program, its version, and the logic in which it is proved.
 fn version_text(alloc: Global, program: &str) -> Result<String, AllocError>
     ensures { IfOk result (λ s. string_bytes s ≡ spec.version_text program.now) }
 {
     let mut text = String::new(alloc);
     text.push_str(program)?;
-    text.push_str(" 1.0, rattle-kit-13f, logic dac8208d650f15bf\n")?;
+    text.push_str(" 1.0, logic dac8208d650f15bf\n")?;
     Ok(text)
 }
 
