@@ -1,13 +1,13 @@
 -- A stream that is being read: whether it is refused, and how much of it is read.
 use Rattle.std.proofs.Common.{◌≡◌, ◌≤◌, ◌<◌, ◌==◌, ◌&&◌, Bool, true, false, not, nat_le, List, [], ◌++◌, ℕ, ◌+◌, length, take, drop, min, refl, sym, ap, ap₂}
 use Rattle.std.proofs.Common.{subst, ◌∙◌, append_assoc, append-nil, length-append, Option, Some, None, is_some, Result, Ok, Err, inl, inr}
-use Rattle.std.proofs.Common.{arith, eq-eqb, eqb-true}
+use Rattle.std.proofs.Common.{arith, eq-eqb, eqb-true, leb-false, leb-true, ◌||◌, if◌then◌else◌, ◌-◌}
 use Rattle.std.proofs.lemmas.List.{length-take-le, take-append-drop, take-append-le}
 use Rattle.std.specs.Io.KnownBytes.{Consumes}
 use Rattle.counted_io.specs.Device.{Failed, IsFront}
 use Rattle.devices.specs.Devices.{Port, between}
 use Rattle.devices.specs.WholeInput as rooms
-use Rattle.devices.specs.WholeInput.{IsLong, IsShort, IsWhole, ReadsInput, TakesAll, longest_input}
+use Rattle.devices.specs.WholeInput.{IsLong, IsShort, IsWhole, ReadsInput, TakesAll, TakesInput, longest_input}
 use Rattle.devices.specs.declared.halt.Halt.{Halt}
 use Rattle.devices.specs.declared.halt.Halt.TheVariants.{Read, Write, Memory}
 use Rattle.devices.proofs.TakenInput.{front_end, front_none}
@@ -15,7 +15,7 @@ use Rattle.packet_sync.specs.PacketSearch.{IsSearched, SearchView}
 use Rattle.packet_sync.specs.WrongPackets.{has_five, searched, wrong_by, wrong_packets}
 use Rattle.packet_sync.specs.declared.packet_search.WrongPackets.{WrongPackets}
 use Rattle.packet_sync.proofs.FrontBytes.{other_front}
-use Rattle.job_run.specs.Streams.{CarriedView, HasFront, HasPackets, IsCarriedTo, IsRead, ReadingView, ReadsFront, ReadsStream, TakesFront}
+use Rattle.job_run.specs.Streams.{CarriedView, HasFront, HasPackets, IsCarriedTo, IsRead, ReadingView, ReadsFront, ReadsStream, TakesFront, whole_stream}
 
 -- 1. More bytes
 
@@ -102,25 +102,25 @@ short_of old new piece n r few room f is =
     (front_none (λ bytes. bytes ≡ []) 1 old refl) f
     (λ bytes whole none. subst (λ (x : List ℕ). IsRead (x ++ take n piece) r × HasPackets (x ++ take n piece)) (sym none)
     (is, λ long. absurd (let no : ⊥ = omega (arith, long, size, few) in no)))
-    (omega (arith, few, room)) (refl, omega (arith, few)) tt in
+    (omega (arith, few, room)) (omega arith, omega (arith, few)) tt in
     inl (record { bytes = all.bytes; read = all.read; is = all.taken })
 
 taken_by : (old new : Port) (piece : List ℕ) (n : ℕ) (r : ReadingView) (result : Bool) (w : Option WrongPackets) (b : Bool) → length piece ≡ searched →
     rooms.ReadsFront (between old new) piece n → IsRead (take n piece) r → wrong_packets (take n piece) ≡ w → (n == searched) ≡ b →
-    result ≡ (b && not (is_some w)) → TakesFront (between old new) r (Ok result)
+    result ≡ (not b || is_some w) → TakesFront (between old new) r (Ok result)
 taken_by old new piece n r result w false room f is e at same =
     subst (λ (x : Bool). TakesFront (between old new) r (Ok x)) (sym same)
     (let fits : n ≤ length piece = f.fits in
     let other : n ≡ searched → ⊥ = λ x. let no : false ≡ true = sym at ∙ eq-eqb n searched x in absurd cc in
     short_of old new piece n r (omega (arith, fits, room, other)) room f is)
 taken_by old new piece n r result None true room f is e at same =
-    subst (λ (x : Bool). TakesFront (between old new) r (Ok x)) (sym same) (take n piece, front_of old new piece n r (eqb-true n searched at) f is, e)
+    subst (λ (x : Bool). TakesFront (between old new) r (Ok x)) (sym same) (take n piece, (front_of old new piece n r (eqb-true n searched at) f is, e))
 taken_by old new piece n r result (Some w) true room f is e at same =
     subst (λ (x : Bool). TakesFront (between old new) r (Ok x)) (sym same)
     (inr (record { front = take n piece; has = front_of old new piece n r (eqb-true n searched at) f is; wrong = ap is_some e }))
 
 pub front_taken : (old new : Port) (piece : List ℕ) (n : ℕ) (r : ReadingView) (result : Bool) → length piece ≡ searched →
-    rooms.ReadsFront (between old new) piece n → IsRead (take n piece) r → result ≡ (n == searched && not (is_some (wrong_packets (take n piece)))) →
+    rooms.ReadsFront (between old new) piece n → IsRead (take n piece) r → result ≡ (not (n == searched) || is_some (wrong_packets (take n piece))) →
     TakesFront (between old new) r (Ok result)
 front_taken old new piece n r result room f is same =
     taken_by old new piece n r result (wrong_packets (take n piece)) (n == searched) room f is refl refl same
@@ -163,34 +163,40 @@ long_sum (Some xs) (Some ys) front rest l c w =
 later_failed : (a b c : ℕ) → b ≡ a → Failed b c → Failed a c
 later_failed a b c e f = subst (λ (n : ℕ). Failed n c) e f
 
-pub rest_taken : (old mid new : Port) (front : List ℕ) (s r : ReadingView) (size : ℕ) → HasFront (between old mid) front s → wrong_packets front ≡ None →
-    TakesAll (λ bytes. (before : List ℕ) → IsRead before s → IsRead (before ++ bytes) r) (between mid new) size → 4194304 + size ≤ longest_input →
-    ReadsStream (between old new) (Ok r)
-rest_taken old mid new front s r size has none all within =
+-- The whole input was read, if it is not too long.
+rest_taken : (old mid new : Port) (front : List ℕ) (s r : ReadingView) (size : ℕ) (b : Bool) → HasFront (between old mid) front s →
+    wrong_packets front ≡ None → TakesAll (λ bytes. (before : List ℕ) → IsRead before s → IsRead (before ++ bytes) r) (between mid new) size →
+    nat_le size (longest_input - searched) ≡ b → ReadsStream (between old new) (if b then Ok r else Err Read)
+rest_taken old mid new front s r size true has none all within =
+    let few : size ≤ longest_input - searched = leb-true size (longest_input - searched) within in
     let many : length (front ++ all.bytes) ≡ length front + length all.bytes = length-append front all.bytes in
+    let whole : length (front ++ all.bytes) ≤ longest_input = omega (arith, many, has.size_is, all.size_is, few) in
     inl (record {
       bytes = front ++ all.bytes;
       read = (
         whole_of old.bytes mid.bytes front all.bytes has.read all.read.0,
         record {
-          short = short_all old.bytes mid.bytes front all.bytes (omega (arith, many, has.size_is, all.size_is, within)) has.read all.read.0;
+          short = short_all old.bytes mid.bytes front all.bytes whole has.read all.read.0;
           ends = λ xs known. ends_all old.bytes mid.bytes new.bytes front has.read all.read.1.ends xs known;
           clean = all.read.1.clean ∙ has.clean;
         },
       );
       is = (all.taken front has.is, λ long. wrong_stays front all.bytes has.size_is ∙ none);
     })
+rest_taken old mid new front s r size false has none all within =
+    let many : longest_input - searched < size = leb-false size (longest_input - searched) within in
+    inr (long_sum old.bytes mid.bytes front all.bytes (omega (arith, many, has.size_is, all.size_is)) has.read all.read.0)
 
-pub rest_failed : (old mid new : Port) (front : List ℕ) (s : ReadingView) (halt : Halt) → HasFront (between old mid) front s →
+rest_failed : (old mid new : Port) (front : List ℕ) (s : ReadingView) (halt : Halt) → HasFront (between old mid) front s →
     ReadsInput (between mid new) (Err halt) → ReadsStream (between old new) (Err halt)
 rest_failed old mid new front s Read has (inl failed) = inl (later_failed old.failed mid.failed new.failed has.clean failed)
 rest_failed old mid new front s Read has (inr long) = inr (long_all old.bytes mid.bytes front has.read long)
 rest_failed old mid new front s Write has f = absurd f
 rest_failed old mid new front s Memory has clean = clean ∙ has.clean
 
-pub rest_long : (old mid new : Port) (front : List ℕ) (s r : ReadingView) (size : ℕ) (halt : Halt) → HasFront (between old mid) front s →
-    TakesAll (λ bytes. (before : List ℕ) → IsRead before s → IsRead (before ++ bytes) r) (between mid new) size →
-    (halt ≡ Read) × (longest_input < 4194304 + size) → ReadsStream (between old new) (Err halt)
-rest_long old mid new front s r size halt has all long =
-    subst (λ (x : Halt). ReadsStream (between old new) (Err x)) (sym long.0)
-    (inr (long_sum old.bytes mid.bytes front all.bytes (omega (arith, long.1, has.size_is, all.size_is)) has.read all.read.0))
+pub rest_read : (old mid new : Port) (s r : ReadingView) (read : Result ℕ Halt) → TakesFront (between old mid) s (Ok false) →
+    TakesInput (λ bytes. (before : List ℕ) → IsRead before s → IsRead (before ++ bytes) r) (between mid new) read →
+    ReadsStream (between old new) (whole_stream read r)
+unfolding whole_stream
+rest_read old mid new s r (Ok size) t all = rest_taken old mid new t.0 s r size (nat_le size (longest_input - searched)) t.1.0 t.1.1 all refl
+rest_read old mid new s r (Err halt) t failed = rest_failed old mid new t.0 s halt t.1.0 failed

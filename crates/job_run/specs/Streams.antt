@@ -1,9 +1,10 @@
 -- A transport stream through a demultiplexer, piece by piece.
-use Rattle.std.specs.Prelude.{◌≡◌, ◌⊎◌, ◌≤◌, ℕ, ◌+◌, ◌&&◌, not, Bool, true, false, List, [], ◌++◌, length, filter, is_some, None, Result, Ok, Err}
+use Rattle.std.specs.Prelude.{◌≡◌, ◌⊎◌, ◌≤◌, ℕ, ◌+◌, ◌-◌, ◌&&◌, not, nat_le, if◌then◌else◌, Bool, true, false, List, [], ◌++◌, length, filter, is_some, None, Result, Ok, Err}
 use Rattle.std.specs.Io.KnownBytes.{Consumes}
 use Rattle.devices.specs.Devices.{Device, IsClean}
-use Rattle.devices.specs.WholeInput.{IsReadAs, ReadsInput}
+use Rattle.devices.specs.WholeInput.{IsReadAs, ReadsInput, longest_input}
 use Rattle.devices.specs.declared.halt.Halt.{Halt}
+use Rattle.devices.specs.declared.halt.Halt.TheVariants.{Read}
 use Rattle.pid_findings.specs.Views.{FindingView}
 use Rattle.data_times.specs.DataTimes.{TimesView, is_timed, timed, times_of}
 use Rattle.data_times.specs.References.{LogView, logged, no_packet, references_in}
@@ -177,8 +178,13 @@ abbrev pub ReadsStream : Device → Result ReadingView Halt → Type 0
 ReadsStream input (Ok r) = IsReadAs input (λ bytes. IsRead bytes r × HasPackets bytes) ⊎ ReadsFront input r
 ReadsStream input (Err halt) = ReadsInput input (Err halt)
 
--- whether more is to be read after the first 4 MiB
+-- whether no more is to be read after the first 4 MiB
 abbrev pub TakesFront : Device → ReadingView → Result Bool Halt → Type 0
-TakesFront input r (Ok true) = (front : List ℕ) × (HasFront input front r × (wrong_packets front ≡ None))
-TakesFront input r (Ok false) = ReadsStream input (Ok r)
+TakesFront input r (Ok true) = ReadsStream input (Ok r)
+TakesFront input r (Ok false) = (front : List ℕ) × (HasFront input front r × (wrong_packets front ≡ None))
 TakesFront input r (Err halt) = ReadsStream input (Err halt)
+
+-- the stream, if as many bytes after its first 4 MiB were read, and it is not too long
+unfoldable pub whole_stream : Result ℕ Halt → ReadingView → Result ReadingView Halt
+whole_stream (Ok size) r = if nat_le size (longest_input - searched) then Ok r else Err Read
+whole_stream (Err halt) r = Err halt

@@ -1,12 +1,12 @@
 //! A transport stream, read piece by piece.
-ghost use Rattle.std.specs.Prelude.{◌≡◌, ◌==◌, ◌&&◌, not, is_some, ◌++◌, [], IfErr, IfOk, List, None, OnOk, ℕ};
+ghost use Rattle.std.specs.Prelude.{◌≡◌, ◌==◌, ◌||◌, not, is_some, ◌++◌, [], IfErr, IfOk, List, None, Ok, OnOk, ℕ, length};
 ghost use Rattle.devices.specs.Devices.{Port, between, reads};
 ghost use Rattle.packet_sync.specs.WrongPackets.{searched, wrong_packets};
 ghost use Rattle.job_run.specs.Streams as spec;
 
 use crate::carried_stream::{CarriedStream, ReadStream};
 use counted_io::Source;
-use devices::{Halt, PieceTaker, new_piece, read_piece, size_within, take_input};
+use devices::{Halt, LONGEST_INPUT, PieceTaker, new_piece, read_piece, take_input};
 use packet_sync::{PacketSearch, WrongPackets};
 use std::alloc::{AllocError, Global};
 use std::marker::Model;
@@ -93,23 +93,40 @@ impl PieceTaker for StreamReading {
     }
 }
 
-// Returns whether more bytes are to be read after the first `size`, which may be no stream of packets of 188 bytes:
-// there are 4 MiB of them, and they are one.
-fn has_more(size: usize, wrong: Option<WrongPackets>) -> bool
-    ensures { result ≡ (size == searched && not (is_some wrong)) }
+// Returns whether no more is to be read after the first `size` bytes: the input has ended, or these 4 MiB are no stream
+// of packets of 188 bytes.
+fn is_over(size: usize, wrong: Option<WrongPackets>) -> bool
+    ensures { result ≡ (not (size == searched) || is_some wrong) }
 {
-    size == FRONT && wrong.is_none()
+    size != FRONT || wrong.is_some()
 }
 
-// Returns whether more bytes are to be read after the first `size`, which the stream took.
-fn goes_on(size: usize, stream: &StreamReading) -> bool
+// Returns whether no more is to be read after the first `size` bytes, which the stream took.
+fn has_ended(size: usize, stream: &StreamReading) -> bool
     ensures { (bytes : List ℕ) → spec.IsRead bytes stream.now →
-        result ≡ (size == searched && not (is_some (wrong_packets bytes))) }
+        result ≡ (not (size == searched) || is_some (wrong_packets bytes)) }
 {
-    has_more(size, stream.wrong_packets())
+    is_over(size, stream.wrong_packets())
 }
 
-// Takes the first 4 MiB of the input, or all of it if it is shorter. Returns whether more is to be read.
+// Takes the first 4 MiB of the input, or all of it if it is shorter. Returns whether no more is to be read.
+fn take_first<R: Source>(
+    input: &mut R,
+    piece: &mut [u8],
+    stream: &mut StreamReading,
+) -> Result<bool, Halt>
+    requires room { length piece.old ≡ searched }
+    requires first { spec.IsRead [] stream.old }
+    ensures { spec.TakesFront (reads R.Source input.old input.new) stream.new result }
+{
+    let size = read_piece(input, piece)?;
+    match stream.take(&piece[..size]) {
+        Ok(()) => Ok(has_ended(size, stream)),
+        Err(_) => Err(Halt::Memory),
+    }
+}
+
+// Takes them by a piece of memory that is free afterwards.
 fn take_front<R: Source>(
     alloc: Global,
     input: &mut R,
@@ -118,29 +135,44 @@ fn take_front<R: Source>(
     requires first { spec.IsRead [] stream.old }
     ensures { spec.TakesFront (reads R.Source input.old input.new) stream.new result }
 {
-    let mut front = new_piece(alloc, FRONT)?;
-    let size = read_piece(input, &mut front)?;
-    match stream.take(&front[..size]) {
-        Ok(()) => Ok(goes_on(size, stream)),
-        Err(_) => Err(Halt::Memory),
+    let mut piece = new_piece(alloc, FRONT)?;
+    take_first(input, &mut piece, stream)
+}
+
+// Returns the stream, if the bytes after its first 4 MiB were read and it is not too long.
+#[tactic(auto, unfolding(crate::specs::Streams::whole_stream))]
+fn whole_stream(read: Result<usize, Halt>, stream: StreamReading) -> Result<StreamReading, Halt>
+    ensures { result ≡ spec.whole_stream read stream }
+{
+    match read {
+        Ok(size) => {
+            if size <= LONGEST_INPUT - FRONT {
+                Ok(stream)
+            } else {
+                Err(Halt::Read)
+            }
+        }
+        Err(halt) => Err(halt),
     }
 }
 
-// Takes the bytes of the input after its first 4 MiB.
+// Takes the bytes of the input after its first 4 MiB, unless no more is to be read (`over`).
 fn take_rest<R: Source>(
     alloc: Global,
     input: &mut R,
+    over: bool,
     stream: StreamReading,
 ) -> Result<StreamReading, Halt>
-    ensures { (first : Port) (front : List ℕ) →
-        spec.HasFront (between first (reads R.Source input.old input.new).before) front stream →
-        wrong_packets front ≡ None →
+    ensures { (first : Port) →
+        spec.TakesFront (between first (reads R.Source input.old input.new).before) stream (Ok over) →
         spec.ReadsStream (between first (reads R.Source input.old input.new).after) result }
 {
+    if over {
+        return Ok(stream);
+    }
     let mut stream = stream;
-    let size = take_input(alloc, input, PIECE, &mut stream)?;
-    size_within(FRONT + size)?;
-    Ok(stream)
+    let read = take_input(alloc, input, PIECE, &mut stream);
+    whole_stream(read, stream)
 }
 
 /// Reads the whole input, of 2^40 bytes at most; only its first 4 MiB if these show that it is no stream of packets of
@@ -150,8 +182,7 @@ pub(crate) fn read_stream<R: Source>(alloc: Global, input: &mut R) -> Result<Str
 {
     let mut stream = StreamReading::new(alloc);
     match take_front(alloc, input, &mut stream) {
-        Ok(true) => take_rest(alloc, input, stream),
-        Ok(false) => Ok(stream),
+        Ok(over) => take_rest(alloc, input, over, stream),
         Err(halt) => Err(halt),
     }
 }
