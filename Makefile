@@ -106,7 +106,7 @@ any-stream: binary tsjob ## Take streams of ffmpeg and GStreamer through tsjob a
 # Libraries of earlier runs are removed first: `rt ci` of rattle-kit-13b would put them back in place of those that it proves.
 test: ## The merge gate: all proofs and tests (docs/GATE.md).
 	rm -rf crates/*/out/rlib
-	RT_JOBS=$${RT_JOBS:-$$(nproc)} tools/gate-progress all rt ci
+	RT_JOBS=$${RT_JOBS:-$$(nproc)} tools/gate-progress all tools/rt-ci
 	tools/try-edits --gate
 	tools/run-tests crates/tsmux/out/tsmux crates/tsjob/out/tsjob crates/tsair/out/tsair crates/tsview/out/tsview crates/tsremux/out/tsremux
 
