@@ -3,7 +3,7 @@
 
 ghost use Rattle.std.specs.Prelude.{◌≡◌, ◌-◌, ◌*◌, ◌^◌, ◌<◌, ◌≤◌, ◌∷◌, [], length};
 ghost use Rattle.description_parts.specs.Ranges.{IsStream};
-ghost use Rattle.unit_timing.specs.AccessUnits.{ahead_of, framed_waiting};
+ghost use Rattle.unit_timing.specs.AccessUnits.{ahead_of, frame_declaration, framed_waiting};
 ghost use Rattle.slot_plan.specs.Claims.{declaration, stream_share};
 ghost use Rattle.slot_plan.specs.Conditions.{entries_from, frame_entry, frame_entries};
 ghost use Rattle.plan_checker.specs.Failing.{after, search_of};
@@ -16,47 +16,47 @@ use slot_plan::{Condition, StreamDescription};
 use std::alloc::Allocator;
 use unit_timing::framing::Framing;
 
-/// Returns how long after the moment at which access unit number `gone` is removed a later unit is due at the earliest,
-/// up to the lead: units of 90 kHz.
-pub fn ahead_of(stream: &StreamDescription, framing: Framing, gone: u8) -> u64
-    ensures ahead { result ≡ ahead_of (declaration stream.now) framing gone }
+/// Returns how long after any moment with `left` access units of a unit left a later unit is due at the earliest, up to
+/// the lead: units of 90 kHz.
+pub fn ahead_of(stream: &StreamDescription, framing: Framing, left: u8) -> u64
+    ensures ahead { result ≡ ahead_of (declaration stream.now) (frame_declaration stream.now.interval framing) left }
     ensures bound { result ≤ stream.now.lead }
 {
-    let passed = gone as u64 * framing.frame as u64;
-    (stream.interval as u64)
-        .saturating_sub(passed)
-        .min(stream.lead as u64)
+    let frame = framing.frame as u64;
+    let others = framing.frames.saturating_sub(1) as u64;
+    let rest = (stream.interval as u64).saturating_sub(others * frame);
+    (rest + left.saturating_sub(1) as u64 * frame).min(stream.lead as u64)
 }
 
-/// Returns the bytes that a unit's access units leave after the removal of the first `gone`.
-pub fn left_of_unit(framing: Framing, gone: u8) -> u128
-    ensures left { result ≡ (framing.frames - gone) * framing.frame_size }
+/// Returns the most bytes of the last `left` access units of a unit that has more.
+pub fn left_of_unit(framing: Framing, left: u8) -> u128
+    ensures left { result ≡ left * framing.frame_size }
     ensures bound { result < 2 ^ 40 }
 {
-    framing.frames.saturating_sub(gone) as u128 * framing.frame_size as u128
+    left as u128 * framing.frame_size as u128
 }
 
-/// Returns the bytes that wait when `gone` access units of a unit have been removed.
+/// Returns the bytes that wait when `left` access units of a unit are left.
 fn framed_waiting<A: Allocator>(
     plans: &ShapedPlan<'_, A>,
     i: usize,
     stream: &StreamDescription,
     framing: Framing,
-    gone: u8,
+    left: u8,
 ) -> u128
     requires stream { i < length plans.now.description.now.streams }
     requires small { i < 256 }
     requires ranges { IsStream stream.now }
-    ensures { result ≡ framed_waiting plans.now.description.now.rate (declaration stream.now) framing
-        (stream_share plans.now.plan.now i) gone }
+    ensures { result ≡ framed_waiting plans.now.description.now.rate (declaration stream.now)
+        (frame_declaration stream.now.interval framing) (stream_share plans.now.plan.now i) left }
 {
-    let left = left_of_unit(framing, gone);
-    let ahead = ahead_of(stream, framing, gone);
+    let bytes = left_of_unit(framing, left);
+    let ahead = ahead_of(stream, framing, left);
     let lead = stream.lead as u64;
     if ahead < lead {
-        left + bytes_waiting(plans, i, stream, lead - ahead)
+        bytes + bytes_waiting(plans, i, stream, lead - ahead)
     } else {
-        left
+        bytes
     }
 }
 
@@ -99,7 +99,7 @@ fn framed_rooms<A: Allocator>(
     }
 }
 
-/// Checks the room of the main buffer when `gone` access units of a unit have been removed.
+/// Checks the room of the main buffer when `gone` access units of a unit of most access units have been removed.
 fn frame_room<A: Allocator>(
     plans: &ShapedPlan<'_, A>,
     i: usize,
@@ -114,7 +114,8 @@ fn frame_room<A: Allocator>(
     ensures { search_of search.new ≡ after (search_of search.old) (frame_entry
         plans.now.description.now plans.now.plan.now i stream.now framing gone ∷ []) }
 {
-    let bytes = framed_waiting(plans, i, stream, framing, gone);
+    let left = framing.frames.saturating_sub(gone);
+    let bytes = framed_waiting(plans, i, stream, framing, left);
     at_most(
         Condition::MainBuffer,
         gone,

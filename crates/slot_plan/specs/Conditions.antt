@@ -11,7 +11,7 @@ use Rattle.unit_timing.specs.declared.framing.Framing.{Framing}
 use Rattle.unit_timing.specs.declared.multiplexing_buffer.MultiplexingBuffer.{MultiplexingBuffer as LeakingBuffer}
 use Rattle.unit_timing.specs.Allowances.{allowance_rows}
 use Rattle.unit_timing.specs.Conditions.{Share, rate_needed, rate_given, lead_needed, time_given, bytes_waiting}
-use Rattle.unit_timing.specs.AccessUnits.{framed_waiting}
+use Rattle.unit_timing.specs.AccessUnits.{frame_declaration, framed_waiting}
 use Rattle.description_parts.specs.Described.{Described, DescribedProgram, DescribedStream}
 use Rattle.description_parts.specs.Tables.{table_kinds, table_count, table_limit, round_packets}
 use Rattle.slot_plan.specs.declared.slot.Slot.{Slot}
@@ -144,10 +144,11 @@ abbrev pub main_buffer_entry : Described → Planned → ℕ → DescribedStream
 main_buffer_entry d p i s = at_most MainBuffer 0 i (bytes_waiting d.rate (declaration s) (stream_share p i)) s.main
 
 -- code 8, part i of a stream whose units are PES packets of several access units (ISO/IEC 13818-1, 2.4.2.3): when i access units of
--- a unit have been removed, its remaining access units and the bytes of later units that can have arrived find room in the main
--- buffer. i is 1 to frames - 1; a stream without these keys has part 0 only
+-- a unit of most access units have been removed, those that are left and the bytes of later units that can have arrived find room in
+-- the main buffer. i is 1 to frames - 1; a stream without these keys has part 0 only
 abbrev pub frame_entry : Described → Planned → ℕ → DescribedStream → Framing → ℕ → Entry
-frame_entry d p number s f i = at_most MainBuffer i number (framed_waiting d.rate (declaration s) f (stream_share p number) i) s.main
+frame_entry d p number s f i = let left = f.frames - i in
+    at_most MainBuffer i number (framed_waiting d.rate (declaration s) (frame_declaration s.interval f) (stream_share p number) left) s.main
 
 abbrev pub frame_entries : Described → Planned → ℕ → DescribedStream → Option Framing → List Entry
 frame_entries d p number s None = []

@@ -1,10 +1,11 @@
 -- Numbers of PES packets of several access units, as theorems: a wrong number fails the check.
-use Rattle.std.proofs.Common.{◌≡◌, List, [], ◌∷◌, replicate, refl}
-use Rattle.unit_timing.specs.declared.allowance.Allowance.TheVariants.{Pace}
+use Rattle.std.specs.Prelude.{◌-◌, slice_index_or}
+use Rattle.std.proofs.Common.{◌≡◌, ℕ, List, [], ◌∷◌, map, replicate, refl, arith}
+use Rattle.unit_timing.specs.declared.allowance.Allowance.TheVariants.{Groups, Pace}
 use Rattle.unit_timing.specs.Plans.{Declaration}
 use Rattle.unit_timing.specs.Conditions.{Share, bytes_waiting}
-use Rattle.unit_timing.specs.declared.framing.Framing.{Framing}
-use Rattle.unit_timing.specs.AccessUnits.{FramedPacket, access_units_held, framed_fullness, framed_waiting}
+use Rattle.unit_timing.specs.AccessUnits.{FramedPacket, FrameDeclaration, Followed, access_units_held, framed_fullness, framed_waiting}
+use Rattle.unit_timing.specs.AccessUnits.{frame_declaration}
 
 -- ---- A packet of three access units, due at 1,600, 1,700 and 1,800 units of 90 kHz. At 1,599 all bytes are there; each access unit is removed at its time
 
@@ -35,8 +36,8 @@ all_removed = refl
 sound : Declaration
 sound = record { interval = 10800; lead = 10800; drain = 2000000; main = 3584; largest = 2894; unit_packets = 16; allowance = Pace 16 1500000 }
 
-five : Framing
-five = record { frames = 5; frame = 2160; frame_size = 576 }
+five : FrameDeclaration
+five = frame_declaration 10800 (record { frames = 5; frame = 2160; frame_size = 576 })
 
 most_slots : Share
 most_slots = record { count = 109; period = 120; spread = 0; peak = 0 }
@@ -45,6 +46,49 @@ removed_whole : bytes_waiting 1700000 sound most_slots ≡ 2894
 unfolding sound most_slots
 removed_whole = refl
 
-removed_in_turn : framed_waiting 1700000 sound five most_slots 1 ≡ 5198
+removed_in_turn : framed_waiting 1700000 sound five most_slots 4 ≡ 5198
 unfolding sound five most_slots
 removed_in_turn = refl
+
+-- ---- AAC at 128 kbit/s and 48 kHz: packets of 8 and of 7 access units, 1,920 units of 90 kHz apart. The next packet is due 1,920 after the last access
+-- unit of each packet, so two packets are 13,440 or 15,360 apart
+
+coded : Declaration
+coded = record { interval = 13440; lead = 13440; drain = 2000000; main = 3584; largest = 2819; unit_packets = 16; allowance = Groups 1 16 }
+
+coded_slots : Share
+coded_slots = record { count = 62; period = 100; spread = 0; peak = 0 }
+
+-- The most bytes of the last 1 to 7 access units of a packet that has more
+last_frames : List ℕ
+last_frames = 421 ∷ 778 ∷ 1162 ∷ 1562 ∷ 1950 ∷ 2328 ∷ 2754 ∷ []
+
+by_frames_left : FrameDeclaration
+by_frames_left = record { frames = 8; frame = 1920; rest = 1920; left = λ j. slice_index_or last_frames (j - 1) 0 }
+
+-- The same by the greatest access unit, of 430 bytes, and the least time between two packets
+by_greatest : FrameDeclaration
+by_greatest = frame_declaration 13440 (record { frames = 8; frame = 1920; frame_size = 430 })
+
+numbers : List ℕ
+numbers = 1 ∷ 2 ∷ 3 ∷ 4 ∷ 5 ∷ 6 ∷ 7 ∷ []
+
+-- Packets of 8, 7 and 8 access units follow one another as declared
+coded_packets : List FramedPacket
+coded_packets =
+    record { packet = record { dts = 20000; size = 2768; front = 0 }; access_units = 300 ∷ 340 ∷ 341 ∷ 342 ∷ 343 ∷ 340 ∷ 341 ∷ 421 ∷ [] }
+    ∷ record { packet = record { dts = 35360; size = 2371; front = 0 }; access_units = 314 ∷ 340 ∷ 340 ∷ 340 ∷ 340 ∷ 340 ∷ 357 ∷ [] }
+    ∷ record { packet = record { dts = 48800; size = 2768; front = 0 }; access_units = 300 ∷ 340 ∷ 341 ∷ 342 ∷ 343 ∷ 340 ∷ 341 ∷ 421 ∷ [] } ∷ []
+
+coded_followed : Followed by_frames_left 0 coded_packets
+unfolding Followed by_frames_left coded_packets
+coded_followed = (omega arith, (omega arith, (omega arith, tt)))
+
+-- When 1 to 7 access units are left, a main buffer of 3,584 bytes has room. By the greatest access unit it has none for two to five of them
+coded_waiting : map (framed_waiting 300000 coded by_frames_left coded_slots) numbers ≡ 3240 ∷ 3354 ∷ 3186 ∷ 3034 ∷ 2870 ∷ 2880 ∷ 2754 ∷ []
+unfolding coded coded_slots last_frames by_frames_left numbers
+coded_waiting = refl
+
+greatest_waiting : map (framed_waiting 300000 coded by_greatest coded_slots) numbers ≡ 3249 ∷ 3679 ∷ 3866 ∷ 3744 ∷ 3622 ∷ 3500 ∷ 3562 ∷ []
+unfolding coded coded_slots by_greatest numbers
+greatest_waiting = refl

@@ -1,10 +1,11 @@
 -- PES packets of several access units
-use Rattle.std.proofs.Common.{◌≡◌, ℕ, zero, suc, ◌+◌, ◌-◌, ◌*◌, ◌<◌, ◌≤◌, ◌⊎◌, Bool, cond, nat_lt, List, [], ◌∷◌, length, take, drop, refl, ap, ◌∙◌, sym, subst}
+use Rattle.std.proofs.Common.{◌≡◌, ℕ, zero, suc, ◌+◌, ◌-◌, ◌*◌, ◌<◌, ◌≤◌, min, Bool, cond, nat_lt, List, [], ◌∷◌, length, take, drop, ap, ◌∙◌, sym, subst}
 use Rattle.std.proofs.Common.{inl, inr, arith, All}
+use Rattle.std.specs.List.{sum}
 use Rattle.std.proofs.Math.Nat.{le_trans, mul-le-mul_right}
 use Rattle.std.proofs.lemmas.Bool.Decides.{nat_tests}
 use Rattle.std.proofs.lemmas.Bool.{cases_lt, cond-true, lt-ltb}
-use Rattle.std.proofs.lemmas.List.{take-append-drop, length-take}
+use Rattle.std.proofs.lemmas.List.{take-append-drop, length-take, drop_all}
 use Rattle.std.proofs.lemmas.List.Elements.{All-head, All-tail}
 use Rattle.std.proofs.lemmas.List.Sums.{sum_by-cons}
 use Rattle.own_slots.specs.Slots.{AtMostPerWindow, own_slots}
@@ -19,7 +20,8 @@ use Rattle.unit_timing.specs.Plans.{Declaration, KeepsDeclaration, run_packets}
 use Rattle.unit_timing.specs.Conditions.{share_of, waiting_slots, bytes_waiting, bytes_across}
 use Rattle.unit_timing.specs.PlanLaws.{in_turn}
 use Rattle.unit_timing.specs.declared.framing.Framing.{Framing}
-use Rattle.unit_timing.specs.AccessUnits.{FramedPacket, KeepsFraming, access_units_held, framed_fullness, packets_of, ahead_of, led, FramedLaw}
+use Rattle.unit_timing.specs.AccessUnits.{FramedPacket, FrameDeclaration, KeepsFraming, Followed, last_removed, access_units_held, framed_fullness}
+use Rattle.unit_timing.specs.AccessUnits.{packets_of, ahead_of, led, FramedLaw, frame_declaration, FrameSizeLaw}
 use Rattle.unit_timing.proofs.MainBufferBytes.{kept, kept-append, kept_le, kept_after}
 use Rattle.unit_timing.proofs.MainBufferBySlots.{by_slots}
 use Rattle.unit_timing.proofs.EarlierStamps.{advanced, advanced_none, advanced_slots, shorter, keeps_shorter, proper_shorter}
@@ -50,69 +52,74 @@ held_entered rate r x apart due last (size ∷ sizes) left lt =
     ap (kept rate r x last) (sym (take-append-drop size left)) ∙ kept-append rate r x last (take size left) (drop size left) in
     omega (arith, first, rest, both)
 
--- Access units hold at most their number times the largest size.
-held_all : (rate r x apart due largest : ℕ) (sizes left : List ℕ) → All (λ size. size ≤ largest) sizes →
-    access_units_held rate r x apart due sizes left ≤ length sizes * largest
+-- Access units hold at most their bytes.
+held_all : (rate r x apart due : ℕ) (sizes left : List ℕ) → access_units_held rate r x apart due sizes left ≤ sum sizes
 unfolding access_units_held kept
-held_all rate r x apart due largest [] left small = omega arith
-held_all rate r x apart due largest (size ∷ sizes) left small =
+held_all rate r x apart due [] left = omega arith
+held_all rate r x apart due (size ∷ sizes) left =
     let one = kept_le rate r x due (take size left) in
-    let few : size ≤ largest = All-head (λ size. size ≤ largest) size sizes small in
-    let rest = held_all rate r x apart (due + apart) largest sizes (drop size left) (All-tail (λ size. size ≤ largest) size sizes small) in
-    omega (arith, one, length-take size left, few, rest)
+    let rest = held_all rate r x apart (due + apart) sizes (drop size left) in
+    let all : sum (size ∷ sizes) ≡ size + sum sizes = sum_by-cons (λ (n : ℕ). n) size sizes in
+    rw all (omega (arith, one, length-take size left, rest))
 
--- A packet that is due has lost some access units: all of them, or i of them and the moment lies before the next one.
-record Removed (rate r x apart due most held largest : ℕ) : Type 0 where
-  i : ℕ
-  within : i ≤ most
-  others : held ≤ (most - i) * largest
-  before : (i ≡ most) ⊎ (x * 720000 < (due + i * apart) * rate * r)
+-- Of the access units of a packet j are left, at most `most`: none, or the moment lies before the first of them.
+record Removed (rate r x apart due : ℕ) (sizes : List ℕ) (most held : ℕ) : Type 0 where
+  j : ℕ
+  within : j ≤ most
+  others : held ≤ sum (drop (length sizes - j) sizes)
+  before : 0 < j → x * 720000 < (due + (length sizes - j) * apart) * rate * r
 
-removed_some : (rate r x apart due most largest : ℕ) (sizes left : List ℕ) → length sizes ≤ most → All (λ size. size ≤ largest) sizes →
-    Removed rate r x apart due most (access_units_held rate r x apart due sizes left) largest
+-- If the first access unit has been removed, only others are left.
+first_removed : (rate r x apart due size : ℕ) (sizes left : List ℕ) → due * rate * r ≤ x * 720000 →
+    Removed rate r x apart (due + apart) sizes (length sizes) (access_units_held rate r x apart (due + apart) sizes (drop size left)) →
+    Removed rate r x apart due (size ∷ sizes) (length sizes) (access_units_held rate r x apart due (size ∷ sizes) left)
 unfolding access_units_held kept
-removed_some rate r x apart due most largest [] left few small =
-    record { i = most; within = omega arith; others = omega arith; before = inl refl }
-removed_some rate r x apart due zero largest (size ∷ sizes) left few small = absurd (omega (arith, few))
-removed_some rate r x apart due (suc most) largest (size ∷ sizes) left few small = elim (cases_lt (x * 720000) (due * rate * r)) [
+first_removed rate r x apart due size sizes left gone rest =
+    let none = kept_after rate r x due (take size left) gone in
+    let e : length (size ∷ sizes) - rest.j ≡ suc (length sizes - rest.j) = omega (arith, rest.within) in
+    let t : due + suc (length sizes - rest.j) * apart ≡ due + apart + (length sizes - rest.j) * apart = omega arith in
+    record {
+      j = rest.j;
+      within = rest.within;
+      others = rw e (omega (arith, none, rest.others));
+      before = λ some. rw (e, t) (rest.before some);
+    }
+
+removed_some : (rate r x apart due : ℕ) (sizes left : List ℕ) →
+    Removed rate r x apart due sizes (length sizes) (access_units_held rate r x apart due sizes left)
+unfolding access_units_held kept
+removed_some rate r x apart due [] left =
+    record { j = 0; within = omega arith; others = omega arith; before = λ some. absurd (omega (arith, some)) }
+removed_some rate r x apart due (size ∷ sizes) left = elim (cases_lt (x * 720000) (due * rate * r)) [
   | inl before ↦
-      let all = held_all rate r x apart due largest (size ∷ sizes) left small in
+      let z : length (size ∷ sizes) - length (size ∷ sizes) ≡ 0 = omega arith in
       let e : due + 0 * apart ≡ due = omega arith in
-      let few' : length (size ∷ sizes) * largest ≤ suc most * largest = mul-le-mul_right largest few in
-      let z : suc most - 0 ≡ suc most = omega arith in
-      record { i = 0; within = omega arith; others = rw z (unfold access_units_held kept in le_trans all few'); before = inr (rw e before) }
-  | inr gone ↦
-      let none = kept_after rate r x due (take size left) gone in
-      let rest = removed_some rate r x apart (due + apart) most largest sizes (drop size left) (omega (arith, few))
-      (All-tail (λ size. size ≤ largest) size sizes small) in
-      let e : suc most - suc rest.i ≡ most - rest.i = omega arith in
-      let t : due + suc rest.i * apart ≡ due + apart + rest.i * apart = omega arith in
       record {
-        i = suc rest.i;
-        within = omega (arith, rest.within);
-        others = rw e (omega (arith, none, rest.others));
-        before = elim rest.before [ inl all ↦ inl (omega (arith, all)) | inr lt ↦ inr (rw t lt) ];
+        j = length (size ∷ sizes);
+        within = omega arith;
+        others = rw z (held_all rate r x apart due (size ∷ sizes) left);
+        before = λ some. rw (z, e) before;
       }
+  | inr gone ↦
+      let others = first_removed rate r x apart due size sizes left gone (removed_some rate r x apart (due + apart) sizes (drop size left)) in
+      record { j = others.j; within = omega (arith, others.within); others = others.others; before = others.before }
 ]
 
 -- The first access unit of a packet that is due has been removed, whatever its size.
-removed_due : (rate r x apart due most largest : ℕ) (sizes left : List ℕ) → due * rate * r ≤ x * 720000 → length sizes ≤ most →
-    All (λ size. size ≤ largest) (drop 1 sizes) → Removed rate r x apart due most (access_units_held rate r x apart due sizes left) largest
+removed_due : (rate r x apart due : ℕ) (sizes left : List ℕ) → due * rate * r ≤ x * 720000 →
+    Removed rate r x apart due sizes (length sizes - 1) (access_units_held rate r x apart due sizes left)
 unfolding access_units_held kept
-removed_due rate r x apart due most largest [] left gone few small =
-    record { i = most; within = omega arith; others = omega arith; before = inl refl }
-removed_due rate r x apart due zero largest (size ∷ sizes) left gone few small = absurd (omega (arith, few))
-removed_due rate r x apart due (suc most) largest (size ∷ sizes) left gone few small =
-    let none = kept_after rate r x due (take size left) gone in
-    let rest = removed_some rate r x apart (due + apart) most largest sizes (drop size left) (omega (arith, few)) small in
-    let e : suc most - suc rest.i ≡ most - rest.i = omega arith in
-    let t : due + suc rest.i * apart ≡ due + apart + rest.i * apart = omega arith in
-    record {
-      i = suc rest.i;
-      within = omega (arith, rest.within);
-      others = rw e (omega (arith, none, rest.others));
-      before = elim rest.before [ inl all ↦ inl (omega (arith, all)) | inr lt ↦ inr (rw t lt) ];
-    }
+removed_due rate r x apart due [] left gone =
+    record { j = 0; within = omega arith; others = omega arith; before = λ some. absurd (omega (arith, some)) }
+removed_due rate r x apart due (size ∷ sizes) left gone =
+    let others = first_removed rate r x apart due size sizes left gone (removed_some rate r x apart (due + apart) sizes (drop size left)) in
+    record { j = others.j; within = omega (arith, others.within); others = others.others; before = others.before }
+
+none_left : (held j : ℕ) (sizes : List ℕ) → held ≤ sum (drop (length sizes - j) sizes) → j ≤ 0 → held ≤ 0
+none_left held j sizes le none =
+    let e : length sizes - j ≡ length sizes = omega (arith, none) in
+    let le' : held ≤ sum (drop (length sizes) sizes) = rw e at le in
+    rw (drop_all {X = ℕ} (length sizes) sizes (omega arith)) at le'
 
 -- ---- All packets
 
@@ -136,123 +143,97 @@ none_due rate r x apart interval from less (p ∷ packets) left spaced lt =
     let rest = none_due rate r x apart interval (dts + interval) less packets (drop p.packet.size left) spaced.1 later in
     omega (arith, one, rest)
 
--- Bounds on the bytes that wait while i access units of a packet have been removed
-record Waiting (rate r x interval main : ℕ) (f : Framing) (ahead : ℕ → ℕ) (packets : List FramedPacket) (left : List ℕ) : Type 0 where
+-- Bounds on the bytes that wait while j access units of a packet are left
+record Waiting (rate r x main : ℕ) (f : FrameDeclaration) (ahead : ℕ → ℕ) (packets : List FramedPacket) (left : List ℕ) : Type 0 where
   none : mb_fullness rate r x (advanced 0 (packets_of packets)) left ≤ main
-  some : (i : ℕ) → 0 < i → i < f.frames → (f.frames - i) * f.frame_size + mb_fullness rate r x (advanced (ahead i) (packets_of packets)) left ≤ main
+  some : (j : ℕ) → 0 < j → j < f.frames → f.left j + mb_fullness rate r x (advanced (ahead j) (packets_of packets)) left ≤ main
 
-waiting_rest : (rate r x interval main : ℕ) (f : Framing) (ahead : ℕ → ℕ) (p : FramedPacket) (packets : List FramedPacket) (left : List ℕ) →
-    Waiting rate r x interval main f ahead (p ∷ packets) left → Waiting rate r x interval main f ahead packets (drop p.packet.size left)
-waiting_rest rate r x interval main f ahead p packets left w = record {
+waiting_rest : (rate r x main : ℕ) (f : FrameDeclaration) (ahead : ℕ → ℕ) (p : FramedPacket) (packets : List FramedPacket) (left : List ℕ) →
+    Waiting rate r x main f ahead (p ∷ packets) left → Waiting rate r x main f ahead packets (drop p.packet.size left)
+waiting_rest rate r x main f ahead p packets left w = record {
   none = le_trans (mb_rest rate r x (record { dts = p.packet.dts - 0; size = p.packet.size; front = p.packet.front }) (advanced 0 (packets_of packets)) left)
       w.none;
-  some = λ i pos lt.
-      let rest = mb_rest rate r x (record { dts = p.packet.dts - ahead i; size = p.packet.size; front = p.packet.front })
-      (advanced (ahead i) (packets_of packets)) left in
-      omega (arith, rest, w.some i pos lt);
+  some = λ j pos lt.
+      let rest = mb_rest rate r x (record { dts = p.packet.dts - ahead j; size = p.packet.size; front = p.packet.front })
+      (advanced (ahead j) (packets_of packets)) left in
+      omega (arith, rest, w.some j pos lt);
 }
 
--- Before access unit i of a due packet is removed, the next packet is due in more than `ahead`.
-still_before : (x dts next interval ahead i apart rate r : ℕ) → x * 720000 < (dts + i * apart) * rate * r → dts + interval ≤ next → i * apart ≤ interval →
-    ahead ≤ interval - i * apart → x * 720000 < (next - ahead) * rate * r
-still_before x dts next interval ahead i apart rate r lt far short near =
-    let later : dts + i * apart ≤ next - ahead = omega (arith, far, short, near) in
+times_sum : (a b c : ℕ) → (a + b) * c ≡ a * c + b * c
+times_sum a b c = omega arith
+
+-- Before the first of the j access units that are left is removed, the next packet is due in more than `ahead`.
+still_before : (x dts next n j apart rest ahead rate r : ℕ) → 0 < j → j < n → x * 720000 < (dts + (n - j) * apart) * rate * r →
+    dts + (n - 1) * apart + rest ≤ next → ahead ≤ rest + (j - 1) * apart → x * 720000 < (next - ahead) * rate * r
+still_before x dts next n j apart rest ahead rate r some few lt far near =
+    let e : n - 1 ≡ n - j + (j - 1) = omega (arith, some, few) in
+    let far' : dts + (n - j + (j - 1)) * apart + rest ≤ next = rw e at far in
+    let later : dts + (n - j) * apart ≤ next - ahead = omega (arith, far', times_sum (n - j) (j - 1) apart, near) in
     omega (arith, lt, mul-le-mul_right (rate * r) later)
 
-few_apart : (i most apart interval : ℕ) → i < most → (most - 1) * apart ≤ interval → i * apart ≤ interval
-few_apart i most apart interval lt le = let few : i ≤ most - 1 = omega (arith, lt) in omega (arith, mul-le-mul_right apart few, le)
+both : (a b c d : ℕ) → a ≤ c → b ≤ d → a + b ≤ c + d
+both a b c d le le' = omega (arith, le, le')
 
--- If a packet is due and its access unit i is not, then i is not 0.
-pos_removed : (x dts i apart rate r : ℕ) → dts * rate * r ≤ x * 720000 → x * 720000 < (dts + i * apart) * rate * r → 0 < i
-pos_removed x dts zero apart rate r due lt = let e : dts + 0 * apart ≡ dts = omega arith in absurd (omega (arith, due, rw e at lt))
-pos_removed x dts (suc i) apart rate r due lt = omega arith
-
--- If the next packet is due, all access units of the packet have been removed.
-all_removed : (x dts next interval most i apart rate r : ℕ) → next * rate * r ≤ x * 720000 → dts + interval ≤ next → (most - 1) * apart ≤ interval → i ≤ most →
-    (i ≡ most) ⊎ (x * 720000 < (dts + i * apart) * rate * r) → i ≡ most
-all_removed x dts next interval most i apart rate r due far short within (inl all) = all
-all_removed x dts next interval most i apart rate r due far short within (inr lt) = elim (cases_lt i most) [
-  | inl some ↦
-      let le : dts + i * apart ≤ next = omega (arith, far, few_apart i most apart interval some short) in
-      absurd (omega (arith, lt, due, mul-le-mul_right (rate * r) le))
-  | inr over ↦ omega (arith, over, within)
-]
-
-none_left : (held most i largest : ℕ) → held ≤ (most - i) * largest → i ≡ most → held ≤ 0
-none_left held most i largest le e = let z : most - i ≡ 0 = omega (arith, e) in omega (arith, rw z at le)
-
--- The bytes of a due packet and of the packets after it; if the next packet is due too, only the packets after it have bytes.
-one_due : (rate r x interval main held : ℕ) (f : Framing) (ahead : ℕ → ℕ) → (f.frames - 1) * f.frame ≤ interval → ((i : ℕ) → ahead i ≤ interval - i * f.frame) →
-    (p : FramedPacket) (packets : List FramedPacket) (left : List ℕ) → Spaced interval (p.packet.dts + interval) (packets_of packets) →
-    Waiting rate r x interval main f ahead (p ∷ packets) left → p.packet.dts * rate * r ≤ x * 720000 →
-    Removed rate r x f.frame p.packet.dts f.frames held f.frame_size → framed_fullness rate r x f.frame packets (drop p.packet.size left) ≤ main →
+-- The bytes of a due packet of which j access units are left, and of the packets after it
+some_due : (rate r x interval main held : ℕ) (f : FrameDeclaration) (ahead : ℕ → ℕ) (j : ℕ) → 0 < j → ahead j ≤ f.rest + (j - 1) * f.frame →
+    (p : FramedPacket) (packets : List FramedPacket) (left : List ℕ) → j < length p.access_units → j < f.frames → held ≤ f.left j →
+    x * 720000 < (p.packet.dts + (length p.access_units - j) * f.frame) * rate * r → Followed f (last_removed f p + f.rest) packets →
+    Spaced interval (p.packet.dts + interval) (packets_of packets) → Waiting rate r x main f ahead (p ∷ packets) left →
     held + framed_fullness rate r x f.frame packets (drop p.packet.size left) ≤ main
-unfolding framed_fullness Spaced
-one_due rate r x interval main held f ahead short near p [] left spaced w due gone fits = elim gone.before [
-  | inl all ↦ omega (arith, none_left held f.frames gone.i f.frame_size gone.others all)
-  | inr lt ↦ elim (cases_lt gone.i f.frames) [
-    | inl some ↦ omega (arith, gone.others, w.some gone.i (pos_removed x p.packet.dts gone.i f.frame rate r due lt) some)
-    | inr over ↦ omega (arith, none_left held f.frames gone.i f.frame_size gone.others (omega (arith, over, gone.within)))
-  ]
-]
-one_due rate r x interval main held f ahead short near p (q ∷ packets) left spaced w due gone fits =
-    elim (cases_lt (x * 720000) (q.packet.dts * rate * r)) [
-      | inr next_due ↦
-          let all = all_removed x p.packet.dts q.packet.dts interval f.frames gone.i f.frame rate r next_due spaced.0 short gone.within gone.before in
-          omega (arith, none_left held f.frames gone.i f.frame_size gone.others all, fits)
-      | inl next ↦ elim (cases_lt gone.i f.frames) [
-        | inl some ↦ elim gone.before [
-          | inl all ↦ absurd (omega (arith, all, some))
-          | inr lt ↦
-              let i = gone.i in
-              let before = still_before x p.packet.dts q.packet.dts interval (ahead i) i f.frame rate r lt spaced.0
-              (few_apart i f.frames f.frame interval some short) (near i) in
-              let rest = none_due rate r x f.frame interval q.packet.dts (ahead i) (q ∷ packets) (drop p.packet.size left)
-              (unfold Spaced in (omega arith, spaced.1)) before in
-              let whole = mb_rest rate r x (record { dts = p.packet.dts - ahead i; size = p.packet.size; front = p.packet.front })
-              (advanced (ahead i) (packets_of (q ∷ packets))) left in
-              le_trans (both held (framed_fullness rate r x f.frame (q ∷ packets) (drop p.packet.size left)) _ _ gone.others rest)
-              (omega (arith, whole, w.some i (pos_removed x p.packet.dts i f.frame rate r due lt) some))
-        ]
-        | inr over ↦
-            let all : gone.i ≡ f.frames = omega (arith, over, gone.within) in
-            omega (arith, none_left held f.frames gone.i f.frame_size gone.others all, fits)
-      ]
-    ]
-  where
-    both : (a b c d : ℕ) → a ≤ c → b ≤ d → a + b ≤ c + d
-    both a b c d le le' = omega (arith, le, le')
+unfolding framed_fullness Followed Spaced
+some_due rate r x interval main held f ahead j pos near p [] left lt few small before follows spaced w = omega (arith, small, w.some j pos few)
+some_due rate r x interval main held f ahead j pos near p (q ∷ packets) left lt few small before follows spaced w =
+    let not_due = still_before x p.packet.dts q.packet.dts (length p.access_units) j f.frame f.rest (ahead j) rate r pos lt before follows.0 near in
+    let rest = none_due rate r x f.frame interval q.packet.dts (ahead j) (q ∷ packets) (drop p.packet.size left)
+    (unfold Spaced in (omega arith, spaced.1)) not_due in
+    let whole = mb_rest rate r x (record { dts = p.packet.dts - ahead j; size = p.packet.size; front = p.packet.front })
+    (advanced (ahead j) (packets_of (q ∷ packets))) left in
+    le_trans (both held (framed_fullness rate r x f.frame (q ∷ packets) (drop p.packet.size left)) _ _ small rest)
+    (omega (arith, whole, w.some j pos few))
 
-fits_all : (rate r x interval main : ℕ) (f : Framing) (ahead : ℕ → ℕ) → (f.frames - 1) * f.frame ≤ interval → ((i : ℕ) → ahead i ≤ interval - i * f.frame) →
-    (packets : List FramedPacket) (from : ℕ) (left : List ℕ) → All (KeepsFraming f) packets → Spaced interval from (packets_of packets) →
-    Waiting rate r x interval main f ahead packets left → framed_fullness rate r x f.frame packets left ≤ main
-unfolding framed_fullness Spaced
-fits_all rate r x interval main f ahead short near [] from left keeps spaced w = omega arith
-fits_all rate r x interval main f ahead short near (p ∷ packets) from left keeps spaced w = elim (cases_lt (x * 720000) (p.packet.dts * rate * r)) [
+-- The bytes of a due packet and of the packets after it; if no access unit is left, only the packets after it have bytes.
+one_due : (rate r x interval main held : ℕ) (f : FrameDeclaration) (ahead : ℕ → ℕ) → ((j : ℕ) → ahead j ≤ f.rest + (j - 1) * f.frame) →
+    (p : FramedPacket) (packets : List FramedPacket) (left : List ℕ) → KeepsFraming f p → Followed f (last_removed f p + f.rest) packets →
+    Spaced interval (p.packet.dts + interval) (packets_of packets) → Waiting rate r x main f ahead (p ∷ packets) left →
+    Removed rate r x f.frame p.packet.dts p.access_units (length p.access_units - 1) held →
+    framed_fullness rate r x f.frame packets (drop p.packet.size left) ≤ main →
+    held + framed_fullness rate r x f.frame packets (drop p.packet.size left) ≤ main
+one_due rate r x interval main held f ahead near p packets left keeps follows spaced w gone fits = elim (cases_lt 0 gone.j) [
+  | inl pos ↦
+      let lt : gone.j < length p.access_units = omega (arith, pos, gone.within) in
+      some_due rate r x interval main held f ahead gone.j pos (near gone.j) p packets left lt (omega (arith, lt, keeps.few))
+      (le_trans gone.others (keeps.small gone.j pos lt)) (gone.before pos) follows spaced w
+  | inr none ↦ omega (arith, none_left held gone.j p.access_units gone.others none, fits)
+]
+
+fits_all : (rate r x interval main : ℕ) (f : FrameDeclaration) (ahead : ℕ → ℕ) → ((j : ℕ) → ahead j ≤ f.rest + (j - 1) * f.frame) →
+    (packets : List FramedPacket) (from start : ℕ) (left : List ℕ) → All (KeepsFraming f) packets → Followed f start packets →
+    Spaced interval from (packets_of packets) → Waiting rate r x main f ahead packets left → framed_fullness rate r x f.frame packets left ≤ main
+unfolding framed_fullness Followed Spaced
+fits_all rate r x interval main f ahead near [] from start left keeps follows spaced w = omega arith
+fits_all rate r x interval main f ahead near (p ∷ packets) from start left keeps follows spaced w = elim (cases_lt (x * 720000) (p.packet.dts * rate * r)) [
   | inl before ↦
       let e : p.packet.dts - 0 ≡ p.packet.dts = omega arith in
       le_trans (unfold framed_fullness in none_due rate r x f.frame interval p.packet.dts 0 (p ∷ packets) left (omega arith, spaced.1) (rw e before)) w.none
   | inr due ↦
-      let here : KeepsFraming f p = All-head (KeepsFraming f) p packets keeps in
       let taken = take p.packet.size left in
-      one_due rate r x interval main (access_units_held rate r x f.frame p.packet.dts p.access_units taken) f ahead short near p packets left spaced.1 w due
-      (removed_due rate r x f.frame p.packet.dts f.frames f.frame_size p.access_units taken due here.few here.small)
-      (fits_all rate r x interval main f ahead short near packets (p.packet.dts + interval) (drop p.packet.size left)
-      (All-tail (KeepsFraming f) p packets keeps) spaced.1 (waiting_rest rate r x interval main f ahead p packets left w))
+      one_due rate r x interval main (access_units_held rate r x f.frame p.packet.dts p.access_units taken) f ahead near p packets left
+      (All-head (KeepsFraming f) p packets keeps) follows.1 spaced.1 w (removed_due rate r x f.frame p.packet.dts p.access_units taken due)
+      (fits_all rate r x interval main f ahead near packets (p.packet.dts + interval) (last_removed f p + f.rest) (drop p.packet.size left)
+      (All-tail (KeepsFraming f) p packets keeps) follows.1 spaced.1 (waiting_rest rate r x main f ahead p packets left w))
 ]
 
 -- ---- One plan, and two plans in turn
 
-framed_fits : (own : ℕ → Bool) (rate : ℕ) (s : Declaration) (f : Framing) (packets : List FramedPacket) (n x : ℕ) (left : List ℕ) (most : ℕ → ℕ) →
-    (f.frames - 1) * f.frame ≤ s.interval →
-    ((i : ℕ) → 0 < i → i < f.frames → (f.frames - i) * f.frame_size + cond (nat_lt (ahead_of s f i) s.lead) (most (ahead_of s f i)) 0 ≤ s.main) →
-    All (KeepsFraming f) packets → KeepsDeclaration s (packets_of packets) → NoneLeavesEarly s.drain (run_packets own rate s (packets_of packets) n) left →
+framed_fits : (own : ℕ → Bool) (rate : ℕ) (s : Declaration) (f : FrameDeclaration) (packets : List FramedPacket) (n x : ℕ) (left : List ℕ) (most : ℕ → ℕ) →
+    ((j : ℕ) → 0 < j → j < f.frames → f.left j + cond (nat_lt (ahead_of s f j) s.lead) (most (ahead_of s f j)) 0 ≤ s.main) →
+    All (KeepsFraming f) packets → Followed f 0 packets → KeepsDeclaration s (packets_of packets) → NoneLeavesEarly s.drain (run_packets own rate s (packets_of packets) n) left →
     mb_fullness rate s.drain x (packets_of packets) left ≤ s.main →
     ((less : ℕ) → less < s.lead → NoneLeavesEarly s.drain (run_packets own rate (led s less) (advanced less (packets_of packets)) n) left →
     mb_fullness rate s.drain x (advanced less (packets_of packets)) left ≤ most less) →
     framed_fullness rate s.drain x f.frame packets left ≤ s.main
-framed_fits own rate s f packets n x left most short fits framed keeps late plain fewer =
-    fits_all rate s.drain x s.interval s.main f (ahead_of s f) short (λ i. omega arith) packets s.lead left framed keeps.spaced
+framed_fits own rate s f packets n x left most fits framed follows keeps late plain fewer =
+    fits_all rate s.drain x s.interval s.main f (ahead_of s f) (λ j. omega arith) packets s.lead 0 left framed follows keeps.spaced
     (record { none = rw (advanced_none (packets_of packets)) plain; some = waits })
   where
     units : List PesPacket
@@ -265,18 +246,18 @@ framed_fits own rate s f packets n x left most short fits framed keeps late plai
     none_own : AtMostPerWindow own 0 0
     none_own t = let e : t + 0 ≡ t = omega arith in rw e (omega arith)
 
-    waits : (i : ℕ) → 0 < i → i < f.frames → (f.frames - i) * f.frame_size + mb_fullness rate s.drain x (advanced (ahead_of s f i) units) left ≤ s.main
-    waits i pos lt =
-        let a = ahead_of s f i in
-        let within : ahead_of s f i ≤ s.lead = omega arith in
-        let held = fits i pos lt in
-        elim (cases_lt (ahead_of s f i) s.lead) [
+    waits : (j : ℕ) → 0 < j → j < f.frames → f.left j + mb_fullness rate s.drain x (advanced (ahead_of s f j) units) left ≤ s.main
+    waits j pos lt =
+        let a = ahead_of s f j in
+        let within : ahead_of s f j ≤ s.lead = omega arith in
+        let held = fits j pos lt in
+        elim (cases_lt (ahead_of s f j) s.lead) [
           | inl some ↦
               let is = cond-true (nat_lt a s.lead) (most a) 0 (lt-ltb a s.lead some) in
               omega (arith, held, is, fewer a some (early a within))
           | inr over ↦
-              let z : s.lead - ahead_of s f i ≡ 0 = omega (arith, over) in
-              let wide : (s.lead - ahead_of s f i) * rate ≤ 0 * 135360000 = rw z (omega arith) in
+              let z : s.lead - ahead_of s f j ≡ 0 = omega (arith, over) in
+              let wide : (s.lead - ahead_of s f j) * rate ≤ 0 * 135360000 = rw z (omega arith) in
               let nothing = by_slots own rate (s.lead - a) s.drain 0 0 (advanced a units) n x left wide none_own (early a within) in
               omega (arith, held, nothing)
         ]
@@ -286,10 +267,10 @@ same n = omega arith
 
 pub framed_law : FramedLaw
 framed_law = record {
-  one_plan = λ rate s f claim marks packets n x left proper holds more framed keeps late.
+  one_plan = λ rate s f claim marks packets n x left proper holds more framed follows keeps late.
       let own_share = share_of claim marks in
       let units = packets_of packets in
-      framed_fits (own marks) rate s f packets n x left (λ less. bytes_waiting rate (led s less) own_share) more.in_turn more.fits framed keeps late
+      framed_fits (own marks) rate s f packets n x left (λ less. bytes_waiting rate (led s less) own_share) more framed follows keeps late
       (main_fits rate s (own marks) (most_within (per_period marks) (length marks) claim.spread (waiting_slots rate s)) units n x left proper keeps
       (share_law marks claim.spread (waiting_slots rate s) holds.owned holds.spread_claimed (some_slots rate s proper.some_rate proper.some_lead))
       holds.main_fits late)
@@ -300,16 +281,78 @@ framed_law = record {
       (proper_shorter rate s less size lt proper) (keeps_shorter s less size units lt keeps)
       (share_law marks claim.spread (waiting_slots rate few) holds.owned holds.spread_claimed (some_slots rate few proper.some_rate (omega (arith, lt))))
       (same size) early);
-  two_plans = λ rate s f claim first next second periods packets n x left proper one two joins more framed keeps late.
+  two_plans = λ rate s f claim first next second periods packets n x left proper one two joins more framed follows keeps late.
       let share = share_of claim first in
       let next_share = share_of next second in
       let units = packets_of packets in
       framed_fits (in_turn first periods second) rate s f packets n x left (λ less. bytes_across rate (led s less) share next_share)
-      more.in_turn more.fits framed keeps late
+      more framed follows keeps late
       (main_switch_law rate s claim first next second periods units n x left proper one.owned two.owned
       one.spread_claimed two.spread_claimed joins.main_fits keeps late)
       (λ less lt early.
       let size = bytes_across rate (led s less) share next_share in
       main_switch_law rate (shorter s less size) claim first next second periods (advanced less units) n x left (proper_shorter rate s less size lt proper)
       one.owned two.owned one.spread_claimed two.spread_claimed (same size) (keeps_shorter s less size units lt keeps) early);
+}
+
+-- ---- A declaration by the greatest access unit
+
+sum_small : (largest : ℕ) (sizes : List ℕ) → All (λ size. size ≤ largest) sizes → sum sizes ≤ length sizes * largest
+sum_small largest [] small = omega arith
+sum_small largest (size ∷ sizes) small =
+    let few : size ≤ largest = All-head (λ size. size ≤ largest) size sizes small in
+    let rest = sum_small largest sizes (All-tail (λ size. size ≤ largest) size sizes small) in
+    let all : sum (size ∷ sizes) ≡ size + sum sizes = sum_by-cons (λ (n : ℕ). n) size sizes in
+    rw all (omega (arith, few, rest))
+
+drop_small : (largest k : ℕ) (sizes : List ℕ) → All (λ size. size ≤ largest) sizes → sum (drop k sizes) ≤ (length sizes - k) * largest
+drop_small largest zero sizes small =
+    let e : length sizes - 0 ≡ length sizes = omega arith in
+    rw e (sum_small largest sizes small)
+drop_small largest (suc k) [] small = omega arith
+drop_small largest (suc k) (size ∷ sizes) small =
+    let e : length (size ∷ sizes) - suc k ≡ length sizes - k = omega arith in
+    rw e (drop_small largest k sizes (All-tail (λ size. size ≤ largest) size sizes small))
+
+last_small : (largest j : ℕ) (sizes : List ℕ) → All (λ size. size ≤ largest) (drop 1 sizes) → j < length sizes →
+    sum (drop (length sizes - j) sizes) ≤ j * largest
+last_small largest j [] small lt = absurd (omega (arith, lt))
+last_small largest j (size ∷ sizes) small lt =
+    let e : length (size ∷ sizes) - j ≡ suc (length sizes - j) = omega (arith, lt) in
+    let z : length sizes - (length sizes - j) ≡ j = omega (arith, lt) in
+    rw e (rw z at (drop_small largest (length sizes - j) sizes small))
+
+-- A packet of at most `most` access units is over at most a packet of most access units later.
+few_apart : (n most apart interval : ℕ) → n ≤ most → (most - 1) * apart ≤ interval → (n - 1) * apart + (interval - (most - 1) * apart) ≤ interval
+few_apart n most apart interval le short =
+    let few : n - 1 ≤ most - 1 = omega (arith, le) in
+    omega (arith, short, mul-le-mul_right apart few)
+
+followed_from : (interval from start : ℕ) (f : Framing) (packets : List FramedPacket) → (f.frames - 1) * f.frame ≤ interval → start ≤ from →
+    All (KeepsFraming (frame_declaration interval f)) packets → Spaced interval from (packets_of packets) →
+    Followed (frame_declaration interval f) start packets
+unfolding Followed Spaced
+followed_from interval from start f [] short le keeps spaced = tt
+followed_from interval from start f (p ∷ packets) short le keeps spaced =
+    let K = KeepsFraming (frame_declaration interval f) in
+    let here = All-head K p packets keeps in
+    let near = few_apart (length p.access_units) f.frames f.frame interval here.few short in (
+      omega (arith, le, spaced.0),
+      followed_from interval (p.packet.dts + interval) (last_removed (frame_declaration interval f) p + (interval - (f.frames - 1) * f.frame)) f packets short
+          (omega (arith, near)) (All-tail K p packets keeps) spaced.1,
+    )
+
+-- When i access units of a packet of most access units have been removed, the next packet is due this much later.
+same_ahead : (interval most i apart : ℕ) → (most - 1) * apart ≤ interval → i < most →
+    interval - (most - 1) * apart + (most - i - 1) * apart ≡ interval - i * apart
+same_ahead interval most i apart short lt =
+    let e : most - 1 ≡ i + (most - i - 1) = omega (arith, lt) in
+    let short' : (i + (most - i - 1)) * apart ≤ interval = rw e at short in
+    rw e (omega (arith, short', times_sum i (most - i - 1) apart))
+
+pub frame_size_law : FrameSizeLaw
+frame_size_law = record {
+  kept = λ interval f p few small. record { few = few; small = λ j pos lt. last_small f.frame_size j p.access_units small lt };
+  followed = λ interval from f packets short keeps spaced. followed_from interval from 0 f packets short (omega arith) keeps spaced;
+  ahead = λ s f i short lt. ap (λ (n : ℕ). min n s.lead) (same_ahead s.interval f.frames i f.frame short lt);
 }
