@@ -6,7 +6,7 @@
 use Rattle.std.specs.Prelude.{◌≡◌, ℕ, ◌≤◌, List, All}
 use Rattle.pes_packet.specs.AccessUnits.{AccessUnit}
 use Rattle.unit_timing.specs.declared.framing.Framing.{Framing}
-use Rattle.unit_timing.specs.AccessUnits.{FramedPacket, KeepsFraming, packets_of, framed_fullness}
+use Rattle.unit_timing.specs.AccessUnits.{FramedPacket, KeepsFraming, packets_of, framed_fullness, frame_declaration}
 use Rattle.unit_timing.specs.Transport.{pes_left}
 use Rattle.description_parts.specs.Described.{DescribedStream}
 use Rattle.tstd.specs.Carried.{timed_pes_packets, packets_on}
@@ -15,7 +15,7 @@ use Rattle.mux_core.specs.Scheduled.{Scheduled}
 -- a cut of these units: their access units are as the description declares them
 pub record CutsUnits (d : Scheduled) (s : DescribedStream) (f : Framing) (units : List AccessUnit) (packets : List FramedPacket) : Type 0 where
   pub same : packets_of packets ≡ timed_pes_packets s.stream_id d.description.base0 units
-  pub declared : All (KeepsFraming f) packets
+  pub declared : All (KeepsFraming (frame_declaration s.interval f)) packets
 
 -- at every moment x
 abbrev pub FramesKept : Scheduled → DescribedStream → Framing → List AccessUnit → List ℕ → Type 0

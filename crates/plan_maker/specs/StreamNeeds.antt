@@ -11,7 +11,7 @@ use Rattle.unit_timing.specs.Buffers.{tb_size}
 use Rattle.unit_timing.specs.Conditions.{packets_in_row, bytes_by_units}
 use Rattle.description_parts.specs.Described.{DescribedStream}
 use Rattle.slot_plan.specs.Claims.{declaration}
-use Rattle.unit_timing.specs.AccessUnits.{ahead_of}
+use Rattle.unit_timing.specs.AccessUnits.{frame_declaration, ahead_of}
 use Rattle.plan_maker.specs.Bounded.{product, plus, less, rounded_up, narrowed, all_narrowed, most_wide}
 use Rattle.plan_maker.specs.Joined.{greatest_of, least_of}
 use Rattle.plan_maker.specs.declared.search.stream_rate.StreamRate.{StreamRate}
@@ -91,14 +91,14 @@ room_width v period count lead waiting room = if nat_le waiting room then Some m
     (λ window. less (product (period ∷ (room / 184) ∷ [])) (plus (product ((window - 1) ∷ count ∷ [])) 1))
     (rounded_up (product (lead ∷ v.rate ∷ [])) slot_units_at_1bps)
 
--- for the later units, when the first access units of a unit have gone: they arrive within the rest of the lead, and have the room
--- that the rest of that unit leaves
+-- for the later units, when some access units of a unit are left: they arrive within the rest of the lead, and have the room beside
+-- these access units
 abbrev pub frame_width : StreamView → ℕ → ℕ → Framing → ℕ → Option ℕ
-frame_width v period count f gone =
-    let lead = v.stream.lead - ahead_of (declaration v.stream) f gone in
+frame_width v period count f left =
+    let lead = v.stream.lead - ahead_of (declaration v.stream) (frame_declaration v.stream.interval f) left in
     option_and_then (λ room. option_and_then (λ units. room_width v period count lead (product (units ∷ (19 + v.stream.size) ∷ [])) room)
     (rounded_up lead v.stream.interval))
-    (less v.stream.main ((f.frames - gone) * f.frame_size))
+    (less v.stream.main (left * f.frame_size))
 
 abbrev pub frames_width : StreamView → ℕ → ℕ → Option ℕ → Option Framing → Option ℕ
 frames_width v period count first None = first

@@ -9,7 +9,7 @@ use Rattle.unit_timing.specs.Plans.{KeepsDeclaration, StreamServed, ProgramServe
 use Rattle.unit_timing.specs.EmptyBuffers.{StreamEmptied, VideoEmptied}
 use Rattle.unit_timing.specs.LongestStay.{WaitsAtMost}
 use Rattle.unit_timing.specs.VideoPlans.{Leak, VideoServed}
-use Rattle.unit_timing.specs.AccessUnits.{FramedPacket, KeepsFraming, packets_of}
+use Rattle.unit_timing.specs.AccessUnits.{FramedPacket, KeepsFraming, packets_of, frame_declaration}
 use Rattle.description_parts.specs.Described.{Described, DescribedProgram, DescribedStream}
 use Rattle.description_parts.specs.Ranges.{IsInRange}
 use Rattle.description_parts.specs.Tables.{table_count, table_limit, section_count}
@@ -45,7 +45,7 @@ pub record Promised (d : Described) (schedule : Schedule) : Type 0 where
   pub waits : (i : ℕ) (s : DescribedStream) (units : List PesPacket) (n : ℕ) → slice_get d.streams i ≡ Some s →
       WaitsAtMost longest_wait d.rate s.rx units (pes_entered s.rx (run_packets (owned schedule (Stream i)) d.rate (declaration s) units n))
   pub frames : (i : ℕ) (s : DescribedStream) (f : Framing) (packets : List FramedPacket) → slice_get d.streams i ≡ Some s → s.framing ≡ Some f →
-      All (KeepsFraming f) packets → KeepsDeclaration (declaration s) (packets_of packets) →
+      All (KeepsFraming (frame_declaration s.interval f)) packets → KeepsDeclaration (declaration s) (packets_of packets) →
       FramesServed (owned schedule (Stream i)) d.rate (declaration s) f packets
   pub programs : (i : ℕ) → i < length d.programs → ProgramServed (owned schedule (System i)) d.rate
   pub pcrs : (i : ℕ) (p : DescribedProgram) (slots : ℕ) → slice_get d.programs i ≡ Some p →

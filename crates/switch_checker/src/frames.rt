@@ -3,7 +3,7 @@
 
 ghost use Rattle.std.specs.Prelude.{◌≡◌, ◌-◌, ◌<◌, ◌∷◌, [], length};
 ghost use Rattle.description_parts.specs.Ranges.{IsStream};
-ghost use Rattle.unit_timing.specs.AccessUnits.{framed_across};
+ghost use Rattle.unit_timing.specs.AccessUnits.{frame_declaration, framed_across};
 ghost use Rattle.slot_plan.specs.Claims.{declaration, stream_share};
 ghost use Rattle.slot_plan.specs.Conditions.{entries_from};
 ghost use Rattle.slot_plan.specs.SwitchConditions.{frame_switch_entry, frame_switch_entries};
@@ -18,27 +18,28 @@ use slot_plan::{Condition, StreamDescription};
 use std::alloc::Allocator;
 use unit_timing::framing::Framing;
 
-/// Returns what waits across the switch when `gone` access units of a unit have been removed.
+/// Returns what waits across the switch when `left` access units of a unit are left.
 fn framed_across<A: Allocator>(
     plans: &PlanPair<'_, A>,
     i: usize,
     stream: &StreamDescription,
     framing: Framing,
-    gone: u8,
+    left: u8,
 ) -> u128
     requires stream { i < length plans.now.description.now.streams }
     requires index { i < 32 }
     requires ranges { IsStream stream.now }
-    ensures { result ≡ framed_across plans.now.description.now.rate (declaration stream.now) framing
-        (stream_share plans.now.first.now i) (stream_share plans.now.second.now i) gone }
+    ensures { result ≡ framed_across plans.now.description.now.rate (declaration stream.now)
+        (frame_declaration stream.now.interval framing) (stream_share plans.now.first.now i)
+        (stream_share plans.now.second.now i) left }
 {
-    let left = left_of_unit(framing, gone);
-    let ahead = ahead_of(stream, framing, gone);
+    let bytes = left_of_unit(framing, left);
+    let ahead = ahead_of(stream, framing, left);
     let lead = stream.lead as u64;
     if ahead < lead {
-        left + bytes_across(plans, i, stream, lead - ahead)
+        bytes + bytes_across(plans, i, stream, lead - ahead)
     } else {
-        left
+        bytes
     }
 }
 
@@ -82,7 +83,8 @@ fn framed_switches<A: Allocator>(
     }
 }
 
-/// Checks the room of the main buffer over both plans when `gone` access units of a unit have been removed.
+/// Checks the room of the main buffer over both plans when `gone` access units of a unit of most access units have been
+/// removed.
 fn frame_switch<A: Allocator>(
     plans: &PlanPair<'_, A>,
     i: usize,
@@ -97,7 +99,8 @@ fn frame_switch<A: Allocator>(
     ensures { search_of search.new ≡ after (search_of search.old) (frame_switch_entry
         plans.now.description.now plans.now.first.now plans.now.second.now i stream.now framing gone ∷ []) }
 {
-    let bytes = framed_across(plans, i, stream, framing, gone);
+    let left = framing.frames.saturating_sub(gone);
+    let bytes = framed_across(plans, i, stream, framing, left);
     at_most(
         Condition::MainSwitch,
         gone,

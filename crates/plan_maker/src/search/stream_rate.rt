@@ -234,14 +234,13 @@ impl StreamRate<'_> {
         }
     }
 
-    /// Returns the same when `gone` access units of a unit have been removed; None if the remaining access
-    /// units find no room.
-    fn frame_width(&self, period: u64, count: u64, framing: Framing, gone: u8) -> Option<u128>
-        ensures { result ≡ spec.frame_width (stream_view self.now) period count framing gone }
+    /// Returns the same when `left` access units of a unit are left; None if these find no room.
+    fn frame_width(&self, period: u64, count: u64, framing: Framing, left: u8) -> Option<u128>
+        ensures { result ≡ spec.frame_width (stream_view self.now) period count framing left }
     {
         let stream = self.stream;
-        let lead = (stream.lead as u64).saturating_sub(ahead_of(stream, framing, gone)) as u128;
-        match less(stream.main as u128, left_of_unit(framing, gone)) {
+        let lead = (stream.lead as u64).saturating_sub(ahead_of(stream, framing, left)) as u128;
+        match less(stream.main as u128, left_of_unit(framing, left)) {
             None => None,
             Some(room) => match rounded_up(lead, stream.interval as u128) {
                 None => None,
