@@ -1,11 +1,12 @@
 -- Numbers of PES packets of several access units, as theorems: a wrong number fails the check.
-use Rattle.std.specs.Prelude.{◌-◌, slice_index_or}
 use Rattle.std.proofs.Common.{◌≡◌, ℕ, List, [], ◌∷◌, map, replicate, refl, arith}
 use Rattle.unit_timing.specs.declared.allowance.Allowance.TheVariants.{Groups, Pace}
 use Rattle.unit_timing.specs.Plans.{Declaration}
 use Rattle.unit_timing.specs.Conditions.{Share, bytes_waiting}
-use Rattle.unit_timing.specs.AccessUnits.{FramedPacket, FrameDeclaration, Followed, access_units_held, framed_fullness, framed_waiting}
+use Rattle.unit_timing.specs.AccessUnits.{FramedPacket, Followed, access_units_held, framed_fullness, framed_waiting}
 use Rattle.unit_timing.specs.AccessUnits.{frame_declaration}
+use Rattle.unit_timing.specs.declared.framing.FrameDeclaration.{FrameDeclaration}
+use Rattle.unit_timing.specs.declared.framing.LastBytes.TheVariants.{Sums}
 
 -- ---- A packet of three access units, due at 1,600, 1,700 and 1,800 units of 90 kHz. At 1,599 all bytes are there; each access unit is removed at its time
 
@@ -64,7 +65,7 @@ last_frames : List ℕ
 last_frames = 421 ∷ 778 ∷ 1162 ∷ 1562 ∷ 1950 ∷ 2328 ∷ 2754 ∷ []
 
 by_frames_left : FrameDeclaration
-by_frames_left = record { frames = 8; frame = 1920; rest = 1920; left = λ j. slice_index_or last_frames (j - 1) 0 }
+by_frames_left = record { frames = 8; frame = 1920; rest = 1920; left = Sums last_frames }
 
 -- The same by the greatest access unit, of 430 bytes, and the least time between two packets
 by_greatest : FrameDeclaration

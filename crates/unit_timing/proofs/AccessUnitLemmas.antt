@@ -20,7 +20,8 @@ use Rattle.unit_timing.specs.Plans.{Declaration, KeepsDeclaration, run_packets}
 use Rattle.unit_timing.specs.Conditions.{share_of, waiting_slots, bytes_waiting, bytes_across}
 use Rattle.unit_timing.specs.PlanLaws.{in_turn}
 use Rattle.unit_timing.specs.declared.framing.Framing.{Framing}
-use Rattle.unit_timing.specs.AccessUnits.{FramedPacket, FrameDeclaration, KeepsFraming, Followed, last_removed, access_units_held, framed_fullness}
+use Rattle.unit_timing.specs.declared.framing.FrameDeclaration.{FrameDeclaration}
+use Rattle.unit_timing.specs.AccessUnits.{FramedPacket, left_of, KeepsFraming, Followed, last_removed, access_units_held, framed_fullness}
 use Rattle.unit_timing.specs.AccessUnits.{packets_of, ahead_of, led, FramedLaw, frame_declaration, FrameSizeLaw}
 use Rattle.unit_timing.proofs.MainBufferBytes.{kept, kept-append, kept_le, kept_after}
 use Rattle.unit_timing.proofs.MainBufferBySlots.{by_slots}
@@ -146,7 +147,7 @@ none_due rate r x apart interval from less (p ∷ packets) left spaced lt =
 -- Bounds on the bytes that wait while j access units of a packet are left
 record Waiting (rate r x main : ℕ) (f : FrameDeclaration) (ahead : ℕ → ℕ) (packets : List FramedPacket) (left : List ℕ) : Type 0 where
   none : mb_fullness rate r x (advanced 0 (packets_of packets)) left ≤ main
-  some : (j : ℕ) → 0 < j → j < f.frames → f.left j + mb_fullness rate r x (advanced (ahead j) (packets_of packets)) left ≤ main
+  some : (j : ℕ) → 0 < j → j < f.frames → left_of f.left j + mb_fullness rate r x (advanced (ahead j) (packets_of packets)) left ≤ main
 
 waiting_rest : (rate r x main : ℕ) (f : FrameDeclaration) (ahead : ℕ → ℕ) (p : FramedPacket) (packets : List FramedPacket) (left : List ℕ) →
     Waiting rate r x main f ahead (p ∷ packets) left → Waiting rate r x main f ahead packets (drop p.packet.size left)
@@ -176,7 +177,7 @@ both a b c d le le' = omega (arith, le, le')
 
 -- The bytes of a due packet of which j access units are left, and of the packets after it
 some_due : (rate r x interval main held : ℕ) (f : FrameDeclaration) (ahead : ℕ → ℕ) (j : ℕ) → 0 < j → ahead j ≤ f.rest + (j - 1) * f.frame →
-    (p : FramedPacket) (packets : List FramedPacket) (left : List ℕ) → j < length p.access_units → j < f.frames → held ≤ f.left j →
+    (p : FramedPacket) (packets : List FramedPacket) (left : List ℕ) → j < length p.access_units → j < f.frames → held ≤ left_of f.left j →
     x * 720000 < (p.packet.dts + (length p.access_units - j) * f.frame) * rate * r → Followed f (last_removed f p + f.rest) packets →
     Spaced interval (p.packet.dts + interval) (packets_of packets) → Waiting rate r x main f ahead (p ∷ packets) left →
     held + framed_fullness rate r x f.frame packets (drop p.packet.size left) ≤ main
@@ -226,7 +227,7 @@ fits_all rate r x interval main f ahead near (p ∷ packets) from start left kee
 -- ---- One plan, and two plans in turn
 
 framed_fits : (own : ℕ → Bool) (rate : ℕ) (s : Declaration) (f : FrameDeclaration) (packets : List FramedPacket) (n x : ℕ) (left : List ℕ) (most : ℕ → ℕ) →
-    ((j : ℕ) → 0 < j → j < f.frames → f.left j + cond (nat_lt (ahead_of s f j) s.lead) (most (ahead_of s f j)) 0 ≤ s.main) →
+    ((j : ℕ) → 0 < j → j < f.frames → left_of f.left j + cond (nat_lt (ahead_of s f j) s.lead) (most (ahead_of s f j)) 0 ≤ s.main) →
     All (KeepsFraming f) packets → Followed f 0 packets → KeepsDeclaration s (packets_of packets) → NoneLeavesEarly s.drain (run_packets own rate s (packets_of packets) n) left →
     mb_fullness rate s.drain x (packets_of packets) left ≤ s.main →
     ((less : ℕ) → less < s.lead → NoneLeavesEarly s.drain (run_packets own rate (led s less) (advanced less (packets_of packets)) n) left →
@@ -246,7 +247,7 @@ framed_fits own rate s f packets n x left most fits framed follows keeps late pl
     none_own : AtMostPerWindow own 0 0
     none_own t = let e : t + 0 ≡ t = omega arith in rw e (omega arith)
 
-    waits : (j : ℕ) → 0 < j → j < f.frames → f.left j + mb_fullness rate s.drain x (advanced (ahead_of s f j) units) left ≤ s.main
+    waits : (j : ℕ) → 0 < j → j < f.frames → left_of f.left j + mb_fullness rate s.drain x (advanced (ahead_of s f j) units) left ≤ s.main
     waits j pos lt =
         let a = ahead_of s f j in
         let within : ahead_of s f j ≤ s.lead = omega arith in

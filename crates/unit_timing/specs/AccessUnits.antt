@@ -1,10 +1,13 @@
 -- PES packets of several access units, as audio often has: each access unit is removed from the main buffer at its own decoding
 -- time, the first at the packet's stamp and together with the packet's header, each further one a fixed time after the one before
 -- (ISO/IEC 13818-1, 2.4.2.3).
-use Rattle.std.specs.Prelude.{◌≡◌, ℕ, ◌+◌, ◌-◌, ◌*◌, ◌<◌, ◌≤◌, min, Bool, cond, nat_lt, List, [], ◌∷◌, length, take, drop, map, count_by, All}
+use Rattle.std.specs.Prelude.{◌≡◌, ℕ, ◌+◌, ◌-◌, ◌*◌, ◌<◌, ◌≤◌, min, Bool, cond, nat_lt, List, [], ◌∷◌, length, take, drop, map, count_by, slice_index_or, All}
 use Rattle.std.specs.List.{sum}
 use Rattle.own_slots.specs.Period.{own}
 use Rattle.unit_timing.specs.declared.framing.Framing.{Framing}
+use Rattle.unit_timing.specs.declared.framing.FrameDeclaration.{FrameDeclaration}
+use Rattle.unit_timing.specs.declared.framing.LastBytes.{LastBytes}
+use Rattle.unit_timing.specs.declared.framing.LastBytes.TheVariants.{Each, Sums}
 use Rattle.unit_timing.specs.PesPacket.{PesPacket, Spaced}
 use Rattle.unit_timing.specs.Transport.{NoneLeavesEarly}
 use Rattle.unit_timing.specs.MainBuffer.{is_in_main_buffer}
@@ -36,18 +39,16 @@ packets_of packets = map (λ p. p.packet) packets
 
 -- ---- the declaration
 
--- what a stream declares of the access units of its packets: times in units of 90 kHz, sizes in bytes
-pub record FrameDeclaration : Type 0 where
-  pub frames : ℕ  -- the most access units of a packet
-  pub frame : ℕ  -- the time from one access unit of a packet to the next
-  pub rest : ℕ  -- the least time from the last access unit of a packet to the next packet
-  pub left : ℕ → ℕ  -- the most bytes of the last j access units of a packet that has more than j
+-- the most bytes of the last j access units of a packet that has more than j
+abbrev pub left_of : LastBytes → ℕ → ℕ
+left_of (Each size) j = j * size
+left_of (Sums sums) j = slice_index_or sums (j - 1) 0
 
 -- a packet keeps the numbers of its access units and of their bytes. The first access unit, which has the header too, is not among
 -- the last j: it is removed when the packet is due
 pub record KeepsFraming (f : FrameDeclaration) (p : FramedPacket) : Type 0 where
   pub few : length p.access_units ≤ f.frames
-  pub small : (j : ℕ) → 0 < j → j < length p.access_units → sum (drop (length p.access_units - j) p.access_units) ≤ f.left j
+  pub small : (j : ℕ) → 0 < j → j < length p.access_units → sum (drop (length p.access_units - j) p.access_units) ≤ left_of f.left j
 
 -- when the last access unit of a packet is removed
 abbrev pub last_removed : FrameDeclaration → FramedPacket → ℕ
@@ -71,11 +72,11 @@ led s less = record s { lead = s.lead - less }
 -- the bytes of the access units that are left, and the bytes of later packets, if these may have arrived
 abbrev pub framed_waiting : ℕ → Declaration → FrameDeclaration → Share → ℕ → ℕ
 framed_waiting rate s f own j =
-    f.left j + cond (nat_lt (ahead_of s f j) s.lead) (bytes_waiting rate (led s (ahead_of s f j)) own) 0
+    left_of f.left j + cond (nat_lt (ahead_of s f j) s.lead) (bytes_waiting rate (led s (ahead_of s f j)) own) 0
 
 abbrev pub framed_across : ℕ → Declaration → FrameDeclaration → Share → Share → ℕ → ℕ
 framed_across rate s f first second j =
-    f.left j + cond (nat_lt (ahead_of s f j) s.lead) (bytes_across rate (led s (ahead_of s f j)) first second) 0
+    left_of f.left j + cond (nat_lt (ahead_of s f j) s.lead) (bytes_across rate (led s (ahead_of s f j)) first second) 0
 
 -- ---- the law
 
@@ -109,7 +110,7 @@ frame_declaration interval f = record {
   frames = f.frames;
   frame = f.frame;
   rest = interval - (f.frames - 1) * f.frame;
-  left = λ j. j * f.frame_size;
+  left = Each f.frame_size;
 }
 
 -- packets of such access units keep it, and follow one another as it says if they are due an interval apart; when i access units of
