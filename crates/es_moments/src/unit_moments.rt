@@ -21,7 +21,7 @@ pub enum StampError {
 }
 
 /// The moments of a unit, in units of 90 kHz.
-#[derive(Clone, Copy, PartialEq, Eq)]
+#[derive(Clone, Copy)]
 pub struct UnitMoment {
     pub dts: u64,
     pub pts: u64,

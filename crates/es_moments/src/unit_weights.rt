@@ -16,7 +16,7 @@ use std::alloc::{AllocError, Allocator};
 const MOST_BYTES: usize = 1 << 62;
 
 /// The weight of a unit: when it is due, its bytes with the bytes of its marks, and its packets.
-#[derive(Clone, Copy, PartialEq, Eq)]
+#[derive(Clone, Copy)]
 pub(crate) struct UnitWeight {
     pub dts: u64,
     pub size: usize,

@@ -7,7 +7,7 @@ use pes_packet::PesError;
 use psi_tables::SectionError;
 
 /// Why something is in no unit, or what a unit's PES packet leaves unknown.
-#[derive(Clone, Copy, PartialEq, Eq)]
+#[derive(Clone, Copy)]
 pub enum UnitWarningCause {
     /// A continuity_counter that does not follow the one before.
     Counter { expected: u8, found: u8 },
@@ -64,7 +64,7 @@ impl UnitWarningCause {
 }
 
 /// A warning about a finding on the PID of a stream.
-#[derive(Clone, Copy, PartialEq, Eq)]
+#[derive(Clone, Copy)]
 pub struct UnitWarning {
     /// The packet of its first byte.
     pub packet: u64,

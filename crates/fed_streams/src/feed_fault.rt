@@ -3,7 +3,7 @@
 use es_moments::StampFault;
 
 /// Packets of a PID that are lost.
-#[derive(Clone, Copy, PartialEq, Eq)]
+#[derive(Clone, Copy)]
 pub struct Loss {
     /// The packet before which they are lost.
     pub packet: u64,
@@ -14,7 +14,7 @@ pub struct Loss {
 }
 
 /// Why the units of a PID do not go on to the start of the next one.
-#[derive(Clone, Copy, PartialEq, Eq)]
+#[derive(Clone, Copy)]
 pub enum CutCause {
     /// A packet whose payload is scrambled.
     Scrambled,
@@ -29,7 +29,7 @@ pub enum CutCause {
 }
 
 /// The units of a PID are cut: the current unit is left out, and so is everything before the next unit starts.
-#[derive(Clone, Copy, PartialEq, Eq)]
+#[derive(Clone, Copy)]
 pub struct CutUnits {
     /// The packet of the first byte of what cuts them.
     pub packet: u64,
@@ -38,7 +38,7 @@ pub struct CutUnits {
 }
 
 /// A map of a program that is of another version than the one before it.
-#[derive(Clone, Copy, PartialEq, Eq)]
+#[derive(Clone, Copy)]
 pub struct NewMap {
     /// program_number.
     pub program: u16,
@@ -51,7 +51,7 @@ pub struct NewMap {
 }
 
 /// A stream of a description that the first map of its program does not name.
-#[derive(Clone, Copy, PartialEq, Eq)]
+#[derive(Clone, Copy)]
 pub struct OtherStream {
     /// program_number.
     pub program: u16,
@@ -63,7 +63,7 @@ pub struct OtherStream {
 }
 
 /// A clock reference that does not go on from the one before it on its program's clock.
-#[derive(Clone, Copy, PartialEq, Eq)]
+#[derive(Clone, Copy)]
 pub struct ClockJump {
     /// Its PID.
     pub pid: u16,
@@ -76,7 +76,7 @@ pub struct ClockJump {
 }
 
 /// Bytes of a stream that are in no packet that can be read.
-#[derive(Clone, Copy, PartialEq, Eq)]
+#[derive(Clone, Copy)]
 pub enum PacketFault {
     /// A packet of this index is none: it has no sync byte, or its adaptation field is refused.
     Bad(u64),
@@ -87,7 +87,7 @@ pub enum PacketFault {
 }
 
 /// Bytes that are in no packet: the packets after them are in another step than the packets before.
-#[derive(Clone, Copy, PartialEq, Eq)]
+#[derive(Clone, Copy)]
 pub struct SlippedBytes {
     /// The number of packets before them.
     pub packet: usize,
@@ -96,7 +96,7 @@ pub struct SlippedBytes {
 }
 
 /// Stamps that fall without a clock, and go on from there.
-#[derive(Clone, Copy, PartialEq, Eq)]
+#[derive(Clone, Copy)]
 pub struct Restart {
     /// The packet where the unit begins that shows it: the units that begin in it or later go on from there.
     pub packet: u64,
@@ -107,7 +107,7 @@ pub struct Restart {
 }
 
 /// A report in place of a unit.
-#[derive(Clone, Copy, PartialEq, Eq)]
+#[derive(Clone, Copy)]
 pub enum FeedFault {
     /// A unit can't have a moment.
     Stamp(StampFault),

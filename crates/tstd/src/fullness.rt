@@ -4,7 +4,7 @@ use std::alloc::{Allocator, Global};
 use std::marker::Model;
 
 /// The greatest numbers of bytes that the buffers of a stream hold, over all moments.
-#[derive(Clone, Copy, Debug, PartialEq, Eq)]
+#[derive(Clone, Copy)]
 pub struct StreamFullness {
     /// In its transport buffer.
     pub transport: u64,
@@ -15,7 +15,7 @@ pub struct StreamFullness {
 }
 
 /// The greatest numbers of bytes that the buffers of a video stream hold after its transport buffer, over all moments.
-#[derive(Clone, Copy, Debug, PartialEq, Eq)]
+#[derive(Clone, Copy)]
 pub struct VideoFullness {
     /// In its multiplexing buffer MB.
     pub multiplexing: u64,
@@ -24,7 +24,7 @@ pub struct VideoFullness {
 }
 
 /// The greatest numbers of bytes that the buffers of a program's tables hold, over all moments.
-#[derive(Clone, Copy, Debug, PartialEq, Eq)]
+#[derive(Clone, Copy)]
 pub struct SystemFullness {
     /// In their transport buffer.
     pub transport: u64,
@@ -34,7 +34,7 @@ pub struct SystemFullness {
 
 /// A unit that has not left its transport buffer whole by its decoding time, or, of a stream with a multiplexing
 /// buffer, is not whole in its elementary stream buffer by then.
-#[derive(Clone, Copy, Debug, PartialEq, Eq)]
+#[derive(Clone, Copy, PartialEq, Eq)]
 pub struct LateUnit {
     /// The number of its stream in the description, from 0.
     pub stream: u8,

@@ -11,7 +11,7 @@ use std::alloc::Allocator;
 use unit_timing::allowance::Allowance;
 
 /// What a stream declares, and the numbers of the output that it is sent in. Times are in units of 90 kHz.
-#[derive(Clone, Copy, Debug, PartialEq, Eq)]
+#[derive(Clone, Copy)]
 pub struct StreamParameters {
     /// The rate of the output.
     pub rate: Rate,
