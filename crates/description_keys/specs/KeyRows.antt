@@ -5,6 +5,7 @@ use Rattle.toml.specs.Data.{Data, get}
 use Rattle.description_values.specs.Moments.{moment_at}
 use Rattle.description_values.specs.Values.{boolean_or, descriptors_or_none, integer_at, integer_or, language_at, optional_integer}
 use Rattle.description_values.specs.Values.{optional_language, sections_at, tables_at, text_at, text_or}
+use Rattle.description_keys.specs.ProgramKeys.{refuses_channel}
 use Rattle.description_keys.specs.Refusals.{is_no_table}
 use Rattle.description_keys.specs.Rules.{Rule, rule}
 use Rattle.description_keys.specs.StreamKeys.{has_owner, has_sharers, refuses_burst_packets, refuses_frame, refuses_frame_size, refuses_frames}
@@ -45,6 +46,7 @@ row_of code = find (λ row. row.code == code) keys
 
 -- a key whose values depend on other keys
 abbrev pub refuses_jointly : JointKey → Data → Data → Bool
+refuses_jointly joint.Channel document d = refuses_channel document d
 refuses_jointly joint.StreamId document d = is_none (stream_id d)
 refuses_jointly joint.Size document d = is_none (stream_size d)
 refuses_jointly joint.Rx document d = is_none (stream_rx d)

@@ -1,13 +1,18 @@
 -- The keys of a table of the array `program`.
-use Rattle.std.specs.Prelude.{ℕ, pos, List, [], ◌∷◌, Option, codes}
-use Rattle.toml.specs.Data.{Data}
-use Rattle.description_values.specs.Values.{integer_at, integer_or, text_or, descriptors_or_none}
-use Rattle.description_keys.specs.Rules.{Rule, needs}
+use Rattle.std.specs.Prelude.{ℕ, pos, ◌==◌, ◌&&◌, ◌||◌, not, Bool, true, false, List, [], ◌∷◌, Option, Some, None, codes, is_none, unwrap_or}
+use Rattle.std.specs.List.{list_any}
+use Rattle.toml.specs.Data.{Data, get}
+use Rattle.description_values.specs.Values.{integer_at, integer_or, optional_integer, text_or, descriptors_or_none, elements}
+use Rattle.description_keys.specs.Rules.{Rule, needs, rule}
 use Rattle.description_keys.specs.declared.key_row.KeyPart.TheVariants as part
 
 -- program_number, a program's and therefore not 0 (ISO/IEC 13818-1, 2.4.4.5)
 abbrev pub program_number : Data → Option ℕ
 program_number = integer_at (codes "number") (pos 1) (pos 65535)
+
+-- a program has that number
+abbrev pub has_number : ℕ → Data → Bool
+has_number number program = elim (program_number program) [ None ↦ false | Some n ↦ n == number ]
 
 abbrev pub program_pmt_pid : Data → Option ℕ
 program_pmt_pid = integer_at (codes "pmt_pid") (pos 32) (pos 8190)
@@ -32,6 +37,35 @@ program_provider = text_or 100 (codes "provider")
 abbrev pub program_name : Data → Option (List ℕ)
 program_name = text_or 100 (codes "name")
 
+-- logical_channel_number of a service in its network (IEC 62216), if the program has one: 10 bits, and 0 is none
+abbrev pub program_channel : Data → Option (Option ℕ)
+program_channel = optional_integer (codes "lcn") (pos 1) (pos 1023)
+
+-- none if the key is refused
+abbrev pub channel_of : Data → Option ℕ
+channel_of program = unwrap_or (program_channel program) None
+
+abbrev pub has_channel : ℕ → Data → Bool
+has_channel channel program = elim (channel_of program) [ None ↦ false | Some n ↦ n == channel ]
+
+-- a program of another number has that channel
+abbrev pub is_other : Data → Data → Bool
+is_other program other = elim (program_number program) [ None ↦ true | Some number ↦ not (has_number number other) ]
+
+abbrev pub takes_channel : Data → ℕ → Data → Bool
+takes_channel program channel other = has_channel channel other && is_other program other
+
+abbrev pub is_taken : Data → Data → ℕ → Bool
+is_taken document program channel = list_any (takes_channel program channel) (elements (codes "program") document)
+
+-- a channel is refused without a network, and if another program has it
+abbrev pub refuses_number : Data → Data → Option ℕ → Bool
+refuses_number document program None = false
+refuses_number document program (Some channel) = is_none (get (codes "network") document) || is_taken document program channel
+
+abbrev pub refuses_channel : Data → Data → Bool
+refuses_channel document program = elim (program_channel program) [ None ↦ true | Some channel ↦ refuses_number document program channel ]
+
 -- the rules of the keys, by their numbers
 abbrev pub program_rules : List Rule
 program_rules = needs part.Program 31 (codes "number") program_number
@@ -40,4 +74,5 @@ program_rules = needs part.Program 31 (codes "number") program_number
     ∷ needs part.Program 34 (codes "pcr_limit") program_pcr_limit
     ∷ needs part.Program 35 (codes "descriptors") program_descriptors
     ∷ needs part.Program 36 (codes "service_type") program_service_type
-    ∷ needs part.Program 37 (codes "provider") program_provider ∷ needs part.Program 38 (codes "name") program_name ∷ []
+    ∷ needs part.Program 37 (codes "provider") program_provider ∷ needs part.Program 38 (codes "name") program_name
+    ∷ rule part.Program 93 (codes "lcn") (λ document program. refuses_channel document program) ∷ []

@@ -9,7 +9,7 @@ use Rattle.unit_timing.specs.declared.framing.Framing.{Framing}
 use Rattle.unit_timing.specs.declared.multiplexing_buffer.MultiplexingBuffer.{MultiplexingBuffer}
 use Rattle.description_values.specs.Values.{at_key, integer_in, integer_at, integer_or, optional_integer, optional_language, descriptors_or_none, elements}
 use Rattle.description_values.specs.Values.{array_in, is_distinct}
-use Rattle.description_keys.specs.ProgramKeys.{program_number}
+use Rattle.description_keys.specs.ProgramKeys.{has_number}
 use Rattle.description_keys.specs.Rules.{Rule, needs, rule}
 use Rattle.description_keys.specs.declared.key_row.KeyPart.TheVariants as part
 
@@ -18,9 +18,6 @@ abbrev pub owner_number : Data → Option ℕ
 owner_number = integer_at (codes "program") (pos 1) (pos 65535)
 
 -- a program of the document has that number
-abbrev pub has_number : ℕ → Data → Bool
-has_number number program = elim (program_number program) [ None ↦ false | Some n ↦ n == number ]
-
 abbrev pub declares : Data → ℕ → Bool
 declares document number = list_any (has_number number) (elements (codes "program") document)
 

@@ -40,6 +40,7 @@ impl KeyPart {
 /// A key whose values depend on the other keys of its part.
 #[derive(Clone, Copy)]
 pub enum JointKey {
+    Channel,
     StreamId,
     Size,
     Rx,

@@ -5,8 +5,8 @@ ghost use Rattle.description_keys.specs.KeyRows.{keys, row_of, rule_of, view};
 ghost use Rattle.description_keys.specs.Refusals.{rules};
 
 use crate::key_row::JointKey::{
-    BurstPackets, EntryDescriptors, EntryProgram, EntryType, Frame, FrameSize, Frames, Group,
-    GroupPackets, Main, Mb, Pace, Rbx, Rx, SharedWith, Size, StreamId,
+    BurstPackets, Channel, EntryDescriptors, EntryProgram, EntryType, Frame, FrameSize, Frames,
+    Group, GroupPackets, Main, Mb, Pace, Rbx, Rx, SharedWith, Size, StreamId,
 };
 use crate::key_row::KeyKind::{
     Descriptors, Flag, Joint, Language, LanguageIfAny, Moment, Number, NumberIfAny, NumberOr,
@@ -16,7 +16,7 @@ use crate::key_row::KeyPart::{Document, Event, Network, Program, Stream, Table};
 use crate::key_row::{KeyRow, Row};
 
 /// All keys, in the order of their refusals: a table or an array before its keys.
-pub const KEYS: [KeyRow; 59] = [
+pub const KEYS: [KeyRow; 60] = [
     Row(
         Document,
         10,
@@ -49,6 +49,13 @@ pub const KEYS: [KeyRow; 59] = [
     Row(Program, 36, "service_type", NumberOr(1, 0, 255), ""),
     Row(Program, 37, "provider", TextOrEmpty(100), ""),
     Row(Program, 38, "name", TextOrEmpty(100), ""),
+    Row(
+        Program,
+        93,
+        "lcn",
+        Joint(Channel),
+        "1 to 1023, in no other program, and only beside [network]",
+    ),
     Row(Document, 40, "stream", Tables(0, 32), ""),
     Row(Stream, 41, "program", Owner, ""),
     Row(Stream, 42, "pid", Pid, ""),

@@ -5,6 +5,7 @@
 #![tactic(auto)]
 
 // Keys whose values depend on other keys, and the program of a part.
+pub mod channels;
 pub mod frame_keys;
 pub mod multiplexing_keys;
 pub mod owner;

@@ -3,8 +3,8 @@
 ghost use Rattle.std.specs.Prelude.{◌≡◌};
 ghost use Rattle.std.specs.List.{list_any};
 ghost use Rattle.toml.specs.View.{view};
-ghost use Rattle.description_keys.specs.ProgramKeys.{program_number};
-ghost use Rattle.description_keys.specs.StreamKeys.{owner_number, has_number, declares, has_owner, is_owned_by};
+ghost use Rattle.description_keys.specs.ProgramKeys.{program_number, has_number};
+ghost use Rattle.description_keys.specs.StreamKeys.{owner_number, declares, has_owner, is_owned_by};
 
 use description_values::arrays::elements;
 use description_values::values::integer_at;
@@ -24,7 +24,8 @@ pub fn owner_number(part: &Value) -> Option<u16>
     Some(integer_at(part, "program", 1, 65_535)? as u16)
 }
 
-fn has_number(number: u16, program: &Value) -> bool
+// Returns whether a program has the number.
+pub(crate) fn has_number(number: u16, program: &Value) -> bool
     ensures { result ≡ has_number number (view program.now) }
 {
     program_number(program) == Some(number)

@@ -5,6 +5,7 @@ ghost use Rattle.toml.specs.View.{view};
 ghost use Rattle.description_keys.specs.KeyRows as spec;
 ghost use Rattle.description_keys.specs.Refusals.{parts_of};
 
+use crate::channels::refuses_channel;
 use crate::frame_keys::{refuses_frame, refuses_frame_size, refuses_frames};
 use crate::key_row::{JointKey, KeyKind, KeyRow};
 use crate::multiplexing_keys::{refuses_mb, refuses_rbx};
@@ -28,6 +29,7 @@ fn refuses_jointly(key: JointKey, document: &Value, part: &Value) -> bool
     ensures { result ≡ spec.refuses_jointly key (view document.now) (view part.now) }
 {
     match key {
+        JointKey::Channel => refuses_channel(document, part),
         JointKey::StreamId => stream_id(part).is_none(),
         JointKey::Size => size(part).is_none(),
         JointKey::Rx => rx(part).is_none(),

@@ -3,8 +3,8 @@ use Rattle.std.proofs.Common.{◌≡◌, ℕ, suc, ◌==◌, ◌||◌, Bool, tru
 use Rattle.std.proofs.lemmas.Bool.{cases_Bool, eqb-true}
 use Rattle.std.specs.List.{list_any}
 use Rattle.toml.specs.Data.{Data}
-use Rattle.description_keys.specs.ProgramKeys.{program_number}
-use Rattle.description_keys.specs.StreamKeys.{has_number, declares}
+use Rattle.description_keys.specs.ProgramKeys.{has_number, program_number}
+use Rattle.description_keys.specs.StreamKeys.{declares}
 use Rattle.description_parts.specs.Contents.{described, described_program}
 use Rattle.description_keys.specs.Refusals.{programs_of}
 use Rattle.description_parts.specs.Ranges.{program_numbers}

@@ -2,6 +2,7 @@ pub mod TableNumbers
 pub mod KeyRanges
 pub mod TextRanges
 pub mod Counts
+pub mod ChannelRanges
 pub mod PartsInRange
 pub mod Distinct
 pub mod Declared

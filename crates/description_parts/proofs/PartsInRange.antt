@@ -20,22 +20,24 @@ use Rattle.description_keys.specs.StreamKeys.{has_multiplexing, greatest_rbx, mu
 use Rattle.description_keys.specs.StreamKeys.{stream_frames, framing_of}
 use Rattle.description_parts.specs.Contents.{described_network, described_event, described_number, described_program, described_stream, described_sections}
 use Rattle.description_parts.specs.Contents.{described_entry, described_table}
+use Rattle.description_parts.specs.Channels.{described_channels}
 use Rattle.description_parts.specs.Described.{DescribedEntry}
 use Rattle.description_keys.specs.TableKeys.{is_listed}
-use Rattle.description_keys.specs.Refusals.{events_of}
+use Rattle.description_keys.specs.Refusals.{events_of, programs_of}
 use Rattle.description_parts.proofs.KeyRanges.{Within, holds_of, at_key-all, map_all, integer_in-within, integer_at-within, integer_or-within, moment_at-within}
 use Rattle.description_parts.proofs.TextRanges.{text_at-is, text_or-is, descriptors-is, descriptors_at-is, language_at-is, optional_language-is, IsSectionBytes}
 use Rattle.description_parts.proofs.TextRanges.{sections-are, weaker, then_tested}
+use Rattle.description_parts.proofs.ChannelRanges.{channels_are, two_are}
 use Rattle.description_parts.proofs.Counts.{HasLength}
 
 pid_is : (key : List ℕ) (d : Data) → IsPid (unwrap_or (integer_at key (pos 32) (pos 8190) d) 32)
 pid_is key d = let w = integer_at-within key 32 8190 32 d (omega arith) (omega arith) in record { low = w.least; high = w.most }
 
-pub network_is : (d : Data) → IsNetwork (described_network d)
-network_is d = record {
+pub network_is : (document d : Data) → IsNetwork (described_network document d)
+network_is document d = record {
   id = (integer_at-within (codes "id") 0 65535 0 d (omega arith) (omega arith)).most;
   name = text_at-is 200 (codes "name") d;
-  descriptors = descriptors-is (codes "descriptors") d;
+  descriptors = two_are 700 72 _ (described_channels (programs_of document)) (descriptors-is (codes "descriptors") d) (channels_are (programs_of document));
 }
 
 pub event_is : (d : Data) → IsEvent (described_event d)

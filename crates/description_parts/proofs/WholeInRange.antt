@@ -14,8 +14,8 @@ use Rattle.description_parts.specs.Ranges.{IsInRange, IsNetwork, IsProgram, IsSt
 use Rattle.description_parts.specs.Ranges.{longest_section}
 use Rattle.description_parts.specs.Tables.{only_if, has_event, service_tables, table_kinds, pmt_length, nit_length, sdt_length, numbers_from}
 use Rattle.description_values.specs.Values.{is_distinct}
-use Rattle.description_keys.specs.ProgramKeys.{program_number}
-use Rattle.description_keys.specs.StreamKeys.{owner_number, has_number, declares, has_owner, has_sharers, stream_sharers}
+use Rattle.description_keys.specs.ProgramKeys.{has_number, program_number}
+use Rattle.description_keys.specs.StreamKeys.{owner_number, declares, has_owner, has_sharers, stream_sharers}
 use Rattle.description_parts.specs.Contents.{described, described_network, described_program, described_stream, described_entry, described_table}
 use Rattle.description_keys.specs.TableKeys.{is_listed}
 use Rattle.description_parts.specs.Consistency.{is_too_long, first_place, equal_pids_fault, equal_numbers_fault, event_order_fault, too_long_fault, joint_fault}
@@ -151,9 +151,9 @@ tables_declared d none =
 within_trans : {a b c : ℕ} → a ≤ b → b ≤ c → a ≤ c
 within_trans h k = omega arith
 
-network_in_range : (o : Option Data) → All IsNetwork (option_to_list (option_map described_network o))
-network_in_range None = All-nil IsNetwork
-network_in_range (Some n) = All-cons IsNetwork (described_network n) [] (network_is n) (All-nil IsNetwork)
+network_in_range : (document : Data) (o : Option Data) → All IsNetwork (option_to_list (option_map (described_network document) o))
+network_in_range document None = All-nil IsNetwork
+network_in_range document (Some n) = All-cons IsNetwork (described_network document n) [] (network_is document n) (All-nil IsNetwork)
 
 -- A document that is not refused describes values in range.
 pub described-in_range : (document : Data) → key_fault document ≡ None → joint_fault (described document) document ≡ None → IsInRange (described document)
@@ -174,7 +174,7 @@ described-in_range document keys joint =
       base0 = omega (arith, base0);
       transport_stream_id = (integer_at-within (codes "ts_id") 0 65535 0 document (omega arith) (omega arith)).most;
       original_network_id = (integer_at-within (codes "original_network_id") 0 65535 0 document (omega arith) (omega arith)).most;
-      network = network_in_range (network_of document);
+      network = network_in_range document (network_of document);
       some_programs = counts.some_programs;
       most_programs = counts.most_programs;
       programs = All-map IsProgram (described_program document) (programs_of document)

@@ -1,8 +1,9 @@
 -- What a document describes: each key's value, with the least value of its range if the key is refused. (The
 -- document is refused then, and no description has that value.)
-use Rattle.std.specs.Prelude.{ℕ, Bool, false, List, [], Option, None, Some, map, filter, unwrap_or, option_map, codes, if◌then◌else◌}
+use Rattle.std.specs.Prelude.{ℕ, Bool, false, List, [], ◌++◌, Option, None, Some, map, filter, unwrap_or, option_map, codes, if◌then◌else◌}
 use Rattle.std.specs.List.{filter_map}
 use Rattle.toml.specs.Data.{Data}
+use Rattle.description_parts.specs.Channels.{described_channels}
 use Rattle.description_parts.specs.Described.{Described, DescribedNetwork, DescribedProgram, DescribedStream, DescribedEvent, DescribedEntry, DescribedTable}
 use Rattle.description_values.specs.Values.{elements, section_in}
 use Rattle.description_keys.specs.TopKeys as top
@@ -16,11 +17,12 @@ use Rattle.description_keys.specs.EventKeys.{event_id, event_start, event_durati
 use Rattle.description_keys.specs.TableKeys.{private_pid, private_limit, is_listed, entry_type, entry_descriptors}
 use Rattle.description_keys.specs.Refusals.{network_of, programs_of, streams_of, events_of, tables_of}
 
-abbrev pub described_network : Data → DescribedNetwork
-described_network network = record {
+-- the declared descriptors of the network's transport stream, and the channels of its services
+abbrev pub described_network : Data → Data → DescribedNetwork
+described_network document network = record {
   id = unwrap_or (network_id network) 0;
   name = unwrap_or (network_name network) [];
-  descriptors = unwrap_or (network_descriptors network) [];
+  descriptors = unwrap_or (network_descriptors network) [] ++ described_channels (programs_of document);
 }
 
 -- three letters in place of a language that is refused
@@ -107,7 +109,7 @@ described document = record {
   original_network_id = unwrap_or (top.original_network_id document) 0;
   has_sdt = unwrap_or (top.has_sdt document) false;
   has_tdt = unwrap_or (top.has_tdt document) false;
-  network = option_map described_network (network_of document);
+  network = option_map (described_network document) (network_of document);
   programs = map (described_program document) (programs_of document);
   streams = map described_stream (streams_of document);
   tables = map described_table (tables_of document);

@@ -2,5 +2,6 @@ pub mod Described
 pub mod Tables
 pub mod Ranges
 pub mod Shown
+pub mod Channels
 pub mod Contents
 pub mod Consistency

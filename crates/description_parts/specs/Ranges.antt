@@ -32,7 +32,7 @@ last_moment = 2145916799
 pub record IsNetwork (n : DescribedNetwork) : Type 0 where
   pub id : n.id ≤ 65535
   pub name : IsBytes 200 n.name
-  pub descriptors : IsBytes 700 n.descriptors
+  pub descriptors : IsBytes 772 n.descriptors
 
 pub record IsEvent (e : DescribedEvent) : Type 0 where
   pub id : e.id ≤ 65535

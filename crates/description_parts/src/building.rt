@@ -1,20 +1,24 @@
 //! The contents of a document, key by key.
 
-ghost use Rattle.std.specs.Prelude.{◌≡◌, map, option_map, unwrap_or, None, IfOk};
+ghost use Rattle.std.specs.Prelude.{◌≡◌, ◌++◌, [], map, option_map, unwrap_or, None, IfOk};
 ghost use Rattle.std.specs.List.{filter_map};
 ghost use Rattle.toml.specs.View.{view};
 ghost use Rattle.description_values.specs.Values.{section_in};
 ghost use Rattle.description_parts.specs.Described.{event_view};
+ghost use Rattle.description_keys.specs.NetworkKeys.{network_descriptors};
 ghost use Rattle.description_keys.specs.TopKeys as top;
 ghost use Rattle.description_keys.specs.Refusals as refusals;
+ghost use Rattle.description_parts.specs.Channels.{described_channels};
 ghost use Rattle.description_parts.specs.Contents as spec;
 
+use crate::channels::{append, push_channels};
 use crate::contents::Contents;
 use crate::map_entry::MapEntry;
-use crate::network::Network;
+use crate::network::{Network, NetworkDescriptors};
 use crate::private_table::PrivateTable;
 use crate::program::ProgramDescription;
 use crate::stream::StreamDescription;
+use arrayvec::ArrayVec;
 use clock27::Rate;
 use description_keys::frame_keys::framing;
 use description_keys::multiplexing_keys::multiplexing;
@@ -34,13 +38,25 @@ use dvb_tables::Event;
 use std::alloc::{AllocError, Global};
 use toml::Value;
 
-fn network_of(network: &Value) -> Network
-    ensures { result ≡ spec.described_network (view network.now) }
+// Returns the declared descriptors of the network's transport stream, and the channels of its services.
+fn network_descriptors(document: &Value, network: &Value) -> NetworkDescriptors
+    ensures { result ≡ unwrap_or (network_descriptors (view network.now)) []
+        ++ described_channels (refusals.programs_of (view document.now)) }
+{
+    let declared = descriptors_or_none(network, "descriptors").unwrap_or(DescriptorLoop::none());
+    let mut bytes = ArrayVec::new();
+    append(&mut bytes, declared.as_bytes());
+    push_channels(&mut bytes, elements(document, "program"));
+    NetworkDescriptors { bytes }
+}
+
+fn network_of(document: &Value, network: &Value) -> Network
+    ensures { result ≡ spec.described_network (view document.now) (view network.now) }
 {
     Network {
         id: number_at(network, "id", 0, 65_535) as u16,
         name: text_at(network, "name").unwrap_or(empty_text()),
-        descriptors: descriptors_or_none(network, "descriptors").unwrap_or(DescriptorLoop::none()),
+        descriptors: network_descriptors(document, network),
     }
 }
 
@@ -194,11 +210,11 @@ fn tables_of(alloc: Global, parts: &[Value]) -> Result<Vec<PrivateTable>, AllocE
 }
 
 fn network_in(document: &Value) -> Option<Network>
-    ensures { result ≡ option_map spec.described_network (refusals.network_of (view document.now)) }
+    ensures { result ≡ option_map (spec.described_network (view document.now)) (refusals.network_of (view document.now)) }
 {
     match document.get("network") {
         None => None,
-        Some(network) => Some(network_of(network)),
+        Some(network) => Some(network_of(document, network)),
     }
 }
 

@@ -19,11 +19,12 @@ pub mod table_kind;
 
 // Parts of a document, and whether they are consistent.
 pub mod building;
+mod channels;
 pub mod consistency;
 
 pub use contents::Contents;
 pub use map_entry::MapEntry;
-pub use network::Network;
+pub use network::{Network, NetworkDescriptors};
 pub use private_table::PrivateTable;
 pub use program::ProgramDescription;
 pub use stream::StreamDescription;

@@ -136,7 +136,7 @@ fn longest_event(events: &[Event]) -> usize
 
 fn nit_length(network: &Network) -> usize
     ensures value { result ≡ spec.nit_length network.now }
-    ensures bound { result ≤ 924 }
+    ensures bound { result ≤ 996 }
 {
     24 + network.name.as_bytes().len() + network.descriptors.as_bytes().len()
 }

@@ -1,7 +1,7 @@
 use Rattle.std.proofs.Common.{sym, ◌∙◌, ap}
 use Rattle.std.specs.List.{list_any}
 use Rattle.toml.specs.View.{view}
-use Rattle.description_keys.specs.StreamKeys.{has_number}
+use Rattle.description_keys.specs.ProgramKeys.{has_number}
 use Rattle.description_values.proofs.Elements.{list_any-map}
 use Rattle.description_keys.proofs.owner.declares.Goals as goal
 

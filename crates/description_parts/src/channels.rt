@@ -1,0 +1,79 @@
+//! The channel numbers of the services of a network, as descriptors of its transport stream.
+
+ghost use Rattle.std.specs.Prelude.{◌≡◌, ◌≤◌, ◌+◌, ◌++◌, length, map};
+ghost use Rattle.arrayvec.specs.ArrayVec.{array_vec_len};
+ghost use Rattle.toml.specs.View.{view};
+ghost use Rattle.description_parts.specs.Channels as spec;
+
+use arrayvec::ArrayVec;
+use description_keys::channels::channel_of;
+use description_keys::owner::program_number;
+use toml::Value;
+
+// Appends the entry of a service in the logical_channel_descriptor.
+fn push_entry(out: &mut ArrayVec<u8, 64>, number: u16, channel: u16)
+    requires room { array_vec_len out.old + 4 ≤ 64 }
+    requires channel { channel ≤ 1023 }
+    ensures { out.new.items ≡ out.old.items ++ spec.channel_entry number channel }
+{
+    out.push((number >> 8) as u8);
+    out.push((number & 0xff) as u8);
+    out.push(0xfc + (channel >> 8) as u8);
+    out.push((channel & 0xff) as u8);
+}
+
+// Appends the entry of a program, if it has a channel.
+fn push_channel(out: &mut ArrayVec<u8, 64>, program: &Value)
+    requires room { array_vec_len out.old + 4 ≤ 64 }
+    ensures value { out.new.items ≡ out.old.items ++ spec.entry_of (view program.now) }
+    ensures most { length out.new.items ≤ length out.old.items + 4 }
+{
+    if let Some(channel) = channel_of(program) {
+        push_entry(out, program_number(program).unwrap_or(1), channel);
+    }
+}
+
+fn entries_of(programs: &[Value]) -> ArrayVec<u8, 64>
+    requires { length programs.now ≤ 16 }
+    ensures { result.items ≡ spec.channel_entries (map view programs.now) }
+{
+    let mut out = ArrayVec::new();
+    for program in programs {
+        push_channel(&mut out, program);
+    }
+    out
+}
+
+/// Appends bytes that have room.
+pub(crate) fn append(out: &mut ArrayVec<u8, 772>, bytes: &[u8])
+    requires { array_vec_len out.old + length bytes.now ≤ 772 }
+    ensures { out.new.items ≡ out.old.items ++ bytes.now }
+{
+    match out.try_extend_from_slice(bytes) {
+        Ok(()) => {}
+        Err(_) => unreachable!(),
+    }
+}
+
+// Appends the two descriptors, if there is an entry.
+fn push_descriptors(out: &mut ArrayVec<u8, 772>, entries: &[u8])
+    requires few { length entries.now ≤ 64 }
+    requires room { array_vec_len out.old ≤ 700 }
+    ensures { out.new.items ≡ out.old.items ++ spec.channel_descriptors entries.now }
+{
+    if entries.is_empty() {
+        return;
+    }
+    append(out, &[0x5f, 4, 0, 0, 0, 0x28, 0x83, entries.len() as u8]);
+    append(out, entries);
+}
+
+/// Appends the channel numbers of the programs, if there are at most 16.
+pub(crate) fn push_channels(out: &mut ArrayVec<u8, 772>, programs: &[Value])
+    requires { array_vec_len out.old ≤ 700 }
+    ensures { out.new.items ≡ out.old.items ++ spec.described_channels (map view programs.now) }
+{
+    if programs.len() <= 16 {
+        push_descriptors(out, entries_of(programs).as_slice());
+    }
+}
