@@ -8,7 +8,7 @@ use Rattle.description_values.specs.Values.{optional_language, sections_at, tabl
 use Rattle.description_keys.specs.ProgramKeys.{refuses_channel}
 use Rattle.description_keys.specs.Refusals.{is_no_table}
 use Rattle.description_keys.specs.Rules.{Rule, rule}
-use Rattle.description_keys.specs.StreamKeys.{has_owner, has_sharers, refuses_burst_packets, refuses_frame, refuses_frame_size, refuses_frames}
+use Rattle.description_keys.specs.StreamKeys.{has_frame_left, has_owner, has_sharers, refuses_burst_packets, refuses_frame, refuses_frame_size, refuses_frames}
 use Rattle.description_keys.specs.StreamKeys.{refuses_group, refuses_group_packets, refuses_mb, refuses_pace, refuses_rbx, stream_id, stream_main}
 use Rattle.description_keys.specs.StreamKeys.{stream_rx, stream_size}
 use Rattle.description_keys.specs.TableKeys.{entry_descriptors, entry_type, is_listed}
@@ -61,6 +61,7 @@ refuses_jointly joint.Mb document d = refuses_mb d
 refuses_jointly joint.Frames document d = refuses_frames d
 refuses_jointly joint.Frame document d = refuses_frame d
 refuses_jointly joint.FrameSize document d = refuses_frame_size d
+refuses_jointly joint.FrameLeft document d = not (has_frame_left d)
 refuses_jointly joint.EntryProgram document d = is_listed d && not (has_owner document d)
 refuses_jointly joint.EntryType document d = is_listed d && is_none (entry_type d)
 refuses_jointly joint.EntryDescriptors document d = is_listed d && is_none (entry_descriptors d)

@@ -1,11 +1,13 @@
 -- The keys of a table of the array `stream`.
-use Rattle.std.specs.Prelude.{ℕ, pos, ◌+◌, ◌-◌, ◌*◌, ◌/◌, max, ◌&&◌, ◌||◌, ◌==◌, not, nat_le, Bool, true, false, List, [], ◌∷◌, length, Option, None, Some}
-use Rattle.std.specs.Prelude.{codes, is_none, is_some, unwrap_or, option_and_then, if◌then◌else◌}
+use Rattle.std.specs.Prelude.{ℕ, pos, ◌+◌, ◌-◌, ◌*◌, ◌/◌, max, ◌&&◌, ◌||◌, ◌==◌, not, nat_le, Bool, true, false, List, [], ◌∷◌, ◌++◌, length, Option, None, Some}
+use Rattle.std.specs.Prelude.{codes, is_none, is_some, unwrap_or, option_and_then, replicate, if◌then◌else◌}
 use Rattle.std.specs.List.{list_any, list_all, filter_map}
 use Rattle.toml.specs.Data.{Data, get}
 use Rattle.unit_timing.specs.declared.allowance.Allowance.{Allowance}
 use Rattle.unit_timing.specs.declared.allowance.Allowance.TheVariants as allowance
-use Rattle.unit_timing.specs.declared.framing.Framing.{Framing}
+use Rattle.unit_timing.specs.declared.framing.FrameDeclaration.{FrameDeclaration}
+use Rattle.unit_timing.specs.declared.framing.LastBytes.{LastBytes}
+use Rattle.unit_timing.specs.declared.framing.LastBytes.TheVariants.{Each, Sums}
 use Rattle.unit_timing.specs.declared.multiplexing_buffer.MultiplexingBuffer.{MultiplexingBuffer}
 use Rattle.description_values.specs.Values.{at_key, integer_in, integer_at, integer_or, optional_integer, optional_language, descriptors_or_none, elements}
 use Rattle.description_values.specs.Values.{array_in, is_distinct}
@@ -191,19 +193,32 @@ refuses_mb stream = has_multiplexing stream && is_none (stream_mb stream)
 
 -- the access units of a unit that is a PES packet of several: each is removed from the main buffer at its own decoding time
 -- (ISO/IEC 13818-1, 2.4.2.3; 2.7.5 for access units without a stamp). `frames` is the most access units in a unit, `frame` the
--- longest time from one to the next, and `frame_size` the greatest size except the first in a unit, which has the header too. A
--- stream has all three keys, or none: without `frame_size`, the only bound on the bytes that remain when some access units are gone
--- is the whole unit
+-- longest time from one to the next. Their sizes are `frame_size`, the greatest size except the first in a unit, which has the header
+-- too, or `frame_left`, the most bytes of the last 1, 2, .. access units of a unit that has more. `frame_rest` is the least time from
+-- the last access unit of a unit to the next unit; without it, units of most access units are an interval apart
+abbrev pub has_rest : Data → Bool
+has_rest stream = is_some (get (codes "frame_rest") stream)
+
+abbrev pub has_left : Data → Bool
+has_left stream = is_some (get (codes "frame_left") stream)
+
+-- a stream has none of these keys, or `frames`, `frame`, and one of the keys of sizes: without it, the only bound on the bytes that
+-- remain when some access units are gone is the whole unit
 abbrev pub has_framing : Data → Bool
 has_framing stream = is_some (get (codes "frames") stream) || is_some (get (codes "frame") stream) || is_some (get (codes "frame_size") stream)
+    || has_rest stream || has_left stream
 
 abbrev pub stream_frames : Data → Option ℕ
 stream_frames = integer_at (codes "frames") (pos 1) (pos 64)
 
--- the longest time from one access unit to the next: the last of a unit is due by the time of the next unit at the latest. It is
--- a fact of the stream, so a range of this key and no condition on a plan
+-- the access units of a unit but one
+abbrev pub other_frames : Data → ℕ
+other_frames stream = unwrap_or (stream_frames stream) 1 - 1
+
+-- the longest time from one access unit to the next: without `frame_rest`, the last of a unit is due by the time of the next unit at
+-- the latest. It is a fact of the stream, so a range of this key and no condition on a plan
 abbrev pub greatest_frame : Data → ℕ
-greatest_frame stream = unwrap_or (stream_interval stream) 1 / max (unwrap_or (stream_frames stream) 1 - 1) 1
+greatest_frame stream = if has_rest stream then 90000 else unwrap_or (stream_interval stream) 1 / max (other_frames stream) 1
 
 -- in units of 90 kHz
 abbrev pub stream_frame : Data → Option ℕ
@@ -213,15 +228,55 @@ stream_frame stream = integer_at (codes "frame") (pos 1) (pos (greatest_frame st
 abbrev pub stream_frame_size : Data → Option ℕ
 stream_frame_size stream = integer_at (codes "frame_size") (pos 1) (pos (unwrap_or (stream_size stream) 1)) stream
 
+-- in units of 90 kHz
+abbrev pub stream_frame_rest : Data → Option (Option ℕ)
+stream_frame_rest = optional_integer (codes "frame_rest") (pos 0) (pos 90000)
+
+-- what an interval leaves after most access units, if the key is absent
+abbrev pub rest_of : Data → ℕ
+rest_of stream = unwrap_or (unwrap_or (stream_frame_rest stream) None)
+    (unwrap_or (stream_interval stream) 1 - other_frames stream * unwrap_or (stream_frame stream) 0)
+
+-- in bytes
+abbrev pub bytes_in : Data → Data → Option ℕ
+bytes_in stream = integer_in (pos 1) (pos (unwrap_or (stream_size stream) 1))
+
+-- no number is less than one before it
+abbrev pub never_falls : List ℕ → Bool
+never_falls [] = true
+never_falls (n ∷ ns) = list_all (λ m. nat_le n m) ns && never_falls ns
+
+-- a number for each access unit of a unit but one
+abbrev pub are_frame_left : Data → Data → Bool
+are_frame_left stream d = elim (array_in d) [
+  | None ↦ false
+  | Some ds ↦ length ds == other_frames stream && (list_all (λ d. is_some (bytes_in stream d)) ds && never_falls (filter_map (bytes_in stream) ds))
+]
+
+abbrev pub has_frame_left : Data → Bool
+has_frame_left stream = elim (get (codes "frame_left") stream) [ None ↦ true | Some value ↦ are_frame_left stream value ]
+
+-- 63 numbers: these, and zeros
+abbrev pub padded : List ℕ → List ℕ
+padded numbers = numbers ++ replicate (63 - length numbers) 0
+
+abbrev pub frame_left_of : Data → List Data → List ℕ
+frame_left_of stream ds = padded (if nat_le (length ds) 63 then filter_map (bytes_in stream) ds else [])
+
+abbrev pub last_bytes : Data → LastBytes
+last_bytes stream = if has_left stream then Sums (frame_left_of stream (elements (codes "frame_left") stream))
+    else Each (unwrap_or (stream_frame_size stream) 1)
+
 -- the declared framing; a key that is refused has the least value: one access unit, of one byte, and no time
-abbrev pub framing_of : Data → Framing
+abbrev pub framing_of : Data → FrameDeclaration
 framing_of stream = record {
   frames = unwrap_or (stream_frames stream) 1;
   frame = unwrap_or (stream_frame stream) 0;
-  frame_size = unwrap_or (stream_frame_size stream) 1;
+  rest = rest_of stream;
+  left = last_bytes stream;
 }
 
-abbrev pub stream_framing : Data → Option Framing
+abbrev pub stream_framing : Data → Option FrameDeclaration
 stream_framing stream = if has_framing stream then Some (framing_of stream) else None
 
 -- a key is refused that is absent beside another, or out of its range
@@ -231,8 +286,12 @@ refuses_frames stream = has_framing stream && is_none (stream_frames stream)
 abbrev pub refuses_frame : Data → Bool
 refuses_frame stream = has_framing stream && is_none (stream_frame stream)
 
+-- `frame_size` is refused beside `frame_left`
+abbrev pub refuses_size : Data → Bool
+refuses_size stream = if has_left stream then is_some (get (codes "frame_size") stream) else is_none (stream_frame_size stream)
+
 abbrev pub refuses_frame_size : Data → Bool
-refuses_frame_size stream = has_framing stream && is_none (stream_frame_size stream)
+refuses_frame_size stream = has_framing stream && refuses_size stream
 
 -- the rules of the keys, by their numbers but for those from 84 on
 abbrev pub stream_rules : List Rule
@@ -253,4 +312,6 @@ stream_rules = rule part.Stream 41 (codes "program") (λ document stream. not (h
     ∷ rule part.Stream 84 (codes "frames") (λ document stream. refuses_frames stream)
     ∷ rule part.Stream 85 (codes "frame") (λ document stream. refuses_frame stream)
     ∷ rule part.Stream 86 (codes "frame_size") (λ document stream. refuses_frame_size stream)
-    ∷ needs part.Stream 87 (codes "pts_limit") stream_pts_limit ∷ []
+    ∷ needs part.Stream 87 (codes "pts_limit") stream_pts_limit
+    ∷ needs part.Stream 100 (codes "frame_rest") stream_frame_rest
+    ∷ rule part.Stream 101 (codes "frame_left") (λ document stream. not (has_frame_left stream)) ∷ []

@@ -55,6 +55,7 @@ pub enum JointKey {
     Frames,
     Frame,
     FrameSize,
+    FrameLeft,
     EntryProgram,
     EntryType,
     EntryDescriptors,

@@ -5,8 +5,8 @@ ghost use Rattle.description_keys.specs.KeyRows.{keys, row_of, rule_of, view};
 ghost use Rattle.description_keys.specs.Refusals.{rules};
 
 use crate::key_row::JointKey::{
-    BurstPackets, Channel, EntryDescriptors, EntryProgram, EntryType, Frame, FrameSize, Frames,
-    Group, GroupPackets, Main, Mb, Pace, Rbx, Rx, SharedWith, Size, StreamId,
+    BurstPackets, Channel, EntryDescriptors, EntryProgram, EntryType, Frame, FrameLeft, FrameSize,
+    Frames, Group, GroupPackets, Main, Mb, Pace, Rbx, Rx, SharedWith, Size, StreamId,
 };
 use crate::key_row::KeyKind::{
     Descriptors, Flag, Joint, Language, LanguageIfAny, Moment, Number, NumberIfAny, NumberOr,
@@ -16,7 +16,7 @@ use crate::key_row::KeyPart::{Document, Event, Network, Program, Stream, Table};
 use crate::key_row::{KeyRow, Row};
 
 /// All keys, in the order of their refusals: a table or an array before its keys.
-pub const KEYS: [KeyRow; 60] = [
+pub const KEYS: [KeyRow; 62] = [
     Row(
         Document,
         10,
@@ -147,21 +147,21 @@ pub const KEYS: [KeyRow; 60] = [
         84,
         "frames",
         Joint(Frames),
-        "1 to 64 access units, beside frame and frame_size",
+        "1 to 64 access units, beside frame and frame_size or frame_left",
     ),
     Row(
         Stream,
         85,
         "frame",
         Joint(Frame),
-        "1 to interval / (frames - 1) units of 90 kHz, beside frames and frame_size",
+        "1 to interval / (frames - 1), with frame_rest to 90000, units of 90 kHz, beside frames and frame_size or frame_left",
     ),
     Row(
         Stream,
         86,
         "frame_size",
         Joint(FrameSize),
-        "1 to size bytes, beside frames and frame",
+        "1 to size bytes, beside frames and frame, without frame_left",
     ),
     Row(
         Stream,
@@ -169,6 +169,20 @@ pub const KEYS: [KeyRow; 60] = [
         "pts_limit",
         NumberOr(90_000, 1, 5_400_000),
         " units of 90 kHz",
+    ),
+    Row(
+        Stream,
+        100,
+        "frame_rest",
+        NumberIfAny(0, 90_000),
+        " units of 90 kHz",
+    ),
+    Row(
+        Stream,
+        101,
+        "frame_left",
+        Joint(FrameLeft),
+        "frames - 1 numbers of 1 to size bytes, none less than the one before, beside frames and frame",
     ),
     Row(Document, 60, "event", Tables(0, 256), ""),
     Row(Event, 61, "program", Owner, ""),

@@ -6,7 +6,7 @@ ghost use Rattle.description_keys.specs.KeyRows as spec;
 ghost use Rattle.description_keys.specs.Refusals.{parts_of};
 
 use crate::channels::refuses_channel;
-use crate::frame_keys::{refuses_frame, refuses_frame_size, refuses_frames};
+use crate::frame_keys::{has_frame_left, refuses_frame, refuses_frame_size, refuses_frames};
 use crate::key_row::{JointKey, KeyKind, KeyRow};
 use crate::multiplexing_keys::{refuses_mb, refuses_rbx};
 use crate::owner::has_owner;
@@ -44,6 +44,7 @@ fn refuses_jointly(key: JointKey, document: &Value, part: &Value) -> bool
         JointKey::Frames => refuses_frames(part),
         JointKey::Frame => refuses_frame(part),
         JointKey::FrameSize => refuses_frame_size(part),
+        JointKey::FrameLeft => !has_frame_left(part),
         JointKey::EntryProgram => is_listed(part) && !has_owner(document, part),
         JointKey::EntryType => is_listed(part) && entry_type(part).is_none(),
         JointKey::EntryDescriptors => is_listed(part) && entry_descriptors(part).is_none(),

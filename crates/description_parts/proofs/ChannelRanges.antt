@@ -1,15 +1,14 @@
 -- The descriptors of channel numbers are bytes, at most 72.
 use Rattle.std.proofs.Common.{◌≡◌, ℕ, pos, ◌+◌, ◌*◌, ◌/◌, ◌%◌, ◌≤◌, ◌<◌, nat_le, Bool, true, false, List, [], ◌∷◌, ◌++◌, length, Option, None, Some, IfSome}
-use Rattle.std.proofs.Common.{unwrap_or, option_map, refl, arith, if◌then◌else◌, All, codes, length-append}
+use Rattle.std.proofs.Common.{unwrap_or, refl, arith, if◌then◌else◌, All, codes, length-append}
 use Rattle.std.proofs.lemmas.Bool.{leb-true}
 use Rattle.std.proofs.lemmas.List.Elements.{All-append, All-from_recursion}
 use Rattle.std.specs.List.{flat_map}
 use Rattle.toml.specs.Data.{Data}
-use Rattle.description_values.specs.Values.{integer_in}
-use Rattle.description_keys.specs.ProgramKeys.{channel_of, program_channel, program_number}
+use Rattle.description_keys.specs.ProgramKeys.{channel_of, program_number}
 use Rattle.description_parts.specs.Channels.{channel_descriptors, channel_entries, channel_entry, described_channels, entry_of}
 use Rattle.description_parts.specs.Ranges.{IsBytes}
-use Rattle.description_parts.proofs.KeyRanges.{Within, at_key-all, holds_of, integer_at-within, integer_in-within, map_all}
+use Rattle.description_parts.proofs.KeyRanges.{Within, integer_at-within, optional_integer-within}
 use Rattle.description_parts.proofs.TextRanges.{no_bytes}
 
 -- Bytes, and bytes after them
@@ -19,26 +18,20 @@ two_are a b xs ys x y = record {
   octets = All-append (λ n. n < 256) xs ys x.octets y.octets;
 }
 
-channel_is : (d : Data) → IfSome (channel_of d) (λ n. n ≤ 1023)
-channel_is d =
-    holds_of (λ o. IfSome o (λ n. n ≤ 1023)) (program_channel d) None
-    (at_key-all (λ o. IfSome o (λ n. n ≤ 1023)) (codes "lcn") (Some None) (λ v. option_map Some (integer_in (pos 1) (pos 1023) v)) d tt
-    (λ v. map_all (λ o. IfSome o (λ n. n ≤ 1023)) (Within 1 1023) Some (integer_in (pos 1) (pos 1023) v) (λ n w. w.most) (integer_in-within 1 1023 v)))
-    tt
-
 one_is : (number channel : ℕ) → number ≤ 65535 → channel ≤ 1023 → IsBytes 4 (channel_entry number channel)
 one_is number channel n c = record {
   fits = omega arith;
   octets = All-from_recursion (λ x. x < 256) (channel_entry number channel) (omega (arith, n), (omega arith, (omega (arith, c), (omega arith, tt))));
 }
 
-entry_by : (number : ℕ) (o : Option ℕ) → number ≤ 65535 → IfSome o (λ n. n ≤ 1023) → IsBytes 4 (elim o [ None ↦ [] | Some channel ↦ channel_entry number channel ])
+entry_by : (number : ℕ) (o : Option ℕ) → number ≤ 65535 → IfSome o (Within 1 1023) → IsBytes 4 (elim o [ None ↦ [] | Some channel ↦ channel_entry number channel ])
 entry_by number None n c = no_bytes 4
-entry_by number (Some channel) n c = one_is number channel n c
+entry_by number (Some channel) n c = one_is number channel n c.most
 
 entry_is : (d : Data) → IsBytes 4 (entry_of d)
 entry_is d =
-    entry_by (unwrap_or (program_number d) 1) (channel_of d) (integer_at-within (codes "number") 1 65535 1 d (omega arith) (omega arith)).most (channel_is d)
+    entry_by (unwrap_or (program_number d) 1) (channel_of d) (integer_at-within (codes "number") 1 65535 1 d (omega arith) (omega arith)).most
+    (optional_integer-within (codes "lcn") 1 1023 d)
 
 entries_are : (ds : List Data) → IsBytes (4 * length ds) (channel_entries ds)
 entries_are [] = no_bytes 0

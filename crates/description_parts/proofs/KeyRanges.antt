@@ -5,7 +5,7 @@ use Rattle.std.proofs.lemmas.Bool.Decides.{nat_tests}
 use Rattle.toml.specs.Data.{Data, get, as_integer, as_str}
 use Rattle.description_values.specs.Moments.{has_time_shape, text_seconds, moment_of, moment_in, moment_at}
 use Rattle.description_parts.specs.Ranges.{last_moment}
-use Rattle.description_values.specs.Values.{at_key, in_range, integer_in, integer_at, integer_or}
+use Rattle.description_values.specs.Values.{at_key, in_range, integer_in, integer_at, integer_or, optional_integer}
 
 -- A number from `low` to `high`
 pub record Within (low high n : ℕ) : Type 0 where
@@ -61,6 +61,15 @@ integer_or-within key low high default other d dl dh l h =
     holds_of (Within low high) (integer_or default key (pos low) (pos high) d) other
     (at_key-all (Within low high) key (Some default) (integer_in (pos low) (pos high)) d (record { least = dl; most = dh }) (integer_in-within low high))
     (record { least = l; most = h })
+
+-- The number at a key that may be absent
+pub optional_integer-within : (key : List ℕ) (low high : ℕ) (d : Data)
+    → IfSome (unwrap_or (optional_integer key (pos low) (pos high) d) None) (Within low high)
+optional_integer-within key low high d =
+    holds_of (λ o. IfSome o (Within low high)) (optional_integer key (pos low) (pos high) d) None
+    (at_key-all (λ o. IfSome o (Within low high)) key (Some None) (λ v. option_map Some (integer_in (pos low) (pos high) v)) d tt
+    (λ v. map_all (λ o. IfSome o (Within low high)) (Within low high) Some (integer_in (pos low) (pos high) v) (λ n w. w) (integer_in-within low high v)))
+    tt
 
 pub if_all : {X : Type 0} (P : X → Type 0) (b : Bool) (o : Option X) → IfSome o P → IfSome (if b then o else None) P
 if_all P true o h = h

@@ -1,30 +1,32 @@
 -- Each part of a description is in its ranges.
 use Rattle.std.proofs.Common.{◌≡◌, ℕ, pos, suc, zero, ◌≤◌, ◌<◌, ◌-◌, ◌*◌, ◌/◌, max, ◌==◌, nat_le, Bool, true, false, List, [], ◌∷◌, length, filter, get_or}
-use Rattle.std.proofs.Common.{Option, None, Some, IfSome, unwrap_or, option_map, refl, arith, if◌then◌else◌, All, codes, inl, inr, is_none}
-use Rattle.std.proofs.Math.Nat.{le_trans, div-le_self, mul-div-le, mul-le-mul_left, mul-le-mul_right}
+use Rattle.std.proofs.Common.{Option, None, Some, IfSome, unwrap_or, option_map, refl, arith, if◌then◌else◌, All, codes, inl, inr, is_none, replicate}
+use Rattle.std.proofs.Math.Nat.{le_trans, div-le_self}
 use Rattle.std.proofs.lemmas.Bool.{leb-true, or_cases, eqb-true}
-use Rattle.std.proofs.lemmas.List.Elements.{All-nil, All-cons, All-map, All-weaker}
+use Rattle.std.proofs.lemmas.List.Elements.{All-nil, All-cons, All-map, All-weaker, All-append, All-replicate}
 use Rattle.std.specs.Option.{option_to_list}
 use Rattle.std.specs.List.{filter_map, cons_option}
 use Rattle.toml.specs.Data.{Data, get}
 use Rattle.unit_timing.specs.declared.allowance.Allowance.{Allowance}
-use Rattle.unit_timing.specs.declared.framing.Framing.{Framing}
+use Rattle.unit_timing.specs.declared.framing.FrameDeclaration.{FrameDeclaration}
+use Rattle.unit_timing.specs.declared.framing.LastBytes.TheVariants.{Each, Sums}
 use Rattle.unit_timing.specs.declared.multiplexing_buffer.MultiplexingBuffer.{MultiplexingBuffer}
 use Rattle.description_parts.specs.Ranges.{IsPid, IsBytes, IsNetwork, IsEvent, IsProgram, IsStreamId, IsGroups, IsPace, IsAllowance, IsMultiplexingBuffer}
-use Rattle.description_parts.specs.Ranges.{IsFraming, IsStream, IsEntry, IsTable}
+use Rattle.description_parts.specs.Ranges.{AreLastBytes, IsFraming, IsStream, IsEntry, IsTable}
 use Rattle.description_values.specs.Values.{integer_in, integer_at, elements, is_one_section, section_in}
 use Rattle.description_keys.specs.StreamKeys.{is_owned_by, sharers_of, stream_sharers, number_in, is_stream_id, stream_id, is_video_id, id_or_private}
 use Rattle.description_keys.specs.StreamKeys.{greatest_size, leaves_out_buffers, stream_rx, stream_main, stream_size, stream_tag, stream_group, unit_packets}
 use Rattle.description_keys.specs.StreamKeys.{greatest_group_packets, stream_group_packets, is_paced, stream_burst_packets, stream_pace, stream_allowance}
 use Rattle.description_keys.specs.StreamKeys.{has_multiplexing, greatest_rbx, multiplexing_of, has_framing, greatest_frame, stream_frame, stream_interval}
-use Rattle.description_keys.specs.StreamKeys.{stream_frames, framing_of}
+use Rattle.description_keys.specs.StreamKeys.{stream_frame_size, stream_frame_rest, other_frames, has_rest, has_left, bytes_in, padded, frame_left_of, framing_of}
 use Rattle.description_parts.specs.Contents.{described_network, described_event, described_number, described_program, described_stream, described_sections}
 use Rattle.description_parts.specs.Contents.{described_entry, described_table}
 use Rattle.description_parts.specs.Channels.{described_channels}
 use Rattle.description_parts.specs.Described.{DescribedEntry}
 use Rattle.description_keys.specs.TableKeys.{is_listed}
 use Rattle.description_keys.specs.Refusals.{events_of, programs_of}
-use Rattle.description_parts.proofs.KeyRanges.{Within, holds_of, at_key-all, map_all, integer_in-within, integer_at-within, integer_or-within, moment_at-within}
+use Rattle.description_parts.proofs.KeyRanges.{Within, holds_of, at_key-all, integer_in-within, integer_at-within, integer_or-within, optional_integer-within}
+use Rattle.description_parts.proofs.KeyRanges.{moment_at-within}
 use Rattle.description_parts.proofs.TextRanges.{text_at-is, text_or-is, descriptors-is, descriptors_at-is, language_at-is, optional_language-is, IsSectionBytes}
 use Rattle.description_parts.proofs.TextRanges.{sections-are, weaker, then_tested}
 use Rattle.description_parts.proofs.ChannelRanges.{channels_are, two_are}
@@ -127,14 +129,12 @@ either_is n false p g hp hg = hg
 allowance_is : (d : Data) → unwrap_or (stream_size d) 1 ≤ 4000000 → IsAllowance (unit_packets d) (stream_allowance d)
 allowance_is d small = either_is (unit_packets d) (is_paced d) _ _ (pace_is d (omega (arith, small))) (groups_are d)
 
+tag_in : (o : Option ℕ) → IfSome o (Within 0 255) → All (λ t. t ≤ 255) (option_to_list o)
+tag_in None h = All-nil (λ t. t ≤ 255)
+tag_in (Some t) w = All-cons (λ t. t ≤ 255) t [] w.most (All-nil (λ t. t ≤ 255))
+
 tag_is : (d : Data) → All (λ t. t ≤ 255) (option_to_list (unwrap_or (stream_tag d) None))
-tag_is d =
-    holds_of (λ o. All (λ t. t ≤ 255) (option_to_list o)) (stream_tag d) None
-    (at_key-all (λ o. All (λ t. t ≤ 255) (option_to_list o)) (codes "tag") (Some None) (λ v. option_map Some (integer_in (pos 0) (pos 255) v)) d
-    (All-nil (λ t. t ≤ 255))
-    (λ v. map_all (λ o. All (λ t. t ≤ 255) (option_to_list o)) (Within 0 255) Some (integer_in (pos 0) (pos 255) v)
-    (λ t w. All-cons (λ t. t ≤ 255) t [] w.most (All-nil (λ t. t ≤ 255))) (integer_in-within 0 255 v)))
-    (All-nil (λ t. t ≤ 255))
+tag_is d = tag_in (unwrap_or (stream_tag d) None) (optional_integer-within (codes "tag") 0 255 d)
 
 rx_within : (d : Data) → Within 64000 200000000 (unwrap_or (stream_rx d) 64000)
 rx_within d =
@@ -179,13 +179,10 @@ buffer_if : (rx : ℕ) (b : Bool) (m : MultiplexingBuffer) → IsMultiplexingBuf
 buffer_if rx true m is = All-cons (IsMultiplexingBuffer rx) m [] is (All-nil (IsMultiplexingBuffer rx))
 buffer_if rx false m is = All-nil (IsMultiplexingBuffer rx)
 
--- If each of n times is at most interval / n, together they are within the interval.
-in_turn : (n t interval : ℕ) → t ≤ interval / max n 1 → n * t ≤ interval
-in_turn n t interval le =
-    le_trans (mul-le-mul_right t (most_of n)) (le_trans (mul-le-mul_left (max n 1) le) (mul-div-le interval (max n 1)))
-  where
-    most_of : (n : ℕ) → n ≤ max n 1
-    most_of n = omega arith
+-- Of the times from one access unit to the next the greatest is in its range.
+frame_most : (b : Bool) (n interval : ℕ) → interval ≤ 90000 → (if b then 90000 else interval / n) ≤ 90000
+frame_most true n interval le = omega arith
+frame_most false n interval le = le_trans (div-le_self interval n) le
 
 frame_within : (d : Data) → unwrap_or (stream_frame d) 0 ≤ greatest_frame d
 frame_within d =
@@ -195,25 +192,51 @@ frame_within d =
     (integer_in-within 1 (greatest_frame d))))
     (omega arith)
 
-framing_is : (d : Data) → 1 ≤ unwrap_or (stream_size d) 1 → IsFraming (unwrap_or (stream_interval d) 1) (unwrap_or (stream_size d) 1) (framing_of d)
-framing_is d some =
+all_kept : (size : ℕ) (o : Option ℕ) (ns : List ℕ) → IfSome o (Within 1 size) → All (λ n. n ≤ size) ns → All (λ n. n ≤ size) (cons_option o ns)
+all_kept size None ns within all = all
+all_kept size (Some n) ns within all = All-cons (λ n. n ≤ size) n ns within.most all
+
+all_bytes : (d : Data) (ds : List Data) → All (λ n. n ≤ unwrap_or (stream_size d) 1) (filter_map (bytes_in d) ds)
+all_bytes d [] = All-nil (λ n. n ≤ unwrap_or (stream_size d) 1)
+all_bytes d (one ∷ ds) = let size = unwrap_or (stream_size d) 1 in
+    all_kept size (bytes_in d one) (filter_map (bytes_in d) ds) (integer_in-within 1 size one) (all_bytes d ds)
+
+all_if : (size : ℕ) (b : Bool) (ns : List ℕ) → All (λ n. n ≤ size) ns → All (λ n. n ≤ size) (if b then ns else [])
+all_if size true ns all = all
+all_if size false ns all = All-nil (λ n. n ≤ size)
+
+all_padded : (size : ℕ) (ns : List ℕ) → All (λ n. n ≤ size) ns → All (λ n. n ≤ size) (padded ns)
+all_padded size ns all = let P = λ (n : ℕ). n ≤ size in
+    All-append P ns (replicate (63 - length ns) 0) all (All-replicate P (63 - length ns) 0 (omega arith))
+
+last_if : (size : ℕ) (b : Bool) (sums : List ℕ) (bytes : ℕ) → All (λ n. n ≤ size) sums → 1 ≤ bytes → bytes ≤ size →
+    AreLastBytes size (if b then Sums sums else Each bytes)
+last_if size true sums bytes all least most = all
+last_if size false sums bytes all least most = (least, most)
+
+framing_is : (d : Data) → unwrap_or (stream_interval d) 1 ≤ 90000 → 1 ≤ unwrap_or (stream_size d) 1 → IsFraming (unwrap_or (stream_size d) 1) (framing_of d)
+framing_is d short some =
     let frames = integer_at-within (codes "frames") 1 64 1 d (omega arith) (omega arith) in
-    let size = integer_at-within (codes "frame_size") 1 (unwrap_or (stream_size d) 1) 1 d (omega arith) some in
+    let most = unwrap_or (stream_size d) 1 in
+    let size = integer_at-within (codes "frame_size") 1 most 1 d (omega arith) some in
     let interval = unwrap_or (stream_interval d) 1 in
-    let others = unwrap_or (stream_frames d) 1 - 1 in
+    let ds = elements (codes "frame_left") d in
+    let passed = other_frames d * unwrap_or (stream_frame d) 0 in
     record {
       some_frames = frames.least;
       most_frames = frames.most;
-      in_turn = in_turn others (unwrap_or (stream_frame d) 0) interval (frame_within d);
-      most_frame = le_trans (frame_within d) (div-le_self interval (max others 1));
-      some_size = size.least;
-      most_size = size.most;
+      most_frame = le_trans (frame_within d) (frame_most (has_rest d) (max (other_frames d) 1) interval short);
+      most_rest = (holds_of (Within 0 90000) (unwrap_or (stream_frame_rest d) None) (interval - passed)
+          (optional_integer-within (codes "frame_rest") 0 90000 d) (record { least = omega arith; most = omega (arith, short) })).most;
+      left = last_if most (has_left d) (frame_left_of d ds) (unwrap_or (stream_frame_size d) 1)
+          (all_padded most (if nat_le (length ds) 63 then filter_map (bytes_in d) ds else [])
+          (all_if most (nat_le (length ds) 63) (filter_map (bytes_in d) ds) (all_bytes d ds)))
+          size.least size.most;
     }
 
-framing_if : (interval size : ℕ) (b : Bool) (f : Framing) → IsFraming interval size f
-    → All (IsFraming interval size) (option_to_list (if b then Some f else None))
-framing_if interval size true f is = All-cons (IsFraming interval size) f [] is (All-nil (IsFraming interval size))
-framing_if interval size false f is = All-nil (IsFraming interval size)
+framing_if : (size : ℕ) (b : Bool) (f : FrameDeclaration) → IsFraming size f → All (IsFraming size) (option_to_list (if b then Some f else None))
+framing_if size true f is = All-cons (IsFraming size) f [] is (All-nil (IsFraming size))
+framing_if size false f is = All-nil (IsFraming size)
 
 pub stream_is : (d : Data) → IsStream (described_stream d)
 stream_is d =
@@ -248,7 +271,7 @@ stream_is d =
       allowance = allowance_is d small;
       few_sharers = few_sharers (elements (codes "shared_with") d);
       multiplexing = buffer_if (greatest_rbx d) (has_multiplexing d) (multiplexing_of d) (buffer_is d rx.least);
-      framing = framing_if (unwrap_or (stream_interval d) 1) (unwrap_or (stream_size d) 1) (has_framing d) (framing_of d) (framing_is d size.least);
+      framing = framing_if (unwrap_or (stream_size d) 1) (has_framing d) (framing_of d) (framing_is d interval.most size.least);
     }
 
 entry_is : (d : Data) → IsEntry (described_entry d)

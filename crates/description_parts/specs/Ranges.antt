@@ -4,7 +4,9 @@ use Rattle.std.specs.List.{IsDistinct}
 use Rattle.std.specs.Option.{option_to_list}
 use Rattle.unit_timing.specs.declared.allowance.Allowance.{Allowance}
 use Rattle.unit_timing.specs.declared.allowance.Allowance.TheVariants.{Groups, Pace}
-use Rattle.unit_timing.specs.declared.framing.Framing.{Framing}
+use Rattle.unit_timing.specs.declared.framing.FrameDeclaration.{FrameDeclaration}
+use Rattle.unit_timing.specs.declared.framing.LastBytes.{LastBytes}
+use Rattle.unit_timing.specs.declared.framing.LastBytes.TheVariants.{Each, Sums}
 use Rattle.unit_timing.specs.declared.multiplexing_buffer.MultiplexingBuffer.{MultiplexingBuffer}
 use Rattle.description_parts.specs.Described.{Described, DescribedNetwork, DescribedProgram, DescribedStream, DescribedEvent, DescribedEntry, DescribedTable}
 use Rattle.description_values.specs.Values.{is_one_section}
@@ -85,15 +87,18 @@ pub record IsMultiplexingBuffer (rx : ℕ) (b : MultiplexingBuffer) : Type 0 whe
   pub some_size : 1 ≤ b.size
   pub most_size : b.size ≤ 10000000
 
--- the access units of units of at most `size` bytes, an interval apart: the last access unit of a unit is due by the time of the
--- next unit
-pub record IsFraming (interval size : ℕ) (f : Framing) : Type 0 where
+-- the bytes of the last access units of units of at most `size` bytes
+abbrev pub AreLastBytes : ℕ → LastBytes → Type 0
+AreLastBytes size (Each bytes) = (1 ≤ bytes) × (bytes ≤ size)
+AreLastBytes size (Sums sums) = All (λ bytes. bytes ≤ size) sums
+
+-- the access units of such units
+pub record IsFraming (size : ℕ) (f : FrameDeclaration) : Type 0 where
   pub some_frames : 1 ≤ f.frames
   pub most_frames : f.frames ≤ 64
-  pub in_turn : (f.frames - 1) * f.frame ≤ interval
-  pub most_frame : f.frame ≤ interval
-  pub some_size : 1 ≤ f.frame_size
-  pub most_size : f.frame_size ≤ size
+  pub most_frame : f.frame ≤ 90000
+  pub most_rest : f.rest ≤ 90000
+  pub left : AreLastBytes size f.left
 
 pub record IsStream (s : DescribedStream) : Type 0 where
   pub pid : IsPid s.pid
@@ -118,7 +123,7 @@ pub record IsStream (s : DescribedStream) : Type 0 where
   pub allowance : IsAllowance (greatest_unit_packets s) s.allowance
   pub few_sharers : length s.shared_with ≤ 15
   pub multiplexing : All (IsMultiplexingBuffer s.rx) (option_to_list s.multiplexing)
-  pub framing : All (IsFraming s.interval s.size) (option_to_list s.framing)
+  pub framing : All (IsFraming s.size) (option_to_list s.framing)
 
 pub record IsEntry (e : DescribedEntry) : Type 0 where
   pub some_type : 1 ≤ e.stream_type

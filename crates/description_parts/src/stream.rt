@@ -3,7 +3,7 @@
 use description_keys::ProgramNumbers;
 use description_values::DescriptorLoop;
 use unit_timing::allowance::Allowance;
-use unit_timing::framing::Framing;
+use unit_timing::framing::FrameDeclaration;
 use unit_timing::multiplexing_buffer::MultiplexingBuffer;
 
 /// An elementary stream and what it declares of its units (ISO/IEC 13818-1, 2.4.2 and 2.4.4.8).
@@ -37,5 +37,5 @@ pub struct StreamDescription {
     /// Its multiplexing buffer MB before EB; one main buffer takes the place of both if there is no such buffer.
     pub multiplexing: Option<MultiplexingBuffer>,
     /// The access units of its units, if these are PES packets that hold several; otherwise a unit is one access unit.
-    pub framing: Option<Framing>,
+    pub framing: Option<FrameDeclaration>,
 }
