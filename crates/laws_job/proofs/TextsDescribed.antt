@@ -1,5 +1,5 @@
 -- The streams of a description's text, read as TOML and then as a description, have the buffers that the text gives them.
-use Rattle.std.proofs.Common.{◌≡◌, ℕ, zero, suc, pos, ◌&&◌, ◌||◌, Bool, true, false, List, [], ◌∷◌, ◌++◌, length, map, slice_get, Option, Some, None, Result}
+use Rattle.std.proofs.Common.{◌≡◌, ℕ, zero, suc, pos, ◌-◌, ◌*◌, ◌&&◌, ◌||◌, Bool, true, false, List, [], ◌∷◌, ◌++◌, length, map, slice_get, Option, Some, None, Result}
 use Rattle.std.proofs.Common.{Ok, Err, refl, sym, ap, subst, ◌∙◌, inl, inr, codes, is_some, is_none, unwrap_or, option_map, int_le, All, if◌then◌else◌, ◌==◌, ℤ}
 use Rattle.std.proofs.Common.{unsigned_abs}
 use Rattle.std.proofs.lemmas.Bool.{cases_Bool}
@@ -9,7 +9,10 @@ use Rattle.toml.specs.Data.{Data, Items, Members, table, integer, array, get, ge
 use Rattle.toml.specs.Parse.{parse_document}
 use Rattle.unit_timing.specs.declared.allowance.Allowance.{Allowance}
 use Rattle.unit_timing.specs.declared.allowance.Allowance.TheVariants.{Groups, Pace}
+use Rattle.unit_timing.specs.AccessUnits.{frame_declaration}
+use Rattle.unit_timing.specs.declared.framing.FrameDeclaration.{FrameDeclaration}
 use Rattle.unit_timing.specs.declared.framing.Framing.{Framing}
+use Rattle.unit_timing.specs.declared.framing.LastBytes.TheVariants.{Each, Sums}
 use Rattle.unit_timing.specs.declared.multiplexing_buffer.MultiplexingBuffer.{MultiplexingBuffer}
 use Rattle.description_parts.specs.Described.{Described, DescribedStream}
 use Rattle.description_parts.specs.Contents.{described, described_stream}
@@ -17,7 +20,7 @@ use Rattle.description.specs.Reading.{description_of, fault}
 use Rattle.description_parts.specs.Consistency.{joint_fault}
 use Rattle.description_keys.specs.Refusals.{key_fault, streams_of}
 use Rattle.description_keys.specs.StreamKeys.{refuses_rbx, refuses_mb, refuses_frames, refuses_frame, refuses_frame_size, stream_multiplexing}
-use Rattle.description_keys.specs.StreamKeys.{stream_framing, greatest_rbx, greatest_frame, stream_size}
+use Rattle.description_keys.specs.StreamKeys.{stream_framing, greatest_rbx, greatest_frame, stream_interval, stream_size, frame_left_of}
 use Rattle.description_values.specs.Values.{elements, elements_in, integer_in, list_of}
 use Rattle.description_keys.specs.declared.fault.DescFault.{DescFault}
 use Rattle.description_keys.specs.declared.fault.DescError.{DescError}
@@ -154,6 +157,55 @@ pub frame_size_at : (a : Allowance) (m : Option MultiplexingBuffer) (f : Option 
 frame_size_at (Groups u p) m f l s = past_hex (codes "descriptors") (codes "frame_size") s.descriptors _ (λ d ms. refl) ∙ rest_frame_size (Groups u p) m f l s
 frame_size_at (Pace u p) m f l s = past_hex (codes "descriptors") (codes "frame_size") s.descriptors _ (λ d ms. refl) ∙ rest_frame_size (Pace u p) m f l s
 
+-- A stream has neither of the other keys of access units.
+rest_frame_rest : (a : Allowance) (m : Option MultiplexingBuffer) (f : Option Framing) (l : Option ℕ) (s : StreamPartView) →
+    get_member (codes "frame_rest") (stream_rest a m f l s) ≡ None
+rest_frame_rest (Groups u p) None None l s = past_limit (codes "frame_rest") l _ (λ d ms. refl)
+    ∙ past_list (codes "shared_with") (codes "frame_rest") s.shared_with _ (λ d ms. refl)
+rest_frame_rest (Groups u p) None (Some f) l s = past_limit (codes "frame_rest") l _ (λ d ms. refl)
+    ∙ past_list (codes "shared_with") (codes "frame_rest") s.shared_with _ (λ d ms. refl)
+rest_frame_rest (Groups u p) (Some m) None l s = past_limit (codes "frame_rest") l _ (λ d ms. refl)
+    ∙ past_list (codes "shared_with") (codes "frame_rest") s.shared_with _ (λ d ms. refl)
+rest_frame_rest (Groups u p) (Some m) (Some f) l s = past_limit (codes "frame_rest") l _ (λ d ms. refl)
+    ∙ past_list (codes "shared_with") (codes "frame_rest") s.shared_with _ (λ d ms. refl)
+rest_frame_rest (Pace u p) None None l s = past_limit (codes "frame_rest") l _ (λ d ms. refl)
+    ∙ past_list (codes "shared_with") (codes "frame_rest") s.shared_with _ (λ d ms. refl)
+rest_frame_rest (Pace u p) None (Some f) l s = past_limit (codes "frame_rest") l _ (λ d ms. refl)
+    ∙ past_list (codes "shared_with") (codes "frame_rest") s.shared_with _ (λ d ms. refl)
+rest_frame_rest (Pace u p) (Some m) None l s = past_limit (codes "frame_rest") l _ (λ d ms. refl)
+    ∙ past_list (codes "shared_with") (codes "frame_rest") s.shared_with _ (λ d ms. refl)
+rest_frame_rest (Pace u p) (Some m) (Some f) l s = past_limit (codes "frame_rest") l _ (λ d ms. refl)
+    ∙ past_list (codes "shared_with") (codes "frame_rest") s.shared_with _ (λ d ms. refl)
+
+pub frame_rest_at : (a : Allowance) (m : Option MultiplexingBuffer) (f : Option Framing) (l : Option ℕ) (s : StreamPartView) →
+    get_member (codes "frame_rest") (stream_members a m f l s) ≡ None
+frame_rest_at (Groups u p) m f l s = past_hex (codes "descriptors") (codes "frame_rest") s.descriptors _ (λ d ms. refl) ∙ rest_frame_rest (Groups u p) m f l s
+frame_rest_at (Pace u p) m f l s = past_hex (codes "descriptors") (codes "frame_rest") s.descriptors _ (λ d ms. refl) ∙ rest_frame_rest (Pace u p) m f l s
+
+rest_frame_left : (a : Allowance) (m : Option MultiplexingBuffer) (f : Option Framing) (l : Option ℕ) (s : StreamPartView) →
+    get_member (codes "frame_left") (stream_rest a m f l s) ≡ None
+rest_frame_left (Groups u p) None None l s = past_limit (codes "frame_left") l _ (λ d ms. refl)
+    ∙ past_list (codes "shared_with") (codes "frame_left") s.shared_with _ (λ d ms. refl)
+rest_frame_left (Groups u p) None (Some f) l s = past_limit (codes "frame_left") l _ (λ d ms. refl)
+    ∙ past_list (codes "shared_with") (codes "frame_left") s.shared_with _ (λ d ms. refl)
+rest_frame_left (Groups u p) (Some m) None l s = past_limit (codes "frame_left") l _ (λ d ms. refl)
+    ∙ past_list (codes "shared_with") (codes "frame_left") s.shared_with _ (λ d ms. refl)
+rest_frame_left (Groups u p) (Some m) (Some f) l s = past_limit (codes "frame_left") l _ (λ d ms. refl)
+    ∙ past_list (codes "shared_with") (codes "frame_left") s.shared_with _ (λ d ms. refl)
+rest_frame_left (Pace u p) None None l s = past_limit (codes "frame_left") l _ (λ d ms. refl)
+    ∙ past_list (codes "shared_with") (codes "frame_left") s.shared_with _ (λ d ms. refl)
+rest_frame_left (Pace u p) None (Some f) l s = past_limit (codes "frame_left") l _ (λ d ms. refl)
+    ∙ past_list (codes "shared_with") (codes "frame_left") s.shared_with _ (λ d ms. refl)
+rest_frame_left (Pace u p) (Some m) None l s = past_limit (codes "frame_left") l _ (λ d ms. refl)
+    ∙ past_list (codes "shared_with") (codes "frame_left") s.shared_with _ (λ d ms. refl)
+rest_frame_left (Pace u p) (Some m) (Some f) l s = past_limit (codes "frame_left") l _ (λ d ms. refl)
+    ∙ past_list (codes "shared_with") (codes "frame_left") s.shared_with _ (λ d ms. refl)
+
+pub frame_left_at : (a : Allowance) (m : Option MultiplexingBuffer) (f : Option Framing) (l : Option ℕ) (s : StreamPartView) →
+    get_member (codes "frame_left") (stream_members a m f l s) ≡ None
+frame_left_at (Groups u p) m f l s = past_hex (codes "descriptors") (codes "frame_left") s.descriptors _ (λ d ms. refl) ∙ rest_frame_left (Groups u p) m f l s
+frame_left_at (Pace u p) m f l s = past_hex (codes "descriptors") (codes "frame_left") s.descriptors _ (λ d ms. refl) ∙ rest_frame_left (Pace u p) m f l s
+
 -- The numbers that are read
 
 -- A number that is not refused is read unchanged.
@@ -188,40 +240,61 @@ buffer_same d m o p =
     subst (λ x. BufferIs (greatest_rbx d) m x (get (codes "mb") d)) (sym o)
     (subst (λ x. BufferIs (greatest_rbx d) m (leak_value m) x) (sym p) (buffer_value (greatest_rbx d) m))
 
-abbrev FramingIs : ℕ → ℕ → Option Framing → Option Data → Option Data → Option Data → Type 0
-FramingIs most size f o p q =
-    ((is_some o || is_some p || is_some q) && is_none (reads (pos 1) (pos 64) o)) ≡ false
-    → ((is_some o || is_some p || is_some q) && is_none (reads (pos 1) (pos most) p)) ≡ false
-    → ((is_some o || is_some p || is_some q) && is_none (reads (pos 1) (pos size) q)) ≡ false
-    → (if is_some o || is_some p || is_some q
+-- The number that is read at a key that may be absent
+abbrev reads_if : ℤ → ℤ → Option Data → Option (Option ℕ)
+reads_if low high o = elim o [ None ↦ Some None | Some value ↦ option_map Some (integer_in low high value) ]
+
+abbrev any_some : Option Data → Option Data → Option Data → Option Data → Option Data → Bool
+any_some o p q r t = is_some o || is_some p || is_some q || is_some r || is_some t
+
+abbrev FramingIs : ℕ → ℕ → ℕ → List ℕ → Option Framing → Option Data → Option Data → Option Data → Option Data → Option Data → Type 0
+FramingIs interval most size sums f o p q r t =
+    (any_some o p q r t && is_none (reads (pos 1) (pos 64) o)) ≡ false
+    → (any_some o p q r t && is_none (reads (pos 1) (pos most) p)) ≡ false
+    → (any_some o p q r t && (if is_some t then is_some q else is_none (reads (pos 1) (pos size) q))) ≡ false
+    → (if any_some o p q r t
     then Some (record {
       frames = unwrap_or (reads (pos 1) (pos 64) o) 1;
       frame = unwrap_or (reads (pos 1) (pos most) p) 0;
-      frame_size =
-          unwrap_or (reads (pos 1) (pos size) q) 1;
+      rest =
+          unwrap_or (unwrap_or (reads_if (pos 0) (pos 90000) r) None)
+          (interval - (unwrap_or (reads (pos 1) (pos 64) o) 1 - 1) * unwrap_or (reads (pos 1) (pos most) p) 0);
+      left = if is_some t then Sums sums else Each (unwrap_or (reads (pos 1) (pos size) q) 1);
     })
-    else None) ≡ f
+    else None) ≡ option_map (frame_declaration interval) f
 
-same_framing : (a b c : ℕ) (f : Framing) → a ≡ f.frames → b ≡ f.frame → c ≡ f.frame_size →
-    ◌≡◌ {A = Option Framing} (Some (record { frames = a; frame = b; frame_size = c })) (Some f)
-same_framing a b c f x y z = rw (x, y, z) refl
+same_framing : (interval a b c : ℕ) (f : Framing) → a ≡ f.frames → b ≡ f.frame → c ≡ f.frame_size →
+    ◌≡◌ {A = Option FrameDeclaration} (Some (record { frames = a; frame = b; rest = interval - (a - 1) * b; left = Each c }))
+    (Some (frame_declaration interval f))
+same_framing interval a b c f x y z = rw (x, y, z) refl
 
-framing_value : (most size : ℕ) (f : Option Framing) →
-    FramingIs most size f (frame_value (λ f. f.frames) f) (frame_value (λ f. f.frame) f) (frame_value (λ f. f.frame_size) f)
-framing_value most size None r s t = refl
-framing_value most size (Some f) r s t =
-    same_framing _ _ _ f (itself (pos 1) (pos 64) f.frames 1 r) (itself (pos 1) (pos most) f.frame 0 s) (itself (pos 1) (pos size) f.frame_size 1 t)
+framing_value : (interval most size : ℕ) (sums : List ℕ) (f : Option Framing) →
+    FramingIs interval most size sums f (frame_value (λ f. f.frames) f) (frame_value (λ f. f.frame) f) (frame_value (λ f. f.frame_size) f) None None
+framing_value interval most size sums None x y z = refl
+framing_value interval most size sums (Some f) x y z =
+    same_framing interval _ _ _ f (itself (pos 1) (pos 64) f.frames 1 x) (itself (pos 1) (pos most) f.frame 0 y) (itself (pos 1) (pos size) f.frame_size 1 z)
 
 pub framing_same : (d : Data) (f : Option Framing) → get (codes "frames") d ≡ frame_value (λ f. f.frames) f →
-    get (codes "frame") d ≡ frame_value (λ f. f.frame) f
-    → get (codes "frame_size") d ≡ frame_value (λ f. f.frame_size) f
-    → refuses_frames d ≡ false → refuses_frame d ≡ false → refuses_frame_size d ≡ false → stream_framing d ≡ f
-framing_same d f o p q =
+    get (codes "frame") d ≡ frame_value (λ f. f.frame) f → get (codes "frame_size") d ≡ frame_value (λ f. f.frame_size) f →
+    get (codes "frame_rest") d ≡ None → get (codes "frame_left") d ≡ None →
+    refuses_frames d ≡ false → refuses_frame d ≡ false → refuses_frame_size d ≡ false →
+    stream_framing d ≡ option_map (frame_declaration (unwrap_or (stream_interval d) 1)) f
+framing_same d f o p q r t =
+    let i : ℕ = unwrap_or (stream_interval d) 1 in
     let size : ℕ = unwrap_or (stream_size d) 1 in
-    subst (λ x. FramingIs (greatest_frame d) size f x (get (codes "frame") d) (get (codes "frame_size") d)) (sym o)
-    (subst (λ x. FramingIs (greatest_frame d) size f (frame_value (λ f. f.frames) f) x (get (codes "frame_size") d)) (sym p)
-    (subst (λ x. FramingIs (greatest_frame d) size f (frame_value (λ f. f.frames) f) (frame_value (λ f. f.frame) f) x) (sym q)
-    (framing_value (greatest_frame d) size f)))
+    let sums : List ℕ = frame_left_of d (elements (codes "frame_left") d) in
+    let most : ℕ = greatest_frame d in
+    let frames : Option Data = frame_value (λ f. f.frames) f in
+    let frame : Option Data = frame_value (λ f. f.frame) f in
+    let sizes : Option Data = frame_value (λ f. f.frame_size) f in
+    let rest : Option Data = get (codes "frame_rest") d in
+    let left : Option Data = get (codes "frame_left") d in
+    subst (λ x. FramingIs i most size sums f x (get (codes "frame") d) (get (codes "frame_size") d) rest left) (sym o)
+    (subst (λ x. FramingIs i most size sums f frames x (get (codes "frame_size") d) rest left) (sym p)
+    (subst (λ x. FramingIs i most size sums f frames frame x rest left) (sym q)
+    (subst (λ x. FramingIs i most size sums f frames frame sizes x left) (sym r)
+    (subst (λ x. FramingIs i most size sums f frames frame sizes None x) (sym t)
+    (framing_value i most size sums f)))))
 
 -- The streams of a document
 
@@ -295,7 +368,7 @@ stream_has p r s x y z =
     let d : Data = table (stream_table p) in
     record {
       multiplexing = buffer_same d m (leak_at a m f l p) (size_at a m f l p) r s;
-      framing = framing_same d f (frames_at a m f l p) (frame_at a m f l p) (frame_size_at a m f l p) x y z;
+      framing = framing_same d f (frames_at a m f l p) (frame_at a m f l p) (frame_size_at a m f l p) (frame_rest_at a m f l p) (frame_left_at a m f l p) x y z;
     }
 
 each_has : (ps : List StreamPartView) → KeysTaken (map table (map stream_table ps)) → (k : ℕ) (s : DescribedStream) (p : StreamPartView)

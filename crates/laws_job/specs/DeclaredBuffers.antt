@@ -1,7 +1,8 @@
 -- What a job keeps of the buffers that its description declares, as they are chosen for the streams of its input.
-use Rattle.std.specs.Prelude.{◌≡◌, ◌≤◌, ℕ, ◌^◌, false, List, map, zip, slice_get, Some, All}
+use Rattle.std.specs.Prelude.{◌≡◌, ◌≤◌, ℕ, ◌^◌, false, List, map, zip, slice_get, option_map, Some, All}
 use Rattle.pes_packet.specs.AccessUnits.{AccessUnit}
 use Rattle.pes_packet.specs.Units.{units_of}
+use Rattle.unit_timing.specs.AccessUnits.{frame_declaration}
 use Rattle.unit_timing.specs.declared.framing.Framing.{Framing}
 use Rattle.unit_timing.specs.declared.multiplexing_buffer.MultiplexingBuffer.{MultiplexingBuffer}
 use Rattle.description_parts.specs.Described.{Described, DescribedStream}
@@ -49,7 +50,7 @@ pub record HasTomlNumbers (options : JobOptionsView) (input : JobInputView) (rat
 -- a stream is described with the multiplexing buffer and the access units of this part
 pub record HasBuffersOf (part : StreamPartView) (s : DescribedStream) : Type 0 where
   pub multiplexing : s.multiplexing ≡ part.multiplexing
-  pub framing : s.framing ≡ part.framing
+  pub framing : s.framing ≡ option_map (frame_declaration s.interval) part.framing
 
 -- each stream of a description is described with the choice made for it
 abbrev pub DeclaredLaw : Type 0
@@ -63,7 +64,7 @@ pub record BuffersKept (schedule : Scheduled) (part : StreamPartView) (s : Descr
   -- with a multiplexing buffer neither it nor the elementary stream buffer overflows, and each unit that is due is whole in the second by its DTS
   pub video : (b : MultiplexingBuffer) → part.multiplexing ≡ Some b → VideoKept schedule s b units n bytes
   -- with several access units in a unit the main buffer does not overflow, and each of them is removed at its own decoding time
-  pub frames : (f : Framing) → part.framing ≡ Some f → FramesKept schedule s f units bytes
+  pub frames : (f : Framing) → part.framing ≡ Some f → FramesKept schedule s (frame_declaration s.interval f) units bytes
 
 -- this holds for each stream, with the choice made for it
 abbrev pub BuffersKeptLaw : Type 0

@@ -8,7 +8,7 @@ use Rattle.description_parts.specs.Ranges.{IsInRange}
 use Rattle.slot_plan.specs.Planned.{Planned}
 use Rattle.slot_plan.specs.Conditions.{IsServing}
 use Rattle.pid_findings.specs.Views.{FindingView}
-use Rattle.unit_timing.specs.declared.framing.Framing.{Framing}
+use Rattle.unit_timing.specs.declared.framing.FrameDeclaration.{FrameDeclaration}
 use Rattle.unit_timing.specs.declared.multiplexing_buffer.MultiplexingBuffer.{MultiplexingBuffer}
 use Rattle.mux_core.specs.Scheduled.{Scheduled}
 use Rattle.mux_core.specs.Headline.{Headline, VideoKept}
@@ -61,7 +61,7 @@ pub record RoundTrip (schedule : Scheduled) (findings : List FindingView) (units
   pub video : (k : ℕ) (s : DescribedStream) (b : MultiplexingBuffer) → slice_get schedule.description.streams k ≡ Some s → s.multiplexing ≡ Some b →
       VideoKept schedule s b (units_of k units) n bytes
   -- the main buffer does not overflow either if a unit has several access units, and each is removed at its own decoding time
-  pub frames : (k : ℕ) (s : DescribedStream) (f : Framing) → slice_get schedule.description.streams k ≡ Some s → s.framing ≡ Some f →
+  pub frames : (k : ℕ) (s : DescribedStream) (f : FrameDeclaration) → slice_get schedule.description.streams k ≡ Some s → s.framing ≡ Some f →
       FramesKept schedule s f (units_of k units) bytes
 
 -- over a plan that serves the description
