@@ -37,17 +37,16 @@ video_is = record {
   allowance = record { some_units = omega arith; most_units = omega arith; some_packets = omega arith; most_packets = omega arith };
   few_sharers = omega arith;
   multiplexing = All-cons (IsMultiplexingBuffer 1200000) video_buffer [] buffer_is (All-nil (IsMultiplexingBuffer 1200000));
-  framing = All-nil (IsFraming 7000 100);
+  framing = All-nil (IsFraming 100);
 }
 
-framing_is : IsFraming 7000 100 sound_framing
+framing_is : IsFraming 100 sound_framing
 framing_is = record {
   some_frames = omega arith;
   most_frames = omega arith;
-  in_turn = omega arith;
   most_frame = omega arith;
-  some_size = omega arith;
-  most_size = omega arith;
+  most_rest = omega arith;
+  left = (omega arith, omega arith);
 }
 
 sound_is : IsStream sound_stream
@@ -74,7 +73,7 @@ sound_is = record {
   allowance = record { some_units = omega arith; most_units = omega arith; some_packets = omega arith; most_packets = omega arith };
   few_sharers = omega arith;
   multiplexing = All-nil (IsMultiplexingBuffer 2000000);
-  framing = All-cons (IsFraming 7000 100) sound_framing [] framing_is (All-nil (IsFraming 7000 100));
+  framing = All-cons (IsFraming 100) sound_framing [] framing_is (All-nil (IsFraming 100));
 }
 
 program_is : IsProgram video_program

@@ -39,7 +39,7 @@ stream_is = record {
   allowance = record { some_units = omega arith; most_units = omega arith; some_packets = omega arith; most_packets = omega arith };
   few_sharers = omega arith;
   multiplexing = All-nil (IsMultiplexingBuffer 2000000);
-  framing = All-nil (IsFraming worked_stream.interval worked_stream.size);
+  framing = All-nil (IsFraming worked_stream.size);
 }
 
 program_is : IsProgram worked_program

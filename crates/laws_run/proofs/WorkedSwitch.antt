@@ -7,7 +7,7 @@ use Rattle.own_slots.specs.Extremes.{greatest}
 use Rattle.own_slots.specs.Work.{work_at}
 use Rattle.pes_packet.specs.Encoding.{pes_start_bytes, packet_length, stamp_bytes, header_with, pts_header, pts_dts_header, pes_header_bytes, pes_packet_bytes}
 use Rattle.pes_packet.specs.Units.{units_of}
-use Rattle.unit_timing.specs.AccessUnits.{KeepsFraming, frame_declaration}
+use Rattle.unit_timing.specs.AccessUnits.{KeepsFraming, Followed}
 use Rattle.unit_timing.proofs.AccessUnitLemmas.{frame_size_law}
 use Rattle.unit_timing.specs.PesPacket.{Spaced, Sized, GroupsWithin, next_due}
 use Rattle.unit_timing.specs.Schedule.{first_slot as first_own_slot}
@@ -93,17 +93,20 @@ due = let D = IsDue video_service 13 in
     All-cons D first_picture (second_picture ∷ sounds) (omega arith) (All-cons D second_picture sounds (omega arith)
     (All-cons D first_sound (second_sound ∷ []) (omega arith) (All-cons D second_sound [] (omega arith) (All-nil D))))
 
-framed : (due : ℕ) → KeepsFraming (frame_declaration 7000 sound_framing) (sound_packet due)
-framed due = frame_size_law.kept 7000 sound_framing (sound_packet due) (omega arith)
+framed : (due : ℕ) → KeepsFraming sound_framing (sound_packet due)
+framed due = frame_size_law.kept 7000 (record { frames = 2; frame = 3500; frame_size = 40 }) (sound_packet due) (omega arith)
     (All-cons (λ (size : ℕ). size ≤ 40) 3 [] (omega arith) (All-nil (λ (size : ℕ). size ≤ 40)))
 
 cut : CutsUnits worked_switch sound_stream sound_framing sounds sound_packets
-unfolding pes_start_bytes packet_length stamp_bytes pts_header pts_dts_header header_with pes_header_bytes pes_packet_bytes
-cut = record { same = refl; declared = all }
+unfolding Followed pes_start_bytes packet_length stamp_bytes pts_header pts_dts_header header_with pes_header_bytes pes_packet_bytes
+cut = record { same = refl; declared = all; followed = next }
   where
-    all : All (KeepsFraming (frame_declaration 7000 sound_framing)) sound_packets
-    all = let K = KeepsFraming (frame_declaration 7000 sound_framing) in
+    all : All (KeepsFraming sound_framing) sound_packets
+    all = let K = KeepsFraming sound_framing in
         All-cons K (sound_packet 10000) (sound_packet 17000 ∷ []) (framed 10000) (All-cons K (sound_packet 17000) [] (framed 17000) (All-nil K))
+
+    next : Followed sound_framing 0 sound_packets
+    next = (omega arith, (omega arith, tt))
 
 -- ---- what is sent
 

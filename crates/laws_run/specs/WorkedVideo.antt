@@ -2,7 +2,8 @@
 -- at 100,000 bits a second, where a slot lasts 15.04 ms, and periods of five slots.
 use Rattle.std.specs.Prelude.{false, [], ◌∷◌, None, Some}
 use Rattle.unit_timing.specs.declared.allowance.Allowance.TheVariants.{Groups}
-use Rattle.unit_timing.specs.declared.framing.Framing.{Framing}
+use Rattle.unit_timing.specs.declared.framing.FrameDeclaration.{FrameDeclaration}
+use Rattle.unit_timing.specs.declared.framing.LastBytes.TheVariants.{Each}
 use Rattle.unit_timing.specs.declared.multiplexing_buffer.MultiplexingBuffer.{MultiplexingBuffer}
 use Rattle.description_parts.specs.Described.{Described, DescribedProgram, DescribedStream}
 use Rattle.slot_plan.specs.declared.slot.Slot.TheVariants.{Stream, Pcr, Table}
@@ -35,9 +36,10 @@ video_stream = record {
   framing = None;
 }
 
--- units of at most 100 bytes, of two access units each that are at most 38.9 ms apart, the second of at most 40 bytes
-abbrev pub sound_framing : Framing
-sound_framing = record { frames = 2; frame = 3500; frame_size = 40 }
+-- units of at most 100 bytes, of two access units each that are at most 38.9 ms apart, the second of at most 40 bytes; the next unit is
+-- as far from it
+abbrev pub sound_framing : FrameDeclaration
+sound_framing = record { frames = 2; frame = 3500; rest = 3500; left = Each 40 }
 
 abbrev pub sound_stream : DescribedStream
 sound_stream = record {

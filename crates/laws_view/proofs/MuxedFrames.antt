@@ -17,7 +17,7 @@ use Rattle.plan_timing.specs.Promised.{Promised, declaration}
 use Rattle.slot_plan.specs.Schedule.{owned}
 use Rattle.slot_plan.specs.declared.slot.Item.TheVariants.{Stream as StreamItem}
 use Rattle.unit_timing.specs.AccessUnits.{FramedPacket, framed_fullness}
-use Rattle.unit_timing.specs.declared.framing.Framing.{Framing}
+use Rattle.unit_timing.specs.declared.framing.FrameDeclaration.{FrameDeclaration}
 use Rattle.unit_timing.specs.PesPacket.{PesPacket}
 use Rattle.unit_timing.specs.Plans.{KeepsDeclaration, run_packets}
 use Rattle.unit_timing.specs.Schedule.{Packet}
@@ -86,7 +86,7 @@ total_sum (p ∷ ps) = omega (arith, total_sum ps, sum_by-cons (λ (q : Packet).
 frames_room : (d : Scheduled) (k : ℕ) (s : DescribedStream) (units : List AccessUnit) (content : ℕ → Content) (n : ℕ) →
     slice_get d.description.streams k ≡ Some s → StreamIsAlone (owned_stream d k s) units content → Kept (owned_stream d k s) units →
     Promised d.description d.schedule →
-    (f : Framing) → s.framing ≡ Some f → (packets : List FramedPacket) → CutsUnits d s f units packets → (x : ℕ) (left : List ℕ) →
+    (f : FrameDeclaration) → s.framing ≡ Some f → (packets : List FramedPacket) → CutsUnits d s f units packets → (x : ℕ) (left : List ℕ) →
     NoneLeavesEarly s.rx (packets_on s.pid (run_bytes content 0 n)) left → framed_fullness d.description.rate s.rx x f.frame packets left ≤ s.main
 frames_room d k s units content n is alone kept promised f some packets cut x left late =
     let own = owned d.schedule (StreamItem k) in
@@ -94,7 +94,7 @@ frames_room d k s units content n is alone kept promised f some packets cut x le
     let keeps : KeepsDeclaration (declaration s) pes = record { spaced = kept.spaced; sized = kept.sized; allowed = kept.allowed } in
     let sent : packets_on s.pid (run_bytes content 0 n) ≡ run_packets own d.description.rate (declaration s) pes n =
     (carried_law (owned_stream d k s) units content n alone).packets in
-    promised.frames k s f packets is some cut.declared (subst (λ (us : List PesPacket). KeepsDeclaration (declaration s) us) (sym cut.same) keeps) n x left
+    promised.frames k s f packets is some cut.declared cut.followed (subst (λ (us : List PesPacket). KeepsDeclaration (declaration s) us) (sym cut.same) keeps) n x left
     (subst (λ (us : List PesPacket). NoneLeavesEarly s.rx (run_packets own d.description.rate (declaration s) us n) left) (sym cut.same)
     (subst (λ (ps : List Packet). NoneLeavesEarly s.rx ps left) sent late))
 

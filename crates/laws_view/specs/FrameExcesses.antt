@@ -13,7 +13,7 @@ use Rattle.description_parts.specs.Described.{DescribedStream}
 use Rattle.description_parts.specs.Ranges.{IsInRange}
 use Rattle.plan_timing.specs.Promised.{Promised}
 use Rattle.unit_timing.specs.AccessUnits.{FramedPacket}
-use Rattle.unit_timing.specs.declared.framing.Framing.{Framing}
+use Rattle.unit_timing.specs.declared.framing.FrameDeclaration.{FrameDeclaration}
 use Rattle.tstd.specs.PacketLists.{payloads_from}
 use Rattle.tstd.specs.Removal.{removal_time}
 use Rattle.mux_core.specs.FramesKept.{CutsUnits}
@@ -57,7 +57,7 @@ GoneBy (t ∷ ts) (u ∷ us) = (t ≤ u) × GoneBy ts us
 
 -- a cut whose access units are all bytes of the units, and a view of the stream whose buffers begin after these packets: it finds the access
 -- units of the cut, so it removes no byte later than the cut does
-pub record SeenAs (rate : ℕ) (s : DescribedStream) (framing : Framing) (packets : List FramedPacket) (before : List (List ℕ)) (f : Framed) : Type 0 where
+pub record SeenAs (rate : ℕ) (s : DescribedStream) (framing : FrameDeclaration) (packets : List FramedPacket) (before : List (List ℕ)) (f : Framed) : Type 0 where
   pub whole : All (λ p. sum p.access_units ≡ p.packet.size) packets
   pub gone : GoneBy (gone_seen f.held.parts) (drop (length (payloads_from s.pid before)) (gone_cut rate s.rx framing.frame packets))
 
@@ -71,7 +71,7 @@ pub record NoFrameExcess (f : Framed) : Type 0 where
 
 -- this holds for each stream whose access units the description declares, if it is viewed by access units, wherever its buffers begin
 abbrev pub RunFramesLaw : Type 0
-RunFramesLaw = (d : Scheduled) (units : ℕ → List AccessUnit) (slots : ℕ) (request : RequestView) (place : ℕ) (e : EntryState) (k : ℕ) (framing : Framing)
+RunFramesLaw = (d : Scheduled) (units : ℕ → List AccessUnit) (slots : ℕ) (request : RequestView) (place : ℕ) (e : EntryState) (k : ℕ) (framing : FrameDeclaration)
     (packets : List FramedPacket) (f : Framed) → IsInRange d.description → Promised d.description d.schedule → UnitsKept d units → slots ≤ most_packets →
     (viewed : IsViewedAs d request k e) → (whole : IsWhole request d.description.rate (cut_packets (run_bytes (content_at d units) 0 slots)) e) →
     slice_get (after_all (start request) (cut_packets (run_bytes (content_at d units) 0 slots))).table.entries place ≡ Some e →
@@ -80,7 +80,7 @@ RunFramesLaw = (d : Scheduled) (units : ℕ → List AccessUnit) (slots : ℕ) (
 
 -- the same for a whole job in which every unit is accepted, over one plan that keeps its conditions, or over two plans in turn
 abbrev pub JobFramesLaw : Type 0
-JobFramesLaw = (d : Scheduled) (units : List (ℕ × AccessUnit)) (slots : ℕ) (request : RequestView) (place : ℕ) (e : EntryState) (k : ℕ) (framing : Framing)
+JobFramesLaw = (d : Scheduled) (units : List (ℕ × AccessUnit)) (slots : ℕ) (request : RequestView) (place : ℕ) (e : EntryState) (k : ℕ) (framing : FrameDeclaration)
     (packets : List FramedPacket) (f : Framed) → IsInRange d.description → Promised d.description d.schedule →
     first_refused d (capacity_for units) [] units ≡ None → slots ≤ most_packets → (viewed : IsViewedAs d request k e) →
     (whole : IsWhole request d.description.rate (cut_packets (output_of false d (job_history units slots))) e) →

@@ -3,7 +3,7 @@ use Rattle.std.proofs.Common.{◌≡◌, ◌≤◌, ◌*◌, ℕ, Bool, List, So
 use Rattle.std.specs.Prelude.{slice_get}
 use Rattle.pes_packet.specs.AccessUnits.{AccessUnit}
 use Rattle.slot_contents.specs.Contents.{Content, run_bytes}
-use Rattle.unit_timing.specs.declared.framing.Framing.{Framing}
+use Rattle.unit_timing.specs.declared.framing.FrameDeclaration.{FrameDeclaration}
 use Rattle.unit_timing.specs.PesPacket.{PesPacket}
 use Rattle.unit_timing.specs.Schedule.{Packet}
 use Rattle.unit_timing.specs.Transport.{slots_of, tb_fullness, pes_left, NoneLeavesEarly}
@@ -48,7 +48,7 @@ main_kept d k s units content n is alone kept promised x left late =
 frames_kept : (d : Scheduled) (k : ℕ) (s : DescribedStream) (units : List AccessUnit) (content : ℕ → Content) (n : ℕ) →
     slice_get d.description.streams k ≡ Some s → StreamIsAlone (owned_stream d k s) units content → Kept (owned_stream d k s) units →
     Promised d.description d.schedule →
-    (f : Framing) → s.framing ≡ Some f → FramesKept d s f units (run_bytes content 0 n)
+    (f : FrameDeclaration) → s.framing ≡ Some f → FramesKept d s f units (run_bytes content 0 n)
 frames_kept d k s units content n is alone kept promised f some packets x cut =
     let keeps : KeepsDeclaration (declaration s) (timed_pes_packets s.stream_id d.description.base0 units) =
     record { spaced = kept.spaced; sized = kept.sized; allowed = kept.allowed } in
@@ -61,7 +61,7 @@ frames_kept d k s units content n is alone kept promised f some packets x cut =
     let late = subst
     (λ (ps : List Packet). NoneLeavesEarly s.rx (run_packets own d.description.rate (declaration s) pes n) (pes_left d.description.rate s.rx 0 ps))
     (sym sent) (run_left own d.description.rate s.lead s.rx n pes) in
-    promised.frames k s f packets is some cut.declared
+    promised.frames k s f packets is some cut.declared cut.followed
     (subst (λ (us : List PesPacket). KeepsDeclaration (declaration s) us) (sym cut.same) keeps) n x left
     (subst (λ (us : List PesPacket). NoneLeavesEarly s.rx (run_packets own d.description.rate (declaration s) us n) left) (sym cut.same) late)
 

@@ -17,7 +17,7 @@ use Rattle.slot_plan.specs.declared.slot.Slot.TheVariants.{Pcr}
 use Rattle.slot_plan.specs.SlotPids.{slot_pid}
 use Rattle.slot_plan.specs.TableRounds.{section_starts}
 use Rattle.own_slots.specs.Slots.{own_slots}
-use Rattle.unit_timing.specs.declared.framing.Framing.{Framing}
+use Rattle.unit_timing.specs.declared.framing.FrameDeclaration.{FrameDeclaration}
 use Rattle.unit_timing.specs.declared.multiplexing_buffer.MultiplexingBuffer.{MultiplexingBuffer}
 use Rattle.unit_timing.specs.Arrived.{AllLeft}
 use Rattle.unit_timing.specs.EmptyBuffers.{IsEmptyEachSecond}
@@ -83,7 +83,7 @@ pub record StreamKept (d : Scheduled) (k : ℕ) (s : DescribedStream) (units : L
   pub video : (b : MultiplexingBuffer) → s.multiplexing ≡ Some b → VideoKept d s b units slots bytes
   -- if its units are several access units each: with each access unit removed at its own decoding time, the main buffer never
   -- holds more than its size either
-  pub frames : (f : Framing) → s.framing ≡ Some f → FramesKept d s f units bytes
+  pub frames : (f : FrameDeclaration) → s.framing ≡ Some f → FramesKept d s f units bytes
 
 -- the promises for a program
 pub record ProgramKept (d : Scheduled) (p : DescribedProgram) (slots : ℕ) (bytes : List ℕ) : Type 0 where

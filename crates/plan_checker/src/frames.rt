@@ -1,9 +1,9 @@
 //! Access units that are removed from the main buffer one by one (ISO/IEC 13818-1, 2.4.2.3): the access units that are
 //! left and the bytes of later units find room.
 
-ghost use Rattle.std.specs.Prelude.{◌≡◌, ◌-◌, ◌*◌, ◌^◌, ◌<◌, ◌≤◌, ◌∷◌, [], length};
+ghost use Rattle.std.specs.Prelude.{◌≡◌, ◌-◌, ◌*◌, ◌^◌, ◌<◌, ◌≤◌, ◌∷◌, [], length, slice_index_or};
 ghost use Rattle.description_parts.specs.Ranges.{IsStream};
-ghost use Rattle.unit_timing.specs.AccessUnits.{ahead_of, frame_declaration, framed_waiting};
+ghost use Rattle.unit_timing.specs.AccessUnits.{ahead_of, left_of, framed_waiting};
 ghost use Rattle.slot_plan.specs.Claims.{declaration, stream_share};
 ghost use Rattle.slot_plan.specs.Conditions.{entries_from, frame_entry, frame_entries};
 ghost use Rattle.plan_checker.specs.Failing.{after, search_of};
@@ -14,26 +14,37 @@ use crate::main_buffers::bytes_waiting;
 use crate::plans::ShapedPlan;
 use slot_plan::{Condition, StreamDescription};
 use std::alloc::Allocator;
-use unit_timing::framing::Framing;
+use unit_timing::framing::{FrameDeclaration, LastBytes};
 
 /// Returns how long after any moment with `left` access units of a unit left a later unit is due at the earliest, up to
 /// the lead: units of 90 kHz.
-pub fn ahead_of(stream: &StreamDescription, framing: Framing, left: u8) -> u64
-    ensures ahead { result ≡ ahead_of (declaration stream.now) (frame_declaration stream.now.interval framing) left }
+pub fn ahead_of(stream: &StreamDescription, framing: FrameDeclaration, left: u8) -> u64
+    ensures ahead { result ≡ ahead_of (declaration stream.now) framing left }
     ensures bound { result ≤ stream.now.lead }
 {
-    let frame = framing.frame as u64;
-    let others = framing.frames.saturating_sub(1) as u64;
-    let rest = (stream.interval as u64).saturating_sub(others * frame);
-    (rest + left.saturating_sub(1) as u64 * frame).min(stream.lead as u64)
+    let others = left.saturating_sub(1) as u64 * framing.frame as u64;
+    (framing.rest as u64 + others).min(stream.lead as u64)
+}
+
+// Returns a number of a list; 0 after its end.
+fn number_at(numbers: &[u32], place: usize) -> u32
+    ensures { result ≡ slice_index_or numbers.now place 0 }
+{
+    match numbers.get(place) {
+        None => 0,
+        Some(number) => *number,
+    }
 }
 
 /// Returns the most bytes of the last `left` access units of a unit that has more.
-pub fn left_of_unit(framing: Framing, left: u8) -> u128
-    ensures left { result ≡ left * framing.frame_size }
+pub fn left_of_unit(framing: FrameDeclaration, left: u8) -> u128
+    ensures left { result ≡ left_of framing.left left }
     ensures bound { result < 2 ^ 40 }
 {
-    left as u128 * framing.frame_size as u128
+    match framing.left {
+        LastBytes::Each(size) => left as u128 * size as u128,
+        LastBytes::Sums(sums) => number_at(&sums, left.saturating_sub(1) as usize) as u128,
+    }
 }
 
 /// Returns the bytes that wait when `left` access units of a unit are left.
@@ -41,14 +52,14 @@ fn framed_waiting<A: Allocator>(
     plans: &ShapedPlan<'_, A>,
     i: usize,
     stream: &StreamDescription,
-    framing: Framing,
+    framing: FrameDeclaration,
     left: u8,
 ) -> u128
     requires stream { i < length plans.now.description.now.streams }
     requires small { i < 256 }
     requires ranges { IsStream stream.now }
     ensures { result ≡ framed_waiting plans.now.description.now.rate (declaration stream.now)
-        (frame_declaration stream.now.interval framing) (stream_share plans.now.plan.now i) left }
+        framing (stream_share plans.now.plan.now i) left }
 {
     let bytes = left_of_unit(framing, left);
     let ahead = ahead_of(stream, framing, left);
@@ -84,7 +95,7 @@ fn framed_rooms<A: Allocator>(
     plans: &ShapedPlan<'_, A>,
     i: usize,
     stream: &StreamDescription,
-    framing: Framing,
+    framing: FrameDeclaration,
     search: &mut FailureSearch,
 )
     requires stream { i < length plans.now.description.now.streams }
@@ -104,7 +115,7 @@ fn frame_room<A: Allocator>(
     plans: &ShapedPlan<'_, A>,
     i: usize,
     stream: &StreamDescription,
-    framing: Framing,
+    framing: FrameDeclaration,
     gone: u8,
     search: &mut FailureSearch,
 )

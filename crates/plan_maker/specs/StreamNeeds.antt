@@ -4,14 +4,14 @@
 use Rattle.std.specs.Prelude.{ℕ, ◌+◌, ◌-◌, ◌*◌, ◌/◌, ◌==◌, max, min, [], ◌∷◌, Option, Some, None, nat_le, nat_lt, if◌then◌else◌}
 use Rattle.std.specs.Option.{option_and_then}
 use Rattle.clock27.specs.Units.{slot_units_at_1bps, byte_units_at_1bps}
-use Rattle.unit_timing.specs.declared.framing.Framing.{Framing}
+use Rattle.unit_timing.specs.declared.framing.FrameDeclaration.{FrameDeclaration}
 use Rattle.unit_timing.specs.declared.multiplexing_buffer.MultiplexingBuffer.{MultiplexingBuffer}
 use Rattle.unit_timing.specs.Allowances.{allowance_rows, steady_packets, steady_time}
 use Rattle.unit_timing.specs.Buffers.{tb_size}
 use Rattle.unit_timing.specs.Conditions.{packets_in_row, bytes_by_units}
 use Rattle.description_parts.specs.Described.{DescribedStream}
 use Rattle.slot_plan.specs.Claims.{declaration}
-use Rattle.unit_timing.specs.AccessUnits.{frame_declaration, ahead_of}
+use Rattle.unit_timing.specs.AccessUnits.{ahead_of, left_of}
 use Rattle.plan_maker.specs.Bounded.{product, plus, less, rounded_up, narrowed, all_narrowed, most_wide}
 use Rattle.plan_maker.specs.Joined.{greatest_of, least_of}
 use Rattle.plan_maker.specs.declared.search.stream_rate.StreamRate.{StreamRate}
@@ -93,14 +93,14 @@ room_width v period count lead waiting room = if nat_le waiting room then Some m
 
 -- for the later units, when some access units of a unit are left: they arrive within the rest of the lead, and have the room beside
 -- these access units
-abbrev pub frame_width : StreamView → ℕ → ℕ → Framing → ℕ → Option ℕ
+abbrev pub frame_width : StreamView → ℕ → ℕ → FrameDeclaration → ℕ → Option ℕ
 frame_width v period count f left =
-    let lead = v.stream.lead - ahead_of (declaration v.stream) (frame_declaration v.stream.interval f) left in
+    let lead = v.stream.lead - ahead_of (declaration v.stream) f left in
     option_and_then (λ room. option_and_then (λ units. room_width v period count lead (product (units ∷ (19 + v.stream.size) ∷ [])) room)
     (rounded_up lead v.stream.interval))
-    (less v.stream.main (left * f.frame_size))
+    (less v.stream.main (left_of f.left left))
 
-abbrev pub frames_width : StreamView → ℕ → ℕ → Option ℕ → Option Framing → Option ℕ
+abbrev pub frames_width : StreamView → ℕ → ℕ → Option ℕ → Option FrameDeclaration → Option ℕ
 frames_width v period count first None = first
 frames_width v period count first (Some f) = least_of first (f.frames - 1) (λ before. frame_width v period count f (before + 1))
 

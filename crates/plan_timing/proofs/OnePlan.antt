@@ -1,5 +1,5 @@
 -- One plan: the conditions on the plan imply the premises of the timing laws.
-use Rattle.std.specs.Prelude.{ℕ, ◌+◌, ◌-◌, ◌*◌, ◌<◌, ◌≤◌, Bool, List, [], ◌∷◌, Some, length, slice_get, get_or, sum_by, take, map, All}
+use Rattle.std.specs.Prelude.{ℕ, ◌+◌, ◌-◌, ◌*◌, ◌<◌, ◌≤◌, Bool, List, [], ◌∷◌, Some, length, slice_get, get_or, sum_by, take, map}
 use Rattle.std.proofs.Common.{◌≡◌, sym, subst, arith}
 use Rattle.std.proofs.lemmas.List.{length-map}
 use Rattle.std.proofs.lemmas.List.Elements.{All-get_or, All-head}
@@ -15,21 +15,21 @@ use Rattle.own_slots.specs.Spread.{spread}
 use Rattle.own_slots.specs.Rounds.{starts}
 use Rattle.own_slots.proofs.Gaps.{gap_law}
 use Rattle.own_slots.proofs.Recurrence.{pcr_law, table_law}
-use Rattle.unit_timing.specs.declared.framing.Framing.{Framing}
+use Rattle.unit_timing.specs.declared.framing.FrameDeclaration.{FrameDeclaration}
 use Rattle.unit_timing.specs.declared.multiplexing_buffer.MultiplexingBuffer.{MultiplexingBuffer as LeakingBuffer}
 use Rattle.unit_timing.specs.Buffers.{tb_size, system_tb_drain, bsys_size, bsys_drain}
 use Rattle.unit_timing.specs.Allowances.{allowance_rows}
-use Rattle.unit_timing.specs.Plans.{KeepsDeclaration, StreamServed, ProgramServed}
+use Rattle.unit_timing.specs.Plans.{StreamServed, ProgramServed}
 use Rattle.unit_timing.specs.Conditions.{IsProper, StreamClaim, ProgramClaim, rate_needed, rate_given, lead_needed, time_given, bytes_waiting, share_of}
 use Rattle.unit_timing.specs.Conditions.{StreamConditions, ProgramConditions}
-use Rattle.unit_timing.specs.AccessUnits.{FramedPacket, KeepsFraming, Followed, packets_of, FramedConditions, frame_declaration, framed_waiting}
+use Rattle.unit_timing.specs.AccessUnits.{FramedConditions, framed_waiting}
 use Rattle.unit_timing.specs.VideoPlans.{LeakClaim, IsProperLeak, VideoConditions, VideoServed}
 use Rattle.unit_timing.specs.EmptyBuffers.{StreamEmptied, VideoEmptied}
 use Rattle.unit_timing.proofs.PlanLemmas.{stream_law, program_law}
-use Rattle.unit_timing.proofs.AccessUnitLemmas.{framed_law, frame_size_law}
+use Rattle.unit_timing.proofs.AccessUnitLemmas.{framed_law}
 use Rattle.unit_timing.proofs.VideoLemmas.{video_law}
 use Rattle.description_parts.specs.Described.{Described, DescribedProgram, DescribedStream}
-use Rattle.description_parts.specs.Ranges.{IsInRange, IsMultiplexingBuffer, IsFraming, IsStream}
+use Rattle.description_parts.specs.Ranges.{IsInRange, IsMultiplexingBuffer, IsStream}
 use Rattle.description_parts.specs.Tables.{table_kinds, table_count, table_limit, round_packets, section_count, section_lengths, packets_of_section}
 use Rattle.description.proofs.Allowed.{rows_some}
 use Rattle.slot_plan.specs.declared.slot.Slot.{Slot}
@@ -139,35 +139,23 @@ stream_holds d p i s serves is =
       main_fits = rw (length_marks (Stream i) p.slots) main;
     }
 
--- The numbers of a stream's framing are in their ranges.
-framing_ranges : (d : Described) (i : ℕ) (s : DescribedStream) (f : Framing) → IsInRange d → slice_get d.streams i ≡ Some s → s.framing ≡ Some f →
-    IsFraming s.interval s.size f
-framing_ranges d i s f ranges is some = All-head (IsFraming s.interval s.size) f [] (rw some at (stream_ranges d i s ranges is).framing)
-
 -- The conditions on access units hold, if the decoder removes them one by one.
-frame_holds : (d : Described) (p : Planned) (i : ℕ) (s : DescribedStream) (f : Framing) → ServingConditions d p → slice_get d.streams i ≡ Some s →
+frame_holds : (d : Described) (p : Planned) (i : ℕ) (s : DescribedStream) (f : FrameDeclaration) → ServingConditions d p → slice_get d.streams i ≡ Some s →
     s.framing ≡ Some f →
-    (k : ℕ) → 0 < k → k < f.frames → framed_waiting d.rate (declaration s) (frame_declaration s.interval f) (stream_share p i) (f.frames - k) ≤ s.main
+    (k : ℕ) → 0 < k → k < f.frames → framed_waiting d.rate (declaration s) f (stream_share p i) (f.frames - k) ≤ s.main
 frame_holds d p i s f serves is some k one below =
     let e : 1 + (k - 1) ≡ k = omega arith in
     let all : Hold (entries_from (frame_entry d p i s f) 1 (f.frames - 1)) = rw some at (mains_hold d p i s serves is).1 in
-    at_most_holds MainBuffer k i (framed_waiting d.rate (declaration s) (frame_declaration s.interval f) (stream_share p i) (f.frames - k)) s.main
+    at_most_holds MainBuffer k i (framed_waiting d.rate (declaration s) f (stream_share p i) (f.frames - k)) s.main
     (rw e at (holds_count (frame_entry d p i s f) 1 (f.frames - 1) (k - 1) (omega arith) all))
 
 -- When j access units are left, the others of a unit of most access units have been removed.
-pub frames_hold : (d : Described) (p : Planned) (i : ℕ) (s : DescribedStream) (f : Framing) → ServingConditions d p → slice_get d.streams i ≡ Some s →
-    s.framing ≡ Some f → FramedConditions d.rate (declaration s) (frame_declaration s.interval f) (share_of (claim_of p i) (marks (Stream i) p.slots))
+pub frames_hold : (d : Described) (p : Planned) (i : ℕ) (s : DescribedStream) (f : FrameDeclaration) → ServingConditions d p → slice_get d.streams i ≡ Some s →
+    s.framing ≡ Some f → FramedConditions d.rate (declaration s) f (share_of (claim_of p i) (marks (Stream i) p.slots))
 frames_hold d p i s f serves is some = λ j one below.
     let e : f.frames - (f.frames - j) ≡ j = omega (arith, below) in
     let held = frame_holds d p i s f serves is some (f.frames - j) (omega (arith, below)) (omega (arith, one, below)) in
     rw (length_marks (Stream i) p.slots) (rw e at held)
-
--- Units that keep the declaration follow one another as their access units do.
-pub frames_follow : (d : Described) (i : ℕ) (s : DescribedStream) (f : Framing) (packets : List FramedPacket) → IsInRange d → slice_get d.streams i ≡ Some s →
-    s.framing ≡ Some f → All (KeepsFraming (frame_declaration s.interval f)) packets → KeepsDeclaration (declaration s) (packets_of packets) →
-    Followed (frame_declaration s.interval f) 0 packets
-frames_follow d i s f packets ranges is some cut keeps =
-    frame_size_law.followed s.interval s.lead f packets (framing_ranges d i s f ranges is some).in_turn cut keeps.spaced
 
 -- The conditions on the multiplexing buffer hold, if the stream has one: it has room, and it is empty at least once a second.
 leak_buffers_hold : (d : Described) (p : Planned) (i : ℕ) (s : DescribedStream) (b : LeakingBuffer) → ServingConditions d p → slice_get d.streams i ≡ Some s →
@@ -285,11 +273,10 @@ plan_law law d p ranges serving =
             (proper d i s ranges is) (proper_leak d i s b ranges is some) (video_holds d p i s b k is some) (leak_emptied_holds d p i s b k is some)),
       );
       waits = λ i s units n is. waits_law (owned (single p.slots) (Stream i)) d.rate s.lead s.rx n units (lead_short d i s ranges is);
-      frames = λ i s f packets is some cut keeps.
+      frames = λ i s f packets is some cut follows keeps.
           subst (λ (o : ℕ → Bool). FramesServed o d.rate (declaration s) f packets) (sym (law.alone p.slots (Stream i)))
-          (λ n x left late. framed_law.one_plan d.rate (declaration s) (frame_declaration s.interval f) (claim_of p i) (marks (Stream i) p.slots) packets n x left
-          (proper d i s ranges is) (stream_holds d p i s k is) (frames_hold d p i s f k is some) cut (frames_follow d i s f packets ranges is some cut keeps)
-          keeps late);
+          (λ n x left late. framed_law.one_plan d.rate (declaration s) f (claim_of p i) (marks (Stream i) p.slots) packets n x left
+          (proper d i s ranges is) (stream_holds d p i s k is) (frames_hold d p i s f k is some) cut follows keeps late);
       programs = λ i lt. subst (λ (o : ℕ → Bool). ProgramServed o d.rate) (sym (law.alone p.slots (System i)))
           (program_law d.rate (program_claim_of p i) (marks (System i) p.slots)
           (omega (arith, ranges.least_rate)) (some_slots (System i)) (program_holds d p i k lt));

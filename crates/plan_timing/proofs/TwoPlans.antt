@@ -14,14 +14,14 @@ use Rattle.own_slots.specs.Switch.{joined, shift}
 use Rattle.own_slots.proofs.Extremes.{at_most_greatest}
 use Rattle.own_slots.proofs.SwitchLemmas.{switch_gap_law}
 use Rattle.own_slots.proofs.Recurrence.{pcr_law, table_law}
-use Rattle.unit_timing.specs.declared.framing.Framing.{Framing}
+use Rattle.unit_timing.specs.declared.framing.FrameDeclaration.{FrameDeclaration}
 use Rattle.unit_timing.specs.declared.multiplexing_buffer.MultiplexingBuffer.{MultiplexingBuffer as LeakingBuffer}
 use Rattle.unit_timing.specs.Buffers.{system_tb_drain, bsys_drain}
 use Rattle.unit_timing.specs.Allowances.{allowance_rows}
 use Rattle.unit_timing.specs.Plans.{StreamServed, ProgramServed}
 use Rattle.unit_timing.specs.Conditions.{lead_across, time_given, bytes_across, share_of, StreamSwitchConditions, ProgramSwitchConditions}
 use Rattle.unit_timing.specs.VideoPlans.{VideoSwitchConditions, VideoServed}
-use Rattle.unit_timing.specs.AccessUnits.{FramedSwitchConditions, frame_declaration, framed_across}
+use Rattle.unit_timing.specs.AccessUnits.{FramedSwitchConditions, framed_across}
 use Rattle.unit_timing.specs.EmptyBuffers.{StreamEmptied, VideoEmptied}
 use Rattle.unit_timing.proofs.AccessUnitLemmas.{framed_law}
 use Rattle.unit_timing.proofs.PlanLemmas.{stream_switch_law, program_switch_law}
@@ -48,7 +48,7 @@ use Rattle.slot_plan.proofs.ConditionLists.{Hold, serves, FollowingConditions, f
 use Rattle.slot_plan.proofs.ItemConditions.{holds_element, holds_count, holds_emptied_switch}
 use Rattle.plan_timing.specs.Promised.{leak_of, Promised, SwitchLaw}
 use Rattle.plan_timing.specs.FramesServed.{FramesServed}
-use Rattle.plan_timing.proofs.OnePlan.{length_marks, proper, proper_leak, claim_of, leak_claim_of, program_claim_of, stream_holds, frames_follow, video_holds}
+use Rattle.plan_timing.proofs.OnePlan.{length_marks, proper, proper_leak, claim_of, leak_claim_of, program_claim_of, stream_holds, video_holds}
 use Rattle.plan_timing.proofs.OnePlan.{emptied_holds, leak_emptied_holds, lead_short, program_holds, pcr_gap_holds, table_gap_holds, first_packet_below}
 use Rattle.plan_timing.proofs.OnePlan.{plan_law}
 use Rattle.plan_timing.proofs.OwnSlotsInTurn.{owned_over, owned_on}
@@ -131,20 +131,20 @@ stream_joins d first second i s follows is changed =
       main_fits = rw (length_marks (Stream i) first.slots, length_marks (Stream i) second.slots) main;
     }
 
-frame_joins : (d : Described) (first second : Planned) (i : ℕ) (s : DescribedStream) (f : Framing) → FollowingConditions d first second →
+frame_joins : (d : Described) (first second : Planned) (i : ℕ) (s : DescribedStream) (f : FrameDeclaration) → FollowingConditions d first second →
     slice_get d.streams i ≡ Some s → continues d first second i ≡ false → s.framing ≡ Some f → (k : ℕ) → 0 < k → k < f.frames →
-    framed_across d.rate (declaration s) (frame_declaration s.interval f) (stream_share first i) (stream_share second i) (f.frames - k) ≤ s.main
+    framed_across d.rate (declaration s) f (stream_share first i) (stream_share second i) (f.frames - k) ≤ s.main
 frame_joins d first second i s f follows is changed some k one below =
     let e : 1 + (k - 1) ≡ k = omega arith in
     let all : Hold (entries_from (frame_switch_entry d first second i s f) 1 (f.frames - 1)) =
     rw some at (mains_join d first second i s follows is changed).1 in
     at_most_holds MainSwitch k i
-    (framed_across d.rate (declaration s) (frame_declaration s.interval f) (stream_share first i) (stream_share second i) (f.frames - k)) s.main
+    (framed_across d.rate (declaration s) f (stream_share first i) (stream_share second i) (f.frames - k)) s.main
     (rw e at (holds_count (frame_switch_entry d first second i s f) 1 (f.frames - 1) (k - 1) (omega arith) all))
 
-frames_join : (d : Described) (first second : Planned) (i : ℕ) (s : DescribedStream) (f : Framing) → FollowingConditions d first second →
+frames_join : (d : Described) (first second : Planned) (i : ℕ) (s : DescribedStream) (f : FrameDeclaration) → FollowingConditions d first second →
     slice_get d.streams i ≡ Some s → continues d first second i ≡ false → s.framing ≡ Some f →
-    FramedSwitchConditions d.rate (declaration s) (frame_declaration s.interval f) (share_of (claim_of first i) (marks (Stream i) first.slots))
+    FramedSwitchConditions d.rate (declaration s) f (share_of (claim_of first i) (marks (Stream i) first.slots))
     (share_of (claim_of second i) (marks (Stream i) second.slots))
 frames_join d first second i s f follows is changed some = λ j one below.
     let e : f.frames - (f.frames - j) ≡ j = omega (arith, below) in
@@ -262,13 +262,13 @@ switch_law law d first second periods ranges serving switchable =
       ];
       waits = λ i s units n is. waits_law (owned (switched first.slots periods second.slots) (Stream i)) d.rate s.lead s.rx n units
           (lead_short d i s ranges is);
-      frames = λ i s g packets is some cut keeps. elim (cases_Bool (continues d first second i)) [
-        | inl same ↦ subst (λ (o : ℕ → Bool). FramesServed o d.rate (declaration s) g packets) (on i same) (alone.frames i s g packets is some cut keeps)
+      frames = λ i s g packets is some cut follows keeps. elim (cases_Bool (continues d first second i)) [
+        | inl same ↦ subst (λ (o : ℕ → Bool). FramesServed o d.rate (declaration s) g packets) (on i same) (alone.frames i s g packets is some cut follows keeps)
         | inr changed ↦ subst (λ (o : ℕ → Bool). FramesServed o d.rate (declaration s) g packets) (owned_over law first.slots second.slots periods (Stream i))
-            (λ n x left late. framed_law.two_plans d.rate (declaration s) (frame_declaration s.interval g) (claim_of first i) (marks (Stream i) first.slots)
+            (λ n x left late. framed_law.two_plans d.rate (declaration s) g (claim_of first i) (marks (Stream i) first.slots)
             (claim_of second i) (marks (Stream i) second.slots) periods packets n x left
             (proper d i s ranges is) (stream_holds d first i s k is) (stream_holds d second i s f.serves is) (stream_joins d first second i s f is changed)
-            (frames_join d first second i s g f is changed some) cut (frames_follow d i s g packets ranges is some cut keeps) keeps late)
+            (frames_join d first second i s g f is changed some) cut follows keeps late)
       ];
       programs = λ i lt. subst (λ (o : ℕ → Bool). ProgramServed o d.rate) (owned_over law first.slots second.slots periods (System i))
           (program_switch_law d.rate (program_claim_of first i) (marks (System i) first.slots) (program_claim_of second i) (marks (System i) second.slots)

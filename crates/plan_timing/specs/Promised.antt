@@ -3,13 +3,13 @@ use Rattle.std.specs.Prelude.{◌≡◌, ℕ, ◌+◌, ◌*◌, ◌<◌, List, S
 use Rattle.clock27.specs.Recurrence.{Recur}
 use Rattle.own_slots.specs.Slots.{own_slots}
 use Rattle.unit_timing.specs.PesPacket.{PesPacket}
-use Rattle.unit_timing.specs.declared.framing.Framing.{Framing}
+use Rattle.unit_timing.specs.declared.framing.FrameDeclaration.{FrameDeclaration}
 use Rattle.unit_timing.specs.declared.multiplexing_buffer.MultiplexingBuffer.{MultiplexingBuffer}
 use Rattle.unit_timing.specs.Plans.{KeepsDeclaration, StreamServed, ProgramServed, run_packets}
 use Rattle.unit_timing.specs.EmptyBuffers.{StreamEmptied, VideoEmptied}
 use Rattle.unit_timing.specs.LongestStay.{WaitsAtMost}
 use Rattle.unit_timing.specs.VideoPlans.{Leak, VideoServed}
-use Rattle.unit_timing.specs.AccessUnits.{FramedPacket, KeepsFraming, packets_of, frame_declaration}
+use Rattle.unit_timing.specs.AccessUnits.{FramedPacket, KeepsFraming, Followed, packets_of}
 use Rattle.description_parts.specs.Described.{Described, DescribedProgram, DescribedStream}
 use Rattle.description_parts.specs.Ranges.{IsInRange}
 use Rattle.description_parts.specs.Tables.{table_count, table_limit, section_count}
@@ -44,8 +44,8 @@ pub record Promised (d : Described) (schedule : Schedule) : Type 0 where
       StreamEmptied (owned schedule (Stream i)) d.rate (declaration s) units × VideoEmptied (owned schedule (Stream i)) d.rate (declaration s) (leak_of b) units
   pub waits : (i : ℕ) (s : DescribedStream) (units : List PesPacket) (n : ℕ) → slice_get d.streams i ≡ Some s →
       WaitsAtMost longest_wait d.rate s.rx units (pes_entered s.rx (run_packets (owned schedule (Stream i)) d.rate (declaration s) units n))
-  pub frames : (i : ℕ) (s : DescribedStream) (f : Framing) (packets : List FramedPacket) → slice_get d.streams i ≡ Some s → s.framing ≡ Some f →
-      All (KeepsFraming (frame_declaration s.interval f)) packets → KeepsDeclaration (declaration s) (packets_of packets) →
+  pub frames : (i : ℕ) (s : DescribedStream) (f : FrameDeclaration) (packets : List FramedPacket) → slice_get d.streams i ≡ Some s → s.framing ≡ Some f →
+      All (KeepsFraming f) packets → Followed f 0 packets → KeepsDeclaration (declaration s) (packets_of packets) →
       FramesServed (owned schedule (Stream i)) d.rate (declaration s) f packets
   pub programs : (i : ℕ) → i < length d.programs → ProgramServed (owned schedule (System i)) d.rate
   pub pcrs : (i : ℕ) (p : DescribedProgram) (slots : ℕ) → slice_get d.programs i ≡ Some p →

@@ -7,11 +7,11 @@ use Rattle.own_slots.specs.Gaps.{gap}
 use Rattle.own_slots.specs.Spread.{spread}
 use Rattle.own_slots.specs.Work.{most_before, most_after, work_left}
 use Rattle.unit_timing.specs.Buffers.{tb_size, system_tb_drain, bsys_size, bsys_drain}
-use Rattle.unit_timing.specs.declared.framing.Framing.{Framing}
+use Rattle.unit_timing.specs.declared.framing.FrameDeclaration.{FrameDeclaration}
 use Rattle.unit_timing.specs.declared.multiplexing_buffer.MultiplexingBuffer.{MultiplexingBuffer as LeakingBuffer}
 use Rattle.unit_timing.specs.Allowances.{allowance_rows}
 use Rattle.unit_timing.specs.Conditions.{Share, rate_needed, rate_given, lead_needed, time_given, bytes_waiting}
-use Rattle.unit_timing.specs.AccessUnits.{frame_declaration, framed_waiting}
+use Rattle.unit_timing.specs.AccessUnits.{framed_waiting}
 use Rattle.description_parts.specs.Described.{Described, DescribedProgram, DescribedStream}
 use Rattle.description_parts.specs.Tables.{table_kinds, table_count, table_limit, round_packets}
 use Rattle.slot_plan.specs.declared.slot.Slot.{Slot}
@@ -146,11 +146,11 @@ main_buffer_entry d p i s = at_most MainBuffer 0 i (bytes_waiting d.rate (declar
 -- code 8, part i of a stream whose units are PES packets of several access units (ISO/IEC 13818-1, 2.4.2.3): when i access units of
 -- a unit of most access units have been removed, those that are left and the bytes of later units that can have arrived find room in
 -- the main buffer. i is 1 to frames - 1; a stream without these keys has part 0 only
-abbrev pub frame_entry : Described → Planned → ℕ → DescribedStream → Framing → ℕ → Entry
+abbrev pub frame_entry : Described → Planned → ℕ → DescribedStream → FrameDeclaration → ℕ → Entry
 frame_entry d p number s f i = let left = f.frames - i in
-    at_most MainBuffer i number (framed_waiting d.rate (declaration s) (frame_declaration s.interval f) (stream_share p number) left) s.main
+    at_most MainBuffer i number (framed_waiting d.rate (declaration s) f (stream_share p number) left) s.main
 
-abbrev pub frame_entries : Described → Planned → ℕ → DescribedStream → Option Framing → List Entry
+abbrev pub frame_entries : Described → Planned → ℕ → DescribedStream → Option FrameDeclaration → List Entry
 frame_entries d p number s None = []
 frame_entries d p number s (Some f) = entries_from (frame_entry d p number s f) 1 (f.frames - 1)
 

@@ -9,11 +9,11 @@ use Rattle.own_slots.specs.Extremes.{greatest}
 use Rattle.own_slots.specs.Work.{work_left}
 use Rattle.own_slots.specs.Switch.{shift}
 use Rattle.unit_timing.specs.Buffers.{system_tb_drain, bsys_drain}
-use Rattle.unit_timing.specs.declared.framing.Framing.{Framing}
+use Rattle.unit_timing.specs.declared.framing.FrameDeclaration.{FrameDeclaration}
 use Rattle.unit_timing.specs.declared.multiplexing_buffer.MultiplexingBuffer.{MultiplexingBuffer as LeakingBuffer}
 use Rattle.unit_timing.specs.Allowances.{allowance_rows}
 use Rattle.unit_timing.specs.Conditions.{Share, lead_across, time_given, bytes_across}
-use Rattle.unit_timing.specs.AccessUnits.{frame_declaration, framed_across}
+use Rattle.unit_timing.specs.AccessUnits.{framed_across}
 use Rattle.description_parts.specs.Described.{Described, DescribedProgram, DescribedStream}
 use Rattle.description_parts.specs.Tables.{table_kinds, table_limit, round_packets}
 use Rattle.slot_plan.specs.declared.slot.Item.{Item}
@@ -104,12 +104,11 @@ main_switch_entry d first second i s =
     at_most MainSwitch 0 i (bytes_across d.rate (declaration s) (stream_share first i) (stream_share second i)) s.main
 
 -- code 16, part i: it does when i access units of a unit of most access units have been removed, for i from 1 to frames - 1
-abbrev pub frame_switch_entry : Described → Planned → Planned → ℕ → DescribedStream → Framing → ℕ → Entry
-frame_switch_entry d first second number s f i = let declared = frame_declaration s.interval f in
-    at_most MainSwitch i number
-    (framed_across d.rate (declaration s) declared (stream_share first number) (stream_share second number) (f.frames - i)) s.main
+abbrev pub frame_switch_entry : Described → Planned → Planned → ℕ → DescribedStream → FrameDeclaration → ℕ → Entry
+frame_switch_entry d first second number s f i = let left = f.frames - i in
+    at_most MainSwitch i number (framed_across d.rate (declaration s) f (stream_share first number) (stream_share second number) left) s.main
 
-abbrev pub frame_switch_entries : Described → Planned → Planned → ℕ → DescribedStream → Option Framing → List Entry
+abbrev pub frame_switch_entries : Described → Planned → Planned → ℕ → DescribedStream → Option FrameDeclaration → List Entry
 frame_switch_entries d first second number s None = []
 frame_switch_entries d first second number s (Some f) = entries_from (frame_switch_entry d first second number s f) 1 (f.frames - 1)
 

@@ -3,7 +3,7 @@
 
 ghost use Rattle.std.specs.Prelude.{◌≡◌, ◌-◌, ◌<◌, ◌∷◌, [], length};
 ghost use Rattle.description_parts.specs.Ranges.{IsStream};
-ghost use Rattle.unit_timing.specs.AccessUnits.{frame_declaration, framed_across};
+ghost use Rattle.unit_timing.specs.AccessUnits.{framed_across};
 ghost use Rattle.slot_plan.specs.Claims.{declaration, stream_share};
 ghost use Rattle.slot_plan.specs.Conditions.{entries_from};
 ghost use Rattle.slot_plan.specs.SwitchConditions.{frame_switch_entry, frame_switch_entries};
@@ -16,21 +16,21 @@ use plan_checker::failure_search::FailureSearch;
 use plan_checker::{ahead_of, left_of_unit};
 use slot_plan::{Condition, StreamDescription};
 use std::alloc::Allocator;
-use unit_timing::framing::Framing;
+use unit_timing::framing::FrameDeclaration;
 
 /// Returns what waits across the switch when `left` access units of a unit are left.
 fn framed_across<A: Allocator>(
     plans: &PlanPair<'_, A>,
     i: usize,
     stream: &StreamDescription,
-    framing: Framing,
+    framing: FrameDeclaration,
     left: u8,
 ) -> u128
     requires stream { i < length plans.now.description.now.streams }
     requires index { i < 32 }
     requires ranges { IsStream stream.now }
     ensures { result ≡ framed_across plans.now.description.now.rate (declaration stream.now)
-        (frame_declaration stream.now.interval framing) (stream_share plans.now.first.now i)
+        framing (stream_share plans.now.first.now i)
         (stream_share plans.now.second.now i) left }
 {
     let bytes = left_of_unit(framing, left);
@@ -67,7 +67,7 @@ fn framed_switches<A: Allocator>(
     plans: &PlanPair<'_, A>,
     i: usize,
     stream: &StreamDescription,
-    framing: Framing,
+    framing: FrameDeclaration,
     search: &mut FailureSearch,
 )
     requires stream { i < length plans.now.description.now.streams }
@@ -89,7 +89,7 @@ fn frame_switch<A: Allocator>(
     plans: &PlanPair<'_, A>,
     i: usize,
     stream: &StreamDescription,
-    framing: Framing,
+    framing: FrameDeclaration,
     gone: u8,
     search: &mut FailureSearch,
 )

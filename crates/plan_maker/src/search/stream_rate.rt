@@ -14,7 +14,7 @@ use plan_checker::{
 };
 use slot_plan::StreamDescription;
 use unit_timing::buffers::TB_SIZE;
-use unit_timing::framing::Framing;
+use unit_timing::framing::FrameDeclaration;
 
 /// The slots by which the search lets a packet be late: the slot that the deadline's condition adds, and two more.
 const JITTER: u128 = 3;
@@ -198,7 +198,7 @@ impl StreamRate<'_> {
         period: u64,
         count: u64,
         first: Option<u128>,
-        framing: Framing,
+        framing: FrameDeclaration,
     ) -> Option<u128>
         ensures { result ≡ spec.frames_width (stream_view self.now) period count first (Some framing) }
     {
@@ -235,7 +235,13 @@ impl StreamRate<'_> {
     }
 
     /// Returns the same when `left` access units of a unit are left; None if these find no room.
-    fn frame_width(&self, period: u64, count: u64, framing: Framing, left: u8) -> Option<u128>
+    fn frame_width(
+        &self,
+        period: u64,
+        count: u64,
+        framing: FrameDeclaration,
+        left: u8,
+    ) -> Option<u128>
         ensures { result ≡ spec.frame_width (stream_view self.now) period count framing left }
     {
         let stream = self.stream;
