@@ -102,17 +102,27 @@ abbrev pub with_one : ℕ → Option Excess → ℕ
 with_one ended under_way = ended + (if is_some under_way then 1 else 0)
 
 abbrev pub transport_event : ℕ → ℕ → ℕ → Event
-transport_event pid most excesses = found.Transport (record { pid = pid; most = most; size = tb_size; excesses = excesses })
+transport_event pid most excesses = found.Buffer (record {
+  pid = pid;
+  buffer = buffers.Transport;
+  most = most;
+  size = tb_size;
+  excesses = excesses;
+  units = None;
+  late = None;
+  unread = None;
+})
 
 abbrev pub main_event : Place → MainFigures → Tally → Event
-main_event place figures t = found.Main (record {
+main_event place figures t = found.Buffer (record {
   pid = place.pid;
+  buffer = buffers.Main;
   most = figures.most;
   size = place.size;
   excesses = figures.excesses;
-  units = t.units;
-  late = t.late;
-  unread = t.unread;
+  units = Some t.units;
+  late = Some t.late;
+  unread = Some t.unread;
 })
 
 -- current excesses come first

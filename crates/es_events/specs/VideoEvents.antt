@@ -63,21 +63,27 @@ video_ended_events options place (Some limits) e unit = ended_of_both options pl
 -- 2. At the end: current excesses come first, then totals of both buffers
 
 abbrev pub multiplexing_event : Place → VideoFigures → VideoTally → Event
-multiplexing_event place f t = found.Multiplexing (record {
+multiplexing_event place f t = found.Buffer (record {
   pid = place.pid;
+  buffer = Multiplexing;
   most = f.multiplexing_most;
   size = f.limits.multiplexing;
   excesses = with_one t.multiplexing f.multiplexing;
+  units = None;
+  late = None;
+  unread = None;
 })
 
 abbrev pub elementary_event : Place → VideoFigures → ℕ → VideoTally → Event
-elementary_event place f units t = found.Elementary (record {
+elementary_event place f units t = found.Buffer (record {
   pid = place.pid;
+  buffer = Elementary;
   most = f.elementary_most;
   size = f.limits.elementary;
   excesses = with_one t.elementary f.elementary;
-  units = units;
-  late = (closed_video f t).late;
+  units = Some units;
+  late = Some (closed_video f t).late;
+  unread = None;
 })
 
 abbrev pub video_under_way : ViewOptions → Place → VideoFigures → List Event

@@ -11,8 +11,7 @@ use crate::view_options::ViewOptions;
 use clock27::units::BYTE_TICKS_AT_1BPS;
 use es_buffers::Buffers;
 use events::{
-    BufferExcess, BufferKind, Event, FarAhead, LateUnit, MainTotals, PidName, StreamBegin,
-    TransportTotals,
+    BufferExcess, BufferKind, BufferTotals, Event, FarAhead, LateUnit, PidName, StreamBegin,
 };
 use std::alloc::AllocError;
 use stream_coding::Coding;
@@ -262,25 +261,30 @@ pub fn with_one(ended: u64, under_way: &Option<Excess>) -> u128
 fn transport_event(pid: u16, most: u128, excesses: u128) -> Event
     ensures { result ≡ spec.transport_event pid most excesses }
 {
-    Event::Transport(TransportTotals {
+    Event::Buffer(BufferTotals {
         pid,
+        buffer: BufferKind::Transport,
         most,
         size: TRANSPORT_BYTES,
         excesses,
+        units: None,
+        late: None,
+        unread: None,
     })
 }
 
 fn main_event(place: &Place, figures: &MainFigures, tally: &Tally) -> Event
     ensures { result ≡ spec.main_event place.now figures.now tally.now }
 {
-    Event::Main(MainTotals {
+    Event::Buffer(BufferTotals {
         pid: place.pid,
-        most: figures.most,
+        buffer: BufferKind::Main,
+        most: u128::from(figures.most),
         size: place.size,
         excesses: figures.excesses,
-        units: tally.units,
-        late: tally.late,
-        unread: tally.unread,
+        units: Some(tally.units),
+        late: Some(tally.late),
+        unread: Some(tally.unread),
     })
 }
 

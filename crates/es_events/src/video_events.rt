@@ -8,7 +8,7 @@ use crate::entry_events::{Place, moment_of, push_excess_if, span_of, with_one};
 use crate::video_figures::{VideoFigures, closed_video};
 use crate::video_tally::{VideoLimits, VideoTally};
 use crate::view_options::ViewOptions;
-use events::{BufferKind, ElementaryLate, ElementaryTotals, Event, MultiplexingTotals};
+use events::{BufferKind, BufferTotals, ElementaryLate, Event};
 use std::alloc::AllocError;
 use tstd_rows::{LateCause, VideoEntered, VideoUnit};
 
@@ -153,11 +153,15 @@ pub fn push_video_ended(
 fn multiplexing_event(place: &Place, figures: &VideoFigures, tally: &VideoTally) -> Event
     ensures { result ≡ spec.multiplexing_event place.now figures.now tally.now }
 {
-    Event::Multiplexing(MultiplexingTotals {
+    Event::Buffer(BufferTotals {
         pid: place.pid,
+        buffer: BufferKind::Multiplexing,
         most: figures.multiplexing_most,
         size: figures.limits.multiplexing,
         excesses: with_one(tally.multiplexing, &figures.multiplexing),
+        units: None,
+        late: None,
+        unread: None,
     })
 }
 
@@ -165,13 +169,15 @@ fn elementary_event(place: &Place, figures: &VideoFigures, units: u64, tally: &V
     ensures { result ≡ spec.elementary_event place.now figures.now units tally.now }
 {
     let closed = closed_video(figures, tally);
-    Event::Elementary(ElementaryTotals {
+    Event::Buffer(BufferTotals {
         pid: place.pid,
-        most: figures.elementary_most,
+        buffer: BufferKind::Elementary,
+        most: u128::from(figures.elementary_most),
         size: figures.limits.elementary,
         excesses: with_one(tally.elementary, &figures.elementary),
-        units,
-        late: closed.late,
+        units: Some(units),
+        late: Some(closed.late),
+        unread: None,
     })
 }
 

@@ -1,6 +1,7 @@
 -- The line of each event (docs/VIEW.md): its word and its fields, in this order.
 use Rattle.std.specs.Prelude.{ℕ, Bool, List, [], ◌∷◌, ◌++◌, codes, flat_map, Option, Some, None}
 use Rattle.events.specs.declared.event.BufferExcess.{BufferExcess}
+use Rattle.events.specs.declared.event.BufferTotals.{BufferTotals}
 use Rattle.events.specs.declared.event.ClockFault.{ClockFault}
 use Rattle.events.specs.declared.event.ClockTotals.{ClockTotals}
 use Rattle.events.specs.declared.event.Event.{Event}
@@ -8,19 +9,17 @@ use Rattle.events.specs.declared.event.Event.TheVariants as events
 use Rattle.events.specs.declared.event.FarAhead.{FarAhead}
 use Rattle.events.specs.declared.event.HeldFigures.{HeldFigures}
 use Rattle.events.specs.declared.event.LateUnit.{LateUnit}
-use Rattle.events.specs.declared.event.MainTotals.{MainTotals}
 use Rattle.events.specs.declared.event.PidTotals.{PidTotals}
 use Rattle.events.specs.declared.event.ReportEnd.{ReportEnd}
 use Rattle.events.specs.declared.event.StreamBegin.{StreamBegin}
 use Rattle.events.specs.declared.event.SystemTotals.{SystemTotals}
 use Rattle.events.specs.declared.event.TableFault.{TableFault}
 use Rattle.events.specs.declared.event.TableTotals.{TableTotals}
-use Rattle.events.specs.declared.event.TransportTotals.{TransportTotals}
 use Rattle.events.specs.declared.event.UnclockedPackets.{UnclockedPackets}
 use Rattle.events.specs.declared.event.UnitFigures.{UnitFigures}
 use Rattle.events.specs.declared.fault_kind.FaultKind.{FaultKind}
 use Rattle.events.specs.declared.timed_event.TimedEvent.{TimedEvent}
-use Rattle.events.specs.BufferKinds.{excess_kind, owner_word}
+use Rattle.events.specs.BufferKinds.{excess_kind, owner_word, word_of as buffer_word}
 use Rattle.events.specs.FaultKinds.{word_of}
 use Rattle.event_lines.specs.FaultLines.{check_word_line, continuity_line, refused_line}
 use Rattle.events.specs.Faults.{fault_of}
@@ -28,10 +27,10 @@ use Rattle.event_lines.specs.FieldViews.{FieldView}
 use Rattle.event_lines.specs.InputLines.{input_line}
 use Rattle.event_lines.specs.MarkLines.{marks_line}
 use Rattle.events.specs.PidNames.{line_word}
-use Rattle.event_lines.specs.ReportLines.{field_text, first_text, last_text, line_of, name_text, number_field, quoted, word_field}
+use Rattle.event_lines.specs.ReportLines.{field_text, first_text, last_text, line_of, name_text, number_field, number_text, quoted, word_field}
 use Rattle.event_lines.specs.RuleLines.{rule_line}
 use Rattle.event_lines.specs.SummaryLines.{check_line, fault_time, summary_line}
-use Rattle.event_lines.specs.VideoLines.{elementary_late_line, elementary_line, multiplexing_line}
+use Rattle.event_lines.specs.VideoLines.{elementary_late_line}
 use Rattle.events.specs.Windows.{WindowView}
 
 -- 1. The lines of a PID in a window
@@ -105,16 +104,15 @@ units_line json e = line_of json (codes "units")
     (number_field (codes "number") e.number ∷ number_field (codes "pid") e.pid ∷ number_field (codes "units") e.units
     ∷ number_field (codes "late") e.late ∷ number_field (codes "slack") e.slack ∷ [])
 
-abbrev pub transport_line : Bool → TransportTotals → List ℕ
-transport_line json e = line_of json (codes "transport")
+-- a line whose word is that of the buffer, with counts of units if the buffer has them
+abbrev pub bytes_line : Bool → BufferTotals → List ℕ
+bytes_line json e = line_of json (buffer_word e.buffer)
     (number_field (codes "pid") e.pid ∷ number_field (codes "most") e.most ∷ number_field (codes "size") e.size
     ∷ number_field (codes "excesses") e.excesses ∷ [])
 
-abbrev pub main_line : Bool → MainTotals → List ℕ
-main_line json e = line_of json (codes "main")
-    (number_field (codes "pid") e.pid ∷ number_field (codes "most") e.most ∷ number_field (codes "size") e.size
-    ∷ number_field (codes "excesses") e.excesses ∷ number_field (codes "units") e.units ∷ number_field (codes "late") e.late
-    ∷ number_field (codes "unread") e.unread ∷ [])
+abbrev pub buffer_line : Bool → BufferTotals → List ℕ
+buffer_line json e = bytes_line json e
+    ++ (number_text json (codes "units") e.units ++ (number_text json (codes "late") e.late ++ number_text json (codes "unread") e.unread))
 
 abbrev pub system_line : Bool → SystemTotals → List ℕ
 system_line json e = line_of json (codes "system")
@@ -162,10 +160,7 @@ event_line json (events.Unclocked e) = unclocked_line json e
 event_line json (events.Refused e) = refused_line json e
 event_line json (events.Continuity e) = continuity_line json e
 event_line json (events.CheckWord e) = check_word_line json e
-event_line json (events.Transport e) = transport_line json e
-event_line json (events.Main e) = main_line json e
-event_line json (events.Multiplexing e) = multiplexing_line json e
-event_line json (events.Elementary e) = elementary_line json e
+event_line json (events.Buffer e) = buffer_line json e
 event_line json (events.Marks e) = marks_line json e
 event_line json (events.System e) = system_line json e
 event_line json (events.Clock e) = clock_line json e

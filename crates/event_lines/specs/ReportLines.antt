@@ -1,5 +1,5 @@
 -- A line: a word and fields, each a name and a number or a word.
-use Rattle.std.specs.Prelude.{ℕ, ◌/◌, ◌%◌, ◌==◌, ◌||◌, nat_lt, Bool, if◌then◌else◌, List, [], ◌∷◌, ◌++◌, codes, decimal, flat_map}
+use Rattle.std.specs.Prelude.{ℕ, ◌/◌, ◌%◌, ◌==◌, ◌||◌, nat_lt, Bool, if◌then◌else◌, List, [], ◌∷◌, ◌++◌, codes, decimal, flat_map, Option, Some, None}
 use Rattle.std.specs.Char.{encode_utf8}
 use Rattle.std.specs.Str.{chars}
 use Rattle.event_lines.specs.FieldViews.{FieldView, ValueView, IsNumber, IsBelow, IsWord, IsSeconds}
@@ -41,6 +41,11 @@ name_text json name = if json then codes "," ++ (quote ++ (name ++ (quote ++ cod
 
 abbrev pub field_text : Bool → FieldView → List ℕ
 field_text json field = name_text json field.name ++ value_text json field.value
+
+-- a field with a number, if there is one
+unfoldable pub number_text : Bool → List ℕ → Option ℕ → List ℕ
+number_text json name None = []
+number_text json name (Some n) = field_text json (number_field name n)
 
 -- `WORD` or `{"line":"WORD"`
 abbrev pub first_text : Bool → List ℕ → List ℕ

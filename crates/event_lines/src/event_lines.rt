@@ -4,8 +4,8 @@ ghost use Rattle.event_lines.specs.EventLines as spec;
 
 use crate::fault_lines::{write_check_word, write_continuity, write_refused};
 use crate::figure_lines::{
-    write_clock, write_end, write_held, write_main, write_pid, write_system, write_table,
-    write_transport, write_units,
+    write_buffer, write_clock, write_end, write_held, write_pid, write_system, write_table,
+    write_units,
 };
 use crate::input_lines::write_input;
 use crate::lines::{number, write_last, write_line};
@@ -16,7 +16,7 @@ use crate::packet_lines::{
 };
 use crate::rule_lines::write_rule;
 use crate::summary_lines::{write_check, write_fault_time, write_summary};
-use crate::video_lines::{write_elementary, write_elementary_late, write_multiplexing};
+use crate::video_lines::write_elementary_late;
 use crate::window_line::write_window;
 use events::{Event, TimedEvent, fault_of};
 use std::alloc::{AllocError, Global};
@@ -53,10 +53,7 @@ fn write_event(
         Event::Refused(e) => write_refused(text, json, e),
         Event::Continuity(e) => write_continuity(text, json, e),
         Event::CheckWord(e) => write_check_word(text, json, e),
-        Event::Transport(e) => write_transport(text, json, e),
-        Event::Main(e) => write_main(text, json, e),
-        Event::Multiplexing(e) => write_multiplexing(text, json, e),
-        Event::Elementary(e) => write_elementary(text, json, e),
+        Event::Buffer(e) => write_buffer(text, json, e),
         Event::Marks(e) => write_marks(text, json, e),
         Event::System(e) => write_system(text, json, e),
         Event::Clock(e) => write_clock(text, json, e),

@@ -2,10 +2,10 @@
 ghost use Rattle.std.specs.Prelude.{◌≡◌, ◌++◌, OnOk, string_bytes};
 ghost use Rattle.event_lines.specs.EventLines as spec;
 
-use crate::lines::{number, write_line};
+use crate::lines::{number, write_line, write_number_if};
 use events::{
-    ClockTotals, HeldFigures, MainTotals, PidTotals, ReportEnd, SystemTotals, TableTotals,
-    TransportTotals, UnitFigures,
+    BufferTotals, ClockTotals, HeldFigures, PidTotals, ReportEnd, SystemTotals, TableTotals,
+    UnitFigures,
 };
 use std::alloc::AllocError;
 
@@ -37,13 +37,9 @@ pub(crate) fn write_units(text: &mut String, json: bool, e: &UnitFigures) -> Res
     write_line(text, json, "units", &fields)
 }
 
-/// Appends `transport`.
-pub(crate) fn write_transport(
-    text: &mut String,
-    json: bool,
-    e: &TransportTotals,
-) -> Result<(), AllocError>
-    ensures { OnOk result (string_bytes text.new ≡ string_bytes text.old ++ spec.transport_line json e.now) }
+// Appends the bytes that a buffer held.
+fn write_bytes(text: &mut String, json: bool, e: &BufferTotals) -> Result<(), AllocError>
+    ensures { OnOk result (string_bytes text.new ≡ string_bytes text.old ++ spec.bytes_line json e.now) }
 {
     let fields = [
         number("pid", u128::from(e.pid)),
@@ -51,23 +47,21 @@ pub(crate) fn write_transport(
         number("size", u128::from(e.size)),
         number("excesses", e.excesses),
     ];
-    write_line(text, json, "transport", &fields)
+    write_line(text, json, e.buffer.word(), &fields)
 }
 
-/// Appends `main`.
-pub(crate) fn write_main(text: &mut String, json: bool, e: &MainTotals) -> Result<(), AllocError>
-    ensures { OnOk result (string_bytes text.new ≡ string_bytes text.old ++ spec.main_line json e.now) }
+/// Appends the totals of a buffer, by its word.
+pub(crate) fn write_buffer(
+    text: &mut String,
+    json: bool,
+    e: &BufferTotals,
+) -> Result<(), AllocError>
+    ensures { OnOk result (string_bytes text.new ≡ string_bytes text.old ++ spec.buffer_line json e.now) }
 {
-    let fields = [
-        number("pid", u128::from(e.pid)),
-        number("most", u128::from(e.most)),
-        number("size", u128::from(e.size)),
-        number("excesses", e.excesses),
-        number("units", u128::from(e.units)),
-        number("late", u128::from(e.late)),
-        number("unread", u128::from(e.unread)),
-    ];
-    write_line(text, json, "main", &fields)
+    write_bytes(text, json, e)?;
+    write_number_if(text, json, "units", e.units)?;
+    write_number_if(text, json, "late", e.late)?;
+    write_number_if(text, json, "unread", e.unread)
 }
 
 /// Appends `system`.

@@ -129,6 +129,22 @@ pub(crate) fn write_field(text: &mut String, json: bool, field: &Field) -> Resul
     write_value(text, json, field.value)
 }
 
+/// Appends a field with a number, if there is one.
+#[tactic(auto, unfolding(crate::specs::ReportLines::number_text))]
+pub(crate) fn write_number_if(
+    text: &mut String,
+    json: bool,
+    name: &'static str,
+    value: Option<u64>,
+) -> Result<(), AllocError>
+    ensures { OnOk result (string_bytes text.new ≡ string_bytes text.old ++ spec.number_text json name.now value) }
+{
+    match value {
+        None => Ok(()),
+        Some(value) => write_field(text, json, &number(name, u128::from(value))),
+    }
+}
+
 /// Appends fields.
 pub(crate) fn write_fields(
     text: &mut String,

@@ -10,7 +10,7 @@ use crate::packet_fault::{CheckWordFault, CounterFault, RefusedPacket};
 use crate::pid_name::PidName;
 use crate::rule_event::{BufferKind, RuleEvent};
 use crate::summary::SummaryEvent;
-use crate::video_event::{ElementaryLate, ElementaryTotals, MultiplexingTotals};
+use crate::video_event::ElementaryLate;
 use std::marker::Model;
 
 /// The buffers of a stream that the tables name begin with a packet.
@@ -151,26 +151,19 @@ pub struct UnclockedPackets {
     pub packets: u64,
 }
 
-/// What the transport buffer of a stream held over all moments.
+/// What a buffer of a stream held over all moments.
 #[derive(Clone, Copy)]
-pub struct TransportTotals {
+pub struct BufferTotals {
     pub pid: u16,
+    pub buffer: BufferKind,
     pub most: u128,
     pub size: u64,
     pub excesses: u128,
-}
-
-/// What the main buffer of a stream held over all moments, and its units.
-#[derive(Clone, Copy)]
-pub struct MainTotals {
-    pub pid: u16,
-    pub most: u64,
-    pub size: u64,
-    pub excesses: u128,
-    pub units: u64,
-    pub late: u64,
-    /// PES packets whose header is wrong, or not whole in its first packet.
-    pub unread: u64,
+    /// The units of the stream, and how many of them are late, for a buffer from which units are decoded.
+    pub units: Option<u64>,
+    pub late: Option<u64>,
+    /// PES packets whose header is wrong, or not whole in its first packet, for a main buffer.
+    pub unread: Option<u64>,
 }
 
 /// What the transport buffer and the system buffer of a program's tables held over all moments.
@@ -253,10 +246,7 @@ pub enum Event {
     Refused(RefusedPacket),
     Continuity(CounterFault),
     CheckWord(CheckWordFault),
-    Transport(TransportTotals),
-    Main(MainTotals),
-    Multiplexing(MultiplexingTotals),
-    Elementary(ElementaryTotals),
+    Buffer(BufferTotals),
     Marks(MarkTotals),
     System(SystemTotals),
     Clock(ClockTotals),

@@ -28,9 +28,9 @@ pub use check_counts::{
     CheckCount, CheckCounts, CheckTotals, FaultCount, NO_FAULT, NoVerdict, StreamTime, fails,
 };
 pub use event::{
-    BufferExcess, ClockFault, ClockTotals, Event, FarAhead, HeldFigures, LateUnit, MainTotals,
-    PidTotals, ReportEnd, StreamBegin, SystemTotals, TableFault, TableTotals, TransportTotals,
-    UnclockedPackets, UnitFigures, WindowFigures,
+    BufferExcess, BufferTotals, ClockFault, ClockTotals, Event, FarAhead, HeldFigures, LateUnit,
+    PidTotals, ReportEnd, StreamBegin, SystemTotals, TableFault, TableTotals, UnclockedPackets,
+    UnitFigures, WindowFigures,
 };
 pub use fault::{Fault, Measured, fault_of};
 pub use fault_kind::{FaultKind, FaultSource};
@@ -47,4 +47,4 @@ pub use summary::{
     WorstBuffer,
 };
 pub use timed_event::TimedEvent;
-pub use video_event::{ElementaryLate, ElementaryTotals, LateCause, MultiplexingTotals};
+pub use video_event::{ElementaryLate, LateCause};

@@ -38,23 +38,3 @@ pub struct ElementaryLate {
     pub bytes: u64,
     pub cause: LateCause,
 }
-
-/// What the multiplexing buffer of a stream held over all moments.
-#[derive(Clone, Copy)]
-pub struct MultiplexingTotals {
-    pub pid: u16,
-    pub most: u128,
-    pub size: u64,
-    pub excesses: u128,
-}
-
-/// What the elementary stream buffer of a stream held over all moments, and its units.
-#[derive(Clone, Copy)]
-pub struct ElementaryTotals {
-    pub pid: u16,
-    pub most: u64,
-    pub size: u64,
-    pub excesses: u128,
-    pub units: u64,
-    pub late: u64,
-}

@@ -1,8 +1,8 @@
 -- The totals of the buffers of a stream.
-use Rattle.std.specs.Prelude.{ℕ, ◌+◌, ◌-◌, ◌*◌, ◌^◌, ◌==◌, min, not, nat_lt, if◌then◌else◌, Bool, Option, Some, None}
+use Rattle.std.specs.Prelude.{ℕ, ◌+◌, ◌-◌, ◌*◌, ◌^◌, ◌==◌, min, not, nat_lt, unwrap_or, if◌then◌else◌, Bool, Option, Some, None}
 use Rattle.events.specs.declared.event.Event.{Event}
 use Rattle.events.specs.declared.event.Event.TheVariants as events
-use Rattle.events.specs.declared.event.MainTotals.{MainTotals}
+use Rattle.events.specs.declared.event.BufferTotals.{BufferTotals}
 use Rattle.events.specs.declared.event.SystemTotals.{SystemTotals}
 use Rattle.events.specs.declared.rule_event.BufferKind.{BufferKind}
 use Rattle.events.specs.declared.rule_event.BufferKind.TheVariants as kinds
@@ -52,18 +52,20 @@ with_buffer s next excesses = if next.most == 0 then s else with_viewed s next e
 abbrev pub with_units : BufferFigures → ℕ → ℕ → BufferFigures
 with_units s units late = record { buffers = s.buffers; over = s.over; worst = s.worst; units = more s.units units; late = more s.late late }
 
-abbrev pub with_main : BufferFigures → MainTotals → BufferFigures
-with_main s e = with_units (with_buffer s (buffer e.pid kinds.Main e.most e.size) e.excesses) e.units e.late
+-- the units of a stream count once, with its main buffer
+unfoldable pub with_units_of : BufferFigures → BufferTotals → BufferKind → BufferFigures
+with_units_of s e kinds.Main = with_units s (unwrap_or e.units 0) (unwrap_or e.late 0)
+with_units_of s e _ = s
+
+abbrev pub with_totals : BufferFigures → BufferTotals → BufferFigures
+with_totals s e = with_units_of (with_buffer s (buffer e.pid e.buffer e.most e.size) e.excesses) e e.buffer
 
 abbrev pub with_system : BufferFigures → SystemTotals → BufferFigures
 with_system s e = with_buffer (with_buffer s (buffer e.program kinds.TableTransport e.transport e.transport_size) e.transport_excesses)
     (buffer e.program kinds.System e.main e.main_size) e.main_excesses
 
 unfoldable pub with_event : BufferFigures → Event → BufferFigures
-with_event s (events.Transport e) = with_buffer s (buffer e.pid kinds.Transport e.most e.size) e.excesses
-with_event s (events.Main e) = with_main s e
-with_event s (events.Multiplexing e) = with_buffer s (buffer e.pid kinds.Multiplexing e.most e.size) e.excesses
-with_event s (events.Elementary e) = with_buffer s (buffer e.pid kinds.Elementary e.most e.size) e.excesses
+with_event s (events.Buffer e) = with_totals s e
 with_event s (events.System e) = with_system s e
 with_event s _ = s
 

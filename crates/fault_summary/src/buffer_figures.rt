@@ -4,7 +4,7 @@ ghost use Rattle.fault_summary.specs.BufferFigures as spec;
 
 use crate::fault_rows::FaultRows;
 use events::{
-    BufferKind, BufferVerdict, Event, FaultTotals, MainTotals, SystemTotals, UnitVerdict,
+    BufferKind, BufferTotals, BufferVerdict, Event, FaultTotals, SystemTotals, UnitVerdict,
     WorstBuffer,
 };
 
@@ -103,17 +103,28 @@ impl BufferFigures {
         self.with_viewed(next, excesses)
     }
 
-    fn with_main(self, e: &MainTotals) -> BufferFigures
-        ensures { result ≡ spec.with_main self e.now }
+    // Counts the units of a stream.
+    fn with_units(self, units: u64, late: u64) -> BufferFigures
+        ensures { result ≡ spec.with_units self units late }
     {
-        let main = buffer(e.pid, BufferKind::Main, u128::from(e.most), e.size);
-        let figures = self.with(main, e.excesses);
         BufferFigures {
-            buffers: figures.buffers,
-            over: figures.over,
-            worst: figures.worst,
-            units: figures.units.saturating_add(e.units),
-            late: figures.late.saturating_add(e.late),
+            buffers: self.buffers,
+            over: self.over,
+            worst: self.worst,
+            units: self.units.saturating_add(units),
+            late: self.late.saturating_add(late),
+        }
+    }
+
+    // Counts a buffer of a stream, and for a main buffer the units of the stream.
+    #[tactic(auto, unfolding(crate::specs::BufferFigures::with_units_of))]
+    fn with_totals(self, e: &BufferTotals) -> BufferFigures
+        ensures { result ≡ spec.with_totals self e.now }
+    {
+        let figures = self.with(buffer(e.pid, e.buffer, e.most, e.size), e.excesses);
+        match e.buffer {
+            BufferKind::Main => figures.with_units(e.units.unwrap_or(0), e.late.unwrap_or(0)),
+            _ => figures,
         }
     }
 
@@ -133,25 +144,7 @@ impl BufferFigures {
         ensures { self.new ≡ spec.with_event self.old event.now }
     {
         match event {
-            Event::Transport(e) => {
-                *self = self.with(
-                    buffer(e.pid, BufferKind::Transport, e.most, e.size),
-                    e.excesses,
-                );
-            }
-            Event::Multiplexing(e) => {
-                *self = self.with(
-                    buffer(e.pid, BufferKind::Multiplexing, e.most, e.size),
-                    e.excesses,
-                );
-            }
-            Event::Elementary(e) => {
-                *self = self.with(
-                    buffer(e.pid, BufferKind::Elementary, u128::from(e.most), e.size),
-                    e.excesses,
-                );
-            }
-            Event::Main(e) => *self = self.with_main(e),
+            Event::Buffer(e) => *self = self.with_totals(e),
             Event::System(e) => *self = self.with_system(e),
             _ => {}
         }

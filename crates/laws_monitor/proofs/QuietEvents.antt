@@ -160,7 +160,8 @@ unfolding fault_in
 of_both options place limits multiplexing elementary unit =
     join (map (excess_event buffers.Multiplexing options (with_size place limits.multiplexing)) multiplexing) _
     (each (excess_event buffers.Multiplexing options (with_size place limits.multiplexing)) multiplexing (λ x. refl))
-    (join (map (excess_event buffers.Elementary options (with_size place limits.elementary)) (option_to_list elementary)) _
+    (join (map (excess_event buffers.Elementary options (with_size place limits.elementary)) (option_to_list elementary))
+    (elementary_late_events options place unit)
     (each (excess_event buffers.Elementary options (with_size place limits.elementary)) (option_to_list elementary) (λ x. refl))
     (video_lates options place unit))
 

@@ -5,6 +5,8 @@ use Rattle.events.specs.declared.fault_kind.FaultKind.{FaultKind}
 use Rattle.events.specs.declared.fault_kind.FaultKind.TheVariants as kinds
 use Rattle.events.specs.declared.fault_kind.FaultSource.{FaultSource}
 use Rattle.events.specs.declared.fault_kind.FaultSource.TheVariants as sources
+use Rattle.events.specs.declared.rule_event.BufferKind.{BufferKind}
+use Rattle.events.specs.declared.rule_event.BufferKind.TheVariants as buffers
 use Rattle.events.specs.FileForms.{words}
 use Rattle.events.specs.Checks.{name_of, number_of}
 use Rattle.page_curves.specs.Numbers.{grouped, tenths}
@@ -12,7 +14,7 @@ use Rattle.page_curves.specs.PidLabels.{LabelsState, label_text}
 use Rattle.view_rows.specs.declared.cells.CellUnit.{CellUnit}
 use Rattle.view_rows.specs.declared.cells.CellUnit.TheVariants.{Same, Ticks}
 use Rattle.view_rows.specs.declared.cells.CellWord.{CellWord}
-use Rattle.view_rows.specs.declared.cells.CellWord.TheVariants.{Transport, Main, Multiplexing, Elementary, Fault}
+use Rattle.view_rows.specs.declared.cells.CellWord.TheVariants.{Buffer, Fault}
 use Rattle.view_rows.specs.declared.cells.CellWord.TheVariants.{LateByMultiplex, LateByFullBuffer, PacketSize, Bytes}
 use Rattle.view_rows.specs.declared.cells.CellWord.TheVariants.{Packets, Millis, Nanos, BitRate, NoClock, RateVaries}
 use Rattle.view_rows.specs.declared.cells.CellWord.TheVariants.{Nothing}
@@ -59,11 +61,17 @@ fault_text kinds.StampJump = codes "arrival time stamp that jumps"
 fault_text kinds.NoTable = codes "no whole section of the table"
 fault_text kinds.PidRepetition = codes "no packet of the PID for too long"
 
+-- what a buffer is called
+unfoldable pub buffer_text : BufferKind → List ℕ
+buffer_text buffers.Transport = codes "transport"
+buffer_text buffers.Multiplexing = codes "multiplexing (MB)"
+buffer_text buffers.Elementary = codes "elementary stream (EB)"
+buffer_text buffers.Main = codes "main"
+buffer_text buffers.TableTransport = codes "transport, of tables"
+buffer_text buffers.System = codes "system"
+
 unfoldable pub word_text : CellWord → List ℕ
-word_text Transport = codes "transport"
-word_text Main = codes "main"
-word_text Multiplexing = codes "multiplexing (MB)"
-word_text Elementary = codes "elementary stream (EB)"
+word_text (Buffer buffer) = buffer_text buffer
 word_text (Fault kind) = fault_text kind
 word_text LateByMultiplex = codes "unit late in its elementary stream buffer (EB): sent too late or too fast"
 word_text LateByFullBuffer = codes "unit late in its elementary stream buffer (EB): EB was full"

@@ -3,21 +3,18 @@ use Rattle.std.specs.Prelude.{ℕ, List, [], ◌∷◌, Option, Some, None}
 use Rattle.events.specs.declared.check_counts.CheckTotals.{CheckTotals}
 use Rattle.events.specs.declared.check_counts.NoVerdict.{NoVerdict}
 use Rattle.events.specs.declared.check_counts.NoVerdict.TheVariants as reasons
+use Rattle.events.specs.declared.event.BufferTotals.{BufferTotals}
 use Rattle.events.specs.declared.event.ClockTotals.{ClockTotals}
 use Rattle.events.specs.declared.event.LateUnit.{LateUnit}
-use Rattle.events.specs.declared.event.MainTotals.{MainTotals}
 use Rattle.events.specs.declared.event.PidTotals.{PidTotals}
 use Rattle.events.specs.declared.event.StreamBegin.{StreamBegin}
 use Rattle.events.specs.declared.event.SystemTotals.{SystemTotals}
 use Rattle.events.specs.declared.event.TableTotals.{TableTotals}
-use Rattle.events.specs.declared.event.TransportTotals.{TransportTotals}
 use Rattle.events.specs.declared.event.UnclockedPackets.{UnclockedPackets}
 use Rattle.events.specs.declared.packet_fault.CounterFault.{CounterFault}
 use Rattle.events.specs.declared.video_event.ElementaryLate.{ElementaryLate}
 use Rattle.events.specs.declared.video_event.LateCause.{LateCause}
 use Rattle.events.specs.declared.video_event.LateCause.TheVariants as late_causes
-use Rattle.events.specs.declared.video_event.ElementaryTotals.{ElementaryTotals}
-use Rattle.events.specs.declared.video_event.MultiplexingTotals.{MultiplexingTotals}
 use Rattle.events.specs.declared.fault_kind.FaultKind.{FaultKind}
 use Rattle.events.specs.declared.fault_kind.FaultKind.TheVariants as kinds
 use Rattle.view_rows.specs.declared.cells.Cell.{Cell}
@@ -32,28 +29,16 @@ abbrev pub stream_cells : StreamBegin → List Cell
 stream_cells e =
     Number e.stream_type Same ∷ Number e.rx Same ∷ Number e.main Same ∷ []
 
--- cells for a transport buffer
-abbrev pub transport_cells : TransportTotals → List Cell
-transport_cells e =
-    Number e.pid Same ∷ Carried e.pid ∷ Word words.Transport ∷ Number e.size Same ∷ Checked (short e.most) (Some e.size) Same
-    ∷ Bar (short e.most) (Some e.size) ∷ Checked (short e.excesses) (Some 0) Same ∷ Word words.Nothing ∷ Word words.Nothing ∷ Word words.Nothing ∷ []
+-- cells for a buffer: a count that the buffer has not is left out
+unfoldable pub count_cell : Option ℕ → Option ℕ → Cell
+count_cell None limit = Word words.Nothing
+count_cell (Some count) limit = Checked count limit Same
 
--- cells for a main buffer
-abbrev pub main_cells : MainTotals → List Cell
-main_cells e =
-    Number e.pid Same ∷ Carried e.pid ∷ Word words.Main ∷ Number e.size Same ∷ Checked e.most (Some e.size) Same ∷ Bar e.most (Some e.size)
-    ∷ Checked (short e.excesses) (Some 0) Same ∷ Number e.units Same ∷ Checked e.late (Some 0) Same ∷ Checked e.unread (Some 0) Same ∷ []
-
--- cells for the two buffers of video
-abbrev pub multiplexing_cells : MultiplexingTotals → List Cell
-multiplexing_cells e =
-    Number e.pid Same ∷ Carried e.pid ∷ Word words.Multiplexing ∷ Number e.size Same ∷ Checked (short e.most) (Some e.size) Same
-    ∷ Bar (short e.most) (Some e.size) ∷ Checked (short e.excesses) (Some 0) Same ∷ Word words.Nothing ∷ Word words.Nothing ∷ Word words.Nothing ∷ []
-
-abbrev pub elementary_cells : ElementaryTotals → List Cell
-elementary_cells e =
-    Number e.pid Same ∷ Carried e.pid ∷ Word words.Elementary ∷ Number e.size Same ∷ Checked e.most (Some e.size) Same ∷ Bar e.most (Some e.size)
-    ∷ Checked (short e.excesses) (Some 0) Same ∷ Number e.units Same ∷ Checked e.late (Some 0) Same ∷ Word words.Nothing ∷ []
+abbrev pub buffer_cells : BufferTotals → List Cell
+buffer_cells e =
+    Number e.pid Same ∷ Carried e.pid ∷ Word (words.Buffer e.buffer) ∷ Number e.size Same ∷ Checked (short e.most) (Some e.size) Same
+    ∷ Bar (short e.most) (Some e.size) ∷ Checked (short e.excesses) (Some 0) Same
+    ∷ count_cell e.units None ∷ count_cell e.late (Some 0) ∷ count_cell e.unread (Some 0) ∷ []
 
 -- cells for the buffers of a program's tables
 abbrev pub system_cells : SystemTotals → List Cell

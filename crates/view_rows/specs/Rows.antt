@@ -2,8 +2,7 @@
 use Rattle.std.specs.Prelude.{◌+◌, ◌-◌, ◌^◌, min, nat_lt, if◌then◌else◌, ℕ, List, [], ◌∷◌, ◌++◌, codes, flat_map, Option, Some, None}
 use Rattle.events.specs.declared.event.Event.{Event}
 use Rattle.events.specs.declared.event.Event.TheVariants.{Input, Stream, Late, ElementaryLate, Unclocked, Continuity}
-use Rattle.events.specs.declared.event.Event.TheVariants.{Transport, Main, Multiplexing, Elementary, Marks, System}
-use Rattle.events.specs.declared.event.Event.TheVariants.{Clock, Table, Pid, Unreferenced, Missing, Check, Summary}
+use Rattle.events.specs.declared.event.Event.TheVariants.{Buffer, Marks, System, Clock, Table, Pid, Unreferenced, Missing, Check, Summary}
 use Rattle.events.specs.declared.timed_event.TimedEvent.{TimedEvent}
 use Rattle.events.specs.declared.event.StreamBegin.{StreamBegin}
 use Rattle.events.specs.declared.input_event.InputEvent.{InputEvent}
@@ -18,9 +17,8 @@ use Rattle.view_rows.specs.declared.cells.Cell.{Cell}
 use Rattle.events.specs.declared.fault_kind.FaultKind.TheVariants as kinds
 use Rattle.view_rows.specs.declared.rows.TheConstants.{MOST_FAULTS}
 use Rattle.view_rows.specs.Cells.{cell, row}
-use Rattle.view_rows.specs.RowCells.{check_cells, clock_cells, continuity_cells, elementary_cells, elementary_late_cells, late_cells, main_cells}
-use Rattle.view_rows.specs.RowCells.{multiplexing_cells, pid_cells, reference_cells, stream_cells, system_cells, table_cells, transport_cells}
-use Rattle.view_rows.specs.RowCells.{unclocked_cells}
+use Rattle.view_rows.specs.RowCells.{buffer_cells, check_cells, clock_cells, continuity_cells, elementary_late_cells, late_cells, pid_cells}
+use Rattle.view_rows.specs.RowCells.{reference_cells, stream_cells, system_cells, table_cells, unclocked_cells}
 use Rattle.view_rows.specs.InputCells.{empty_cells, no_stream_cells, no_stamps_cells, other_rate_cells, packet_size_cells, rest_cells, slip_cells}
 use Rattle.page_curves.specs.PidLabels.{LabelsState}
 use Rattle.view_rows.specs.MarkCells.{mark_cells}
@@ -105,17 +103,11 @@ with_input labels fault r (inputs.StampJump e) = with_known_fault labels r fault
 abbrev pub with_stream : LabelsState → RowTexts → StreamBegin → RowTexts
 with_stream labels r e = record r { streams = r.streams ++ record { pid = e.pid; cells = flat_map (cell labels) (stream_cells e) } ∷ [] }
 
-abbrev pub with_buffer : LabelsState → RowTexts → List Cell → RowTexts
-with_buffer labels r cells = record r { buffers = r.buffers ++ row labels cells }
-
 -- an event
 unfoldable pub with_kind : LabelsState → Option Fault → RowTexts → Event → RowTexts
 with_kind labels fault r (Input e) = with_input labels fault r e
 with_kind labels fault r (Stream e) = with_stream labels r e
-with_kind labels fault r (Transport e) = with_buffer labels r (transport_cells e)
-with_kind labels fault r (Main e) = with_buffer labels r (main_cells e)
-with_kind labels fault r (Multiplexing e) = with_buffer labels r (multiplexing_cells e)
-with_kind labels fault r (Elementary e) = with_buffer labels r (elementary_cells e)
+with_kind labels fault r (Buffer e) = record r { buffers = r.buffers ++ row labels (buffer_cells e) }
 with_kind labels fault r (Marks e) = record r { marks = r.marks ++ row labels (mark_cells e) }
 with_kind labels fault r (System e) = record r { systems = r.systems ++ row labels (system_cells e) }
 with_kind labels fault r (Clock e) = record r { clocks = r.clocks ++ row labels (clock_cells e) }

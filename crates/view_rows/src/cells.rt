@@ -2,7 +2,7 @@
 ghost use Rattle.std.specs.Prelude.{◌≡◌, ◌++◌, OnOk, flat_map, string_bytes};
 ghost use Rattle.view_rows.specs.Cells as spec;
 
-use events::{Check, FaultKind, FaultSource, FileForm};
+use events::{BufferKind, Check, FaultKind, FaultSource, FileForm};
 use page_curves::{PidLabels, write_grouped, write_label, write_tenths};
 use std::alloc::AllocError;
 use std::fmt::Write;
@@ -14,13 +14,10 @@ pub enum CellUnit {
     Ticks,
 }
 
-/// A word of a cell: a kind of fault, or another word.
+/// A word of a cell: a buffer, a kind of fault, or another word.
 #[derive(Clone, Copy)]
 pub enum CellWord {
-    Transport,
-    Main,
-    Multiplexing,
-    Elementary,
+    Buffer(BufferKind),
     Fault(FaultKind),
     LateByMultiplex,
     LateByFullBuffer,
@@ -114,15 +111,26 @@ fn fault_text(kind: FaultKind) -> &'static str
     }
 }
 
+#[tactic(auto, unfolding(crate::specs::Cells::buffer_text))]
+fn buffer_text(buffer: BufferKind) -> &'static str
+    ensures { result.now ≡ spec.buffer_text buffer }
+{
+    match buffer {
+        BufferKind::Transport => "transport",
+        BufferKind::Multiplexing => "multiplexing (MB)",
+        BufferKind::Elementary => "elementary stream (EB)",
+        BufferKind::Main => "main",
+        BufferKind::TableTransport => "transport, of tables",
+        BufferKind::System => "system",
+    }
+}
+
 #[tactic(auto, unfolding(crate::specs::Cells::word_text))]
 fn word_text(word: CellWord) -> &'static str
     ensures { result.now ≡ spec.word_text word }
 {
     match word {
-        CellWord::Transport => "transport",
-        CellWord::Main => "main",
-        CellWord::Multiplexing => "multiplexing (MB)",
-        CellWord::Elementary => "elementary stream (EB)",
+        CellWord::Buffer(buffer) => buffer_text(buffer),
         CellWord::Fault(kind) => fault_text(kind),
         CellWord::LateByMultiplex => {
             "unit late in its elementary stream buffer (EB): sent too late or too fast"

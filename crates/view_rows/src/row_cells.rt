@@ -4,9 +4,8 @@ ghost use Rattle.view_rows.specs.RowCells as spec;
 
 use crate::cells::{Cell, CellUnit, CellWord, limit_if, short};
 use events::{
-    CheckTotals, ClockTotals, CounterFault, ElementaryLate, ElementaryTotals, FaultKind, LateCause,
-    LateUnit, MainTotals, MultiplexingTotals, NoVerdict, PidTotals, StreamBegin, SystemTotals,
-    TableTotals, TransportTotals, UnclockedPackets,
+    BufferTotals, CheckTotals, ClockTotals, CounterFault, ElementaryLate, FaultKind, LateCause,
+    LateUnit, NoVerdict, PidTotals, StreamBegin, SystemTotals, TableTotals, UnclockedPackets,
 };
 
 /// Returns the cells of a stream, after its PID and what the PID carries.
@@ -20,75 +19,32 @@ pub(crate) fn stream_cells(e: &StreamBegin) -> [Cell; 3]
     ]
 }
 
-/// Returns the cells of a transport buffer.
-pub(crate) fn transport_cells(e: &TransportTotals) -> [Cell; 10]
-    ensures { result ≡ spec.transport_cells e.now }
+// Returns the cell of a count, if the row has it.
+#[tactic(auto, unfolding(crate::specs::RowCells::count_cell))]
+fn count_cell(count: Option<u64>, limit: Option<u64>) -> Cell
+    ensures { result ≡ spec.count_cell count limit }
+{
+    match count {
+        None => Cell::Word(CellWord::Nothing),
+        Some(count) => Cell::Checked(count, limit, CellUnit::Same),
+    }
+}
+
+/// Returns the cells of a buffer.
+pub(crate) fn buffer_cells(e: &BufferTotals) -> [Cell; 10]
+    ensures { result ≡ spec.buffer_cells e.now }
 {
     [
         Cell::Number(u64::from(e.pid), CellUnit::Same),
         Cell::Carried(e.pid),
-        Cell::Word(CellWord::Transport),
+        Cell::Word(CellWord::Buffer(e.buffer)),
         Cell::Number(e.size, CellUnit::Same),
         Cell::Checked(short(e.most), Some(e.size), CellUnit::Same),
         Cell::Bar(short(e.most), Some(e.size)),
         Cell::Checked(short(e.excesses), Some(0), CellUnit::Same),
-        Cell::Word(CellWord::Nothing),
-        Cell::Word(CellWord::Nothing),
-        Cell::Word(CellWord::Nothing),
-    ]
-}
-
-/// Returns the cells of a main buffer.
-pub(crate) fn main_cells(e: &MainTotals) -> [Cell; 10]
-    ensures { result ≡ spec.main_cells e.now }
-{
-    [
-        Cell::Number(u64::from(e.pid), CellUnit::Same),
-        Cell::Carried(e.pid),
-        Cell::Word(CellWord::Main),
-        Cell::Number(e.size, CellUnit::Same),
-        Cell::Checked(e.most, Some(e.size), CellUnit::Same),
-        Cell::Bar(e.most, Some(e.size)),
-        Cell::Checked(short(e.excesses), Some(0), CellUnit::Same),
-        Cell::Number(e.units, CellUnit::Same),
-        Cell::Checked(e.late, Some(0), CellUnit::Same),
-        Cell::Checked(e.unread, Some(0), CellUnit::Same),
-    ]
-}
-
-/// Returns the cells of a multiplexing buffer.
-pub(crate) fn multiplexing_cells(e: &MultiplexingTotals) -> [Cell; 10]
-    ensures { result ≡ spec.multiplexing_cells e.now }
-{
-    [
-        Cell::Number(u64::from(e.pid), CellUnit::Same),
-        Cell::Carried(e.pid),
-        Cell::Word(CellWord::Multiplexing),
-        Cell::Number(e.size, CellUnit::Same),
-        Cell::Checked(short(e.most), Some(e.size), CellUnit::Same),
-        Cell::Bar(short(e.most), Some(e.size)),
-        Cell::Checked(short(e.excesses), Some(0), CellUnit::Same),
-        Cell::Word(CellWord::Nothing),
-        Cell::Word(CellWord::Nothing),
-        Cell::Word(CellWord::Nothing),
-    ]
-}
-
-/// Returns the cells of an elementary stream buffer.
-pub(crate) fn elementary_cells(e: &ElementaryTotals) -> [Cell; 10]
-    ensures { result ≡ spec.elementary_cells e.now }
-{
-    [
-        Cell::Number(u64::from(e.pid), CellUnit::Same),
-        Cell::Carried(e.pid),
-        Cell::Word(CellWord::Elementary),
-        Cell::Number(e.size, CellUnit::Same),
-        Cell::Checked(e.most, Some(e.size), CellUnit::Same),
-        Cell::Bar(e.most, Some(e.size)),
-        Cell::Checked(short(e.excesses), Some(0), CellUnit::Same),
-        Cell::Number(e.units, CellUnit::Same),
-        Cell::Checked(e.late, Some(0), CellUnit::Same),
-        Cell::Word(CellWord::Nothing),
+        count_cell(e.units, None),
+        count_cell(e.late, Some(0)),
+        count_cell(e.unread, Some(0)),
     ]
 }
 

@@ -10,9 +10,8 @@ use crate::input_cells::{
 };
 use crate::mark_cells::mark_cells;
 use crate::row_cells::{
-    check_cells, clock_cells, continuity_cells, elementary_cells, elementary_late_cells,
-    late_cells, main_cells, multiplexing_cells, pid_cells, reference_cells, stream_cells,
-    system_cells, table_cells, transport_cells, unclocked_cells,
+    buffer_cells, check_cells, clock_cells, continuity_cells, elementary_late_cells, late_cells,
+    pid_cells, reference_cells, stream_cells, system_cells, table_cells, unclocked_cells,
 };
 use crate::summary_cells::{fault_cells, time_cells, totals_cells, write_sentence};
 use events::{
@@ -241,13 +240,6 @@ impl Rows {
         Ok(())
     }
 
-    // Takes a row of a buffer.
-    fn take_buffer(&mut self, labels: &PidLabels, cells: &[Cell]) -> Result<(), AllocError>
-        ensures { OnOk result (self.new ≡ spec.with_buffer labels.now self.old cells.now) }
-    {
-        write_row(&mut self.buffers, labels, cells)
-    }
-
     // Takes an event, and the fault that it is about.
     #[tactic(auto, unfolding(crate::specs::Rows::with_kind))]
     fn take_kind(
@@ -261,10 +253,7 @@ impl Rows {
         match event {
             Event::Input(event) => self.take_input(labels, fault, event),
             Event::Stream(stream) => self.take_stream(labels, stream),
-            Event::Transport(e) => self.take_buffer(labels, &transport_cells(e)),
-            Event::Main(e) => self.take_buffer(labels, &main_cells(e)),
-            Event::Multiplexing(e) => self.take_buffer(labels, &multiplexing_cells(e)),
-            Event::Elementary(e) => self.take_buffer(labels, &elementary_cells(e)),
+            Event::Buffer(e) => write_row(&mut self.buffers, labels, &buffer_cells(e)),
             Event::Marks(e) => write_row(&mut self.marks, labels, &mark_cells(e)),
             Event::System(e) => write_row(&mut self.systems, labels, &system_cells(e)),
             Event::Clock(e) => write_row(&mut self.clocks, labels, &clock_cells(e)),
