@@ -50,14 +50,14 @@ start request = record {
   stamps = first_stamps request.stamps;
 }
 
--- 1. An event, with the moment of the packet of its fault, as packets arrive when it is found
+-- 1. An event, and its fault with the moment of its packet, as packets arrive when the event is found
 
 unfoldable pub at_of : ClockedState → Option Fault → Option ℕ
 at_of v None = None
 at_of v (Some fault) = moment_in v fault.packet
 
-abbrev pub event_at : ClockedState → Event → Option ℕ
-event_at v event = at_of v (fault_of event None)
+abbrev pub fault_at : ClockedState → Event → Option Fault
+fault_at v event = fault_of event (at_of v (fault_of event None))
 
 -- an interval between two moments, in ticks, reaches into the part that is asked for, whose moments are in ms
 unfoldable pub ends_after : Option ℕ → ℕ → Bool
@@ -100,14 +100,14 @@ window_in span window (Some number) = overlaps span (27000 * window * number) (2
 
 -- an event is kept if its window, and its fault, reach into that part: all other windows and faults are left out
 abbrev pub is_kept : AnalysisState → Event → Bool
-is_kept s event = window_in s.span s.window (window_of event) && fault_in s.span (fault_of event (event_at s.view event))
+is_kept s event = window_in s.span s.window (window_of event) && fault_in s.span (fault_at s.view event)
 
--- an event is written with its moment, and counted
+-- an event is written with its fault, and counted
 abbrev pub timed : AnalysisState → Event → List TimedEvent
-timed s event = if is_kept s event then record { event = event; at = event_at s.view event } ∷ [] else []
+timed s event = if is_kept s event then record { event = event; fault = fault_at s.view event } ∷ [] else []
 
 abbrev pub counted : AnalysisState → Event → AnalysisState
-counted s event = record s { summary = summaries.with_event s.summary event (fault_of event (event_at s.view event)) }
+counted s event = record s { summary = summaries.with_event s.summary event (fault_at s.view event) }
 
 abbrev pub with_event : AnalysisState → Event → AnalysisState
 with_event s event = if is_kept s event then counted s event else s
@@ -189,7 +189,7 @@ abbrev pub is_faultless : AnalysisState → Bool
 is_faultless s = summaries.is_good s.summary
 
 abbrev pub all_untimed : List Event → List TimedEvent
-all_untimed events = map (λ event. record { event = event; at = None }) events
+all_untimed events = map (λ event. record { event = event; fault = fault_of event None }) events
 
 abbrev pub conclusion : AnalysisState → Bool → List TimedEvent
 conclusion s good = all_untimed (summaries.end_events s.summary good (is_clocked s.view))

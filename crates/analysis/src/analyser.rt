@@ -191,7 +191,7 @@ impl Analyser {
         window_in(self.span, self.window, window_of(event)) && fault_in(self.span, fault)
     }
 
-    /// Takes an event. Appends it with the moment of its packet if it is of the part requested, and otherwise drops it.
+    /// Takes an event. Appends it with its fault if it is of the part requested, and otherwise drops it.
     pub fn take_event(
         &mut self,
         event: Event,
@@ -208,11 +208,11 @@ impl Analyser {
             return Ok(());
         }
         self.summary.take(&event, &fault)?;
-        events.push(TimedEvent { event, at })?;
+        events.push(TimedEvent { event, fault })?;
         Ok(())
     }
 
-    /// Takes events, and appends them with the moments of their packets.
+    /// Takes events, and appends them with their faults.
     #[tactic(auto, unfolding(crate::specs::Analysis::with_events, crate::specs::Analysis::all_timed))]
     pub fn take_events(
         &mut self,
@@ -357,7 +357,8 @@ fn push_untimed(found: Vec<Event>, events: &mut Vec<TimedEvent>) -> Result<(), A
     ensures { OnOk result (events.new.items ≡ events.old.items ++ spec.all_untimed found.items) }
 {
     for event in found {
-        events.push(TimedEvent { event, at: None })?;
+        let fault = fault_of(&event, None);
+        events.push(TimedEvent { event, fault })?;
     }
     Ok(())
 }

@@ -22,7 +22,6 @@ use Rattle.events.specs.declared.timed_event.TimedEvent.{TimedEvent}
 use Rattle.events.specs.BufferKinds.{excess_kind, owner_word, word_of as buffer_word}
 use Rattle.events.specs.FaultKinds.{word_of}
 use Rattle.event_lines.specs.FaultLines.{check_word_line, continuity_line, refused_line}
-use Rattle.events.specs.Faults.{fault_of}
 use Rattle.event_lines.specs.FieldViews.{FieldView}
 use Rattle.event_lines.specs.InputLines.{input_line}
 use Rattle.event_lines.specs.MarkLines.{marks_line}
@@ -175,7 +174,7 @@ event_line json (events.Summary e) = summary_line json e
 
 -- the line of an event, with its time if it is a fault
 abbrev pub timed_line : Bool → TimedEvent → List ℕ
-timed_line json e = event_line json e.event ++ (fault_time json (fault_of e.event e.at) ++ last_text json)
+timed_line json e = event_line json e.event ++ (fault_time json e.fault ++ last_text json)
 
 abbrev pub lines_of : Bool → List TimedEvent → List ℕ
 lines_of json events = flat_map (timed_line json) events

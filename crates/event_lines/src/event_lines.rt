@@ -18,7 +18,7 @@ use crate::rule_lines::write_rule;
 use crate::summary_lines::{write_check, write_fault_time, write_summary};
 use crate::video_lines::write_elementary_late;
 use crate::window_line::write_window;
-use events::{Event, TimedEvent, fault_of};
+use events::{Event, TimedEvent};
 use std::alloc::{AllocError, Global};
 
 fn write_reference(text: &mut String, json: bool, word: &str, pid: u16) -> Result<(), AllocError>
@@ -78,7 +78,7 @@ fn write_timed(
     ensures { OnOk result (string_bytes text.new ≡ string_bytes text.old ++ spec.timed_line json e.now) }
 {
     write_event(alloc, text, json, &e.event)?;
-    write_fault_time(text, json, &fault_of(&e.event, e.at))?;
+    write_fault_time(text, json, &e.fault)?;
     write_last(text, json)
 }
 

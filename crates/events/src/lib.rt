@@ -2,7 +2,7 @@
 //!
 //! - [`Event`]: an event at a packet, in a window, or at the end of the stream (docs/VIEW.md has the lines and their
 //!   fields).
-//! - [`TimedEvent`]: an event with its moment.
+//! - [`TimedEvent`]: an event with its fault.
 //! - [`PidName`]: what the packets of a PID carry: a table by its PID, the map of a program, or a stream of a coding.
 //! - [`Fault`]: the fault of an event ([`fault_of`]), where and when.
 //! - [`CheckCounts`]: how often each check of ETSI TR 101 290 ([`Check`]) fails, and where first and last.

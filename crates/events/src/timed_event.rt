@@ -1,9 +1,10 @@
-//! An event and its moment.
+//! An event and its fault.
 use crate::event::Event;
+use crate::fault::Fault;
 
-/// An event, and the moment of its packet in ticks from the stream's first byte on, if it has one.
+/// An event, and the fault that it says there is, if it says so, with its moments.
 #[derive(Drop)]
 pub struct TimedEvent {
     pub event: Event,
-    pub at: Option<u128>,
+    pub fault: Option<Fault>,
 }

@@ -12,7 +12,6 @@ use Rattle.events.specs.declared.summary.FaultTotals.{FaultTotals}
 use Rattle.events.specs.declared.summary.SummaryEvent.{SummaryEvent}
 use Rattle.events.specs.declared.summary.SummaryEvent.TheVariants as totals
 use Rattle.events.specs.declared.summary.Verdict.{Verdict}
-use Rattle.events.specs.Faults.{fault_of}
 use Rattle.view_rows.specs.declared.cells.Cell.{Cell}
 use Rattle.events.specs.declared.fault_kind.FaultKind.TheVariants as kinds
 use Rattle.view_rows.specs.declared.rows.TheConstants.{MOST_FAULTS}
@@ -121,4 +120,4 @@ with_kind labels fault r event = with_fault_event labels fault r event
 
 -- an event with its fault, if it is a fault
 abbrev pub with_event : LabelsState → RowTexts → TimedEvent → RowTexts
-with_event labels r e = with_kind labels (fault_of e.event e.at) r e.event
+with_event labels r e = with_kind labels e.fault r e.event

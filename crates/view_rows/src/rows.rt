@@ -16,7 +16,7 @@ use crate::row_cells::{
 use crate::summary_cells::{fault_cells, time_cells, totals_cells, write_sentence};
 use events::{
     Event, Fault, FaultKind, FaultTotals, InputEvent, StreamBegin, SummaryEvent, TimedEvent,
-    Verdict, fault_of,
+    Verdict,
 };
 use page_curves::PidLabels;
 use std::alloc::{AllocError, Global};
@@ -283,8 +283,7 @@ impl Rows {
     pub fn take(&mut self, labels: &PidLabels, event: &TimedEvent) -> Result<(), AllocError>
         ensures { OnOk result (self.new ≡ spec.with_event labels.now self.old event.now) }
     {
-        let fault = fault_of(&event.event, event.at);
-        self.take_kind(labels, &fault, &event.event)
+        self.take_kind(labels, &event.fault, &event.event)
     }
 }
 
