@@ -1,5 +1,5 @@
 -- The lines of the totals of a stream's faults, of the checks of ETSI TR 101 290, and of the verdict (docs/VIEW.md).
-use Rattle.std.specs.Prelude.{ℕ, ◌==◌, if◌then◌else◌, Bool, List, [], ◌∷◌, ◌++◌, codes, flat_map, Option, Some, None}
+use Rattle.std.specs.Prelude.{ℕ, ◌==◌, if◌then◌else◌, Bool, true, List, [], ◌∷◌, ◌++◌, codes, flat_map, Option, Some, None}
 use Rattle.events.specs.declared.check_counts.CheckTotals.{CheckTotals}
 use Rattle.events.specs.declared.check_counts.FaultCount.{FaultCount}
 use Rattle.events.specs.declared.check_counts.NoVerdict.{NoVerdict}
@@ -12,6 +12,9 @@ use Rattle.events.specs.declared.summary.FaultTotals.{FaultTotals}
 use Rattle.events.specs.declared.summary.SummaryEvent.{SummaryEvent}
 use Rattle.events.specs.declared.summary.SummaryEvent.TheVariants as summaries
 use Rattle.events.specs.declared.summary.Verdict.{Verdict}
+use Rattle.events.specs.declared.summary.Verdict.TheVariants.{NoFault, Faults, Buffers, Units, Checks}
+use Rattle.events.specs.declared.summary.WorstBuffer.{WorstBuffer}
+use Rattle.events.specs.BufferKinds.{owner_word, word_of as buffer_word}
 use Rattle.events.specs.Checks.{name_of, number_of}
 use Rattle.events.specs.FaultKinds.{word_of}
 use Rattle.event_lines.specs.FieldViews.{FieldView}
@@ -81,16 +84,35 @@ result_text json count (Some reason) = field_text json (word_field (codes "untol
 abbrev pub check_line : Bool → CheckTotals → List ℕ
 check_line json e = first_text json (codes "check") ++ (flat_map (field_text json) (check_fields e) ++ result_text json e.count e.no_verdict)
 
--- 4. The verdict, as a sentence
+-- 4. The verdict, as a sentence; an object has its numbers too
+
+abbrev pub two_numbers : List ℕ → ℕ → List ℕ → ℕ → List ℕ
+two_numbers one n other m = flat_map (field_text true) (number_field one n ∷ number_field other m ∷ [])
+
+-- the buffer that is furthest over its size
+abbrev pub worst_fields : WorstBuffer → List FieldView
+worst_fields w = number_field (owner_word w.buffer) w.number ∷ word_field (codes "buffer") (buffer_word w.buffer)
+    ∷ number_field (codes "most") w.most ∷ number_field (codes "size") w.size ∷ []
+
+unfoldable pub worst_numbers : Option WorstBuffer → List ℕ
+worst_numbers None = []
+worst_numbers (Some w) = flat_map (field_text true) (worst_fields w) ++ times_text true w.from w.to
+
+unfoldable pub verdict_numbers : Verdict → List ℕ
+verdict_numbers NoFault = two_numbers (codes "faults") 0 (codes "rows") 0
+verdict_numbers (Faults e) = two_numbers (codes "faults") e.faults (codes "rows") e.rows
+verdict_numbers (Buffers e) = two_numbers (codes "buffers") e.buffers (codes "over") e.over ++ worst_numbers e.worst
+verdict_numbers (Units e) = two_numbers (codes "units") e.units (codes "late") e.late
+verdict_numbers (Checks e) = two_numbers (codes "checks") e.checks (codes "failed") e.failed
 
 abbrev pub text_begin : Bool → List ℕ
 text_begin json = if json then codes "," ++ (quote ++ (codes "text" ++ (quote ++ (codes ":" ++ quote)))) else codes " "
 
-abbrev pub text_end : Bool → List ℕ
-text_end json = if json then quote else []
+abbrev pub text_end : Bool → Verdict → List ℕ
+text_end json e = if json then quote ++ verdict_numbers e else []
 
 abbrev pub verdict_line : Bool → Verdict → List ℕ
-verdict_line json e = first_text json (codes "verdict") ++ (text_begin json ++ (sentence e ++ text_end json))
+verdict_line json e = first_text json (codes "verdict") ++ (text_begin json ++ (sentence e ++ text_end json e))
 
 unfoldable pub summary_line : Bool → SummaryEvent → List ℕ
 summary_line json (summaries.Faults e) = faults_line json e

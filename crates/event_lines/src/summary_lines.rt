@@ -1,13 +1,13 @@
 //! The lines of faults by kind and stream, of the checks of ETSI TR 101 290, and of the verdict.
-ghost use Rattle.std.specs.Prelude.{◌≡◌, ◌++◌, OnOk, flat_map, string_bytes};
+ghost use Rattle.std.specs.Prelude.{◌≡◌, ◌++◌, OnOk, codes, flat_map, string_bytes, true};
 ghost use Rattle.event_lines.specs.ReportLines.{field_text};
 ghost use Rattle.event_lines.specs.SummaryLines as spec;
 
 use crate::lines::{number, seconds, word, write_field, write_fields, write_first};
 use crate::verdict_text::write_verdict_text;
 use events::{
-    CheckTotals, Fault, FaultCount, FaultSource, FaultTotals, Measured, NoVerdict, SummaryEvent,
-    Verdict,
+    BufferVerdict, CheckTotals, Fault, FaultCount, FaultSource, FaultTotals, Measured, NoVerdict,
+    SummaryEvent, Verdict, WorstBuffer,
 };
 use std::alloc::AllocError;
 
@@ -198,6 +198,80 @@ pub(crate) fn write_check(text: &mut String, json: bool, e: &CheckTotals) -> Res
     write_result(text, json, e)
 }
 
+// Appends two numbers of an object.
+fn write_numbers(
+    text: &mut String,
+    one: &'static str,
+    n: u64,
+    other: &'static str,
+    m: u64,
+) -> Result<(), AllocError>
+    ensures { OnOk result (string_bytes text.new ≡ string_bytes text.old ++ spec.two_numbers one.now n other.now m) }
+{
+    let fields = [number(one, u128::from(n)), number(other, u128::from(m))];
+    write_fields(text, true, &fields)
+}
+
+fn write_worst_fields(text: &mut String, w: &WorstBuffer) -> Result<(), AllocError>
+    ensures { OnOk result (string_bytes text.new
+        ≡ string_bytes text.old ++ flat_map (field_text true) (spec.worst_fields w.now)) }
+{
+    let fields = [
+        number(w.buffer.owner_word(), u128::from(w.number)),
+        word("buffer", w.buffer.word()),
+        number("most", w.most),
+        number("size", u128::from(w.size)),
+    ];
+    write_fields(text, true, &fields)
+}
+
+#[tactic(auto, unfolding(crate::specs::SummaryLines::worst_numbers))]
+fn write_worst_numbers(text: &mut String, worst: &Option<WorstBuffer>) -> Result<(), AllocError>
+    ensures { OnOk result (string_bytes text.new ≡ string_bytes text.old ++ spec.worst_numbers worst.now) }
+{
+    match worst {
+        None => Ok(()),
+        Some(worst) => {
+            write_worst_fields(text, worst)?;
+            write_times(text, true, worst.from, worst.to)
+        }
+    }
+}
+
+fn write_buffer_numbers(text: &mut String, e: &BufferVerdict) -> Result<(), AllocError>
+    ensures { OnOk result (string_bytes text.new
+        ≡ string_bytes text.old ++ (spec.two_numbers (codes "buffers") e.now.buffers (codes "over") e.now.over
+        ++ spec.worst_numbers e.now.worst)) }
+{
+    write_numbers(text, "buffers", e.buffers, "over", e.over)?;
+    write_worst_numbers(text, &e.worst)
+}
+
+// Appends the numbers of the verdict, which an object has beside the sentence.
+#[tactic(auto, unfolding(crate::specs::SummaryLines::verdict_numbers))]
+fn write_verdict_numbers(text: &mut String, e: &Verdict) -> Result<(), AllocError>
+    ensures { OnOk result (string_bytes text.new ≡ string_bytes text.old ++ spec.verdict_numbers e.now) }
+{
+    match e {
+        Verdict::NoFault => write_numbers(text, "faults", 0, "rows", 0),
+        Verdict::Faults(e) => write_numbers(text, "faults", e.faults, "rows", e.rows),
+        Verdict::Buffers(e) => write_buffer_numbers(text, e),
+        Verdict::Units(e) => write_numbers(text, "units", e.units, "late", e.late),
+        Verdict::Checks(e) => write_numbers(text, "checks", e.checks, "failed", e.failed),
+    }
+}
+
+// Appends how the line of a verdict ends.
+fn write_verdict_end(text: &mut String, json: bool, e: &Verdict) -> Result<(), AllocError>
+    ensures { OnOk result (string_bytes text.new ≡ string_bytes text.old ++ spec.text_end json e.now) }
+{
+    if !json {
+        return Ok(());
+    }
+    text.push_str("\"")?;
+    write_verdict_numbers(text, e)
+}
+
 // Appends `verdict`.
 fn write_verdict(text: &mut String, json: bool, e: &Verdict) -> Result<(), AllocError>
     ensures { OnOk result (string_bytes text.new ≡ string_bytes text.old ++ spec.verdict_line json e.now) }
@@ -205,7 +279,7 @@ fn write_verdict(text: &mut String, json: bool, e: &Verdict) -> Result<(), Alloc
     write_first(text, json, "verdict")?;
     text.push_str(if json { ",\"text\":\"" } else { " " })?;
     write_verdict_text(text, e)?;
-    text.push_str(if json { "\"" } else { "" })
+    write_verdict_end(text, json, e)
 }
 
 /// Appends the line of faults by kind and stream, or of the verdict.
