@@ -1,5 +1,5 @@
 -- The line of each event (docs/VIEW.md): its word and its fields, in this order.
-use Rattle.std.specs.Prelude.{ℕ, Bool, List, [], ◌∷◌, ◌++◌, codes, flat_map, Option, Some, None}
+use Rattle.std.specs.Prelude.{ℕ, ◌&&◌, not, if◌then◌else◌, Bool, false, List, [], ◌∷◌, ◌++◌, codes, flat_map, Option, Some, None}
 use Rattle.events.specs.declared.event.BufferExcess.{BufferExcess}
 use Rattle.events.specs.declared.event.BufferTotals.{BufferTotals}
 use Rattle.events.specs.declared.event.ClockFault.{ClockFault}
@@ -22,13 +22,14 @@ use Rattle.events.specs.declared.timed_event.TimedEvent.{TimedEvent}
 use Rattle.events.specs.BufferKinds.{excess_kind, owner_word, word_of as buffer_word}
 use Rattle.events.specs.FaultKinds.{word_of}
 use Rattle.event_lines.specs.FaultLines.{check_word_line, continuity_line, refused_line}
+use Rattle.event_lines.specs.declared.event_lines.LineForm.{LineForm}
 use Rattle.event_lines.specs.FieldViews.{FieldView}
 use Rattle.event_lines.specs.InputLines.{input_line}
 use Rattle.event_lines.specs.MarkLines.{marks_line}
 use Rattle.events.specs.PidNames.{line_word}
 use Rattle.event_lines.specs.ReportLines.{field_text, first_text, last_text, line_of, name_text, number_field, number_text, quoted, word_field}
 use Rattle.event_lines.specs.RuleLines.{rule_line}
-use Rattle.event_lines.specs.SummaryLines.{check_line, fault_time, summary_line}
+use Rattle.event_lines.specs.SummaryLines.{check_line, fault_time, is_sentence, summary_line}
 use Rattle.event_lines.specs.VideoLines.{elementary_late_line}
 use Rattle.events.specs.Windows.{WindowView}
 
@@ -176,5 +177,13 @@ event_line json (events.Summary e) = summary_line json e
 abbrev pub timed_line : Bool → TimedEvent → List ℕ
 timed_line json e = event_line json e.event ++ (fault_time json e.fault ++ last_text json)
 
-abbrev pub lines_of : Bool → List TimedEvent → List ℕ
-lines_of json events = flat_map (timed_line json) events
+unfoldable pub is_verdict : Event → Bool
+is_verdict (events.Summary e) = is_sentence e
+is_verdict _ = false
+
+-- all events, or the verdict alone
+abbrev pub line_in : LineForm → TimedEvent → List ℕ
+line_in form e = if form.quiet && not (is_verdict e.event) then [] else timed_line form.json e
+
+abbrev pub lines_of : LineForm → List TimedEvent → List ℕ
+lines_of form events = flat_map (line_in form) events

@@ -1,5 +1,5 @@
 -- The lines of the totals of a stream's faults, of the checks of ETSI TR 101 290, and of the verdict (docs/VIEW.md).
-use Rattle.std.specs.Prelude.{ℕ, ◌==◌, if◌then◌else◌, Bool, true, List, [], ◌∷◌, ◌++◌, codes, flat_map, Option, Some, None}
+use Rattle.std.specs.Prelude.{ℕ, ◌==◌, if◌then◌else◌, Bool, true, false, List, [], ◌∷◌, ◌++◌, codes, flat_map, Option, Some, None}
 use Rattle.events.specs.declared.check_counts.CheckTotals.{CheckTotals}
 use Rattle.events.specs.declared.check_counts.FaultCount.{FaultCount}
 use Rattle.events.specs.declared.check_counts.NoVerdict.{NoVerdict}
@@ -113,6 +113,10 @@ text_end json e = if json then quote ++ verdict_numbers e else []
 
 abbrev pub verdict_line : Bool → Verdict → List ℕ
 verdict_line json e = first_text json (codes "verdict") ++ (text_begin json ++ (sentence e ++ text_end json e))
+
+unfoldable pub is_sentence : SummaryEvent → Bool
+is_sentence (summaries.Verdict e) = true
+is_sentence (summaries.Faults e) = false
 
 unfoldable pub summary_line : Bool → SummaryEvent → List ℕ
 summary_line json (summaries.Faults e) = faults_line json e

@@ -1,6 +1,7 @@
 //! An event as a line, plain or as a JSON object.
 ghost use Rattle.std.specs.Prelude.{◌≡◌, ◌++◌, OnOk, string_bytes};
 ghost use Rattle.event_lines.specs.EventLines as spec;
+ghost use Rattle.event_lines.specs.SummaryLines.{is_sentence};
 
 use crate::fault_lines::{write_check_word, write_continuity, write_refused};
 use crate::figure_lines::{
@@ -18,8 +19,15 @@ use crate::rule_lines::write_rule;
 use crate::summary_lines::{write_check, write_fault_time, write_summary};
 use crate::video_lines::write_elementary_late;
 use crate::window_line::write_window;
-use events::{Event, TimedEvent};
+use events::{Event, SummaryEvent, TimedEvent};
 use std::alloc::{AllocError, Global};
+
+/// How lines are written: each as a JSON object or plain, and of all events or of the verdict alone.
+#[derive(Clone, Copy)]
+pub struct LineForm {
+    pub json: bool,
+    pub quiet: bool,
+}
 
 fn write_reference(text: &mut String, json: bool, word: &str, pid: u16) -> Result<(), AllocError>
     ensures { OnOk result (string_bytes text.new ≡ string_bytes text.old ++ spec.reference_line json word.now pid) }
@@ -82,17 +90,53 @@ fn write_timed(
     write_last(text, json)
 }
 
-/// Appends the lines of events, each a JSON object if `json`, else plain.
+#[tactic(auto, unfolding(crate::specs::SummaryLines::is_sentence))]
+fn is_sentence(event: &SummaryEvent) -> bool
+    ensures { result ≡ is_sentence event.now }
+{
+    match event {
+        SummaryEvent::Verdict(_) => true,
+        SummaryEvent::Faults(_) => false,
+    }
+}
+
+// Returns whether an event is a sentence of the verdict.
+#[tactic(auto, unfolding(crate::specs::EventLines::is_verdict))]
+fn is_verdict(event: &Event) -> bool
+    ensures { result ≡ spec.is_verdict event.now }
+{
+    match event {
+        Event::Summary(e) => is_sentence(e),
+        _ => false,
+    }
+}
+
+// Appends the line of an event, unless only the verdict is asked for.
+fn write_in(
+    alloc: Global,
+    text: &mut String,
+    form: LineForm,
+    e: &TimedEvent,
+) -> Result<(), AllocError>
+    ensures { OnOk result (string_bytes text.new ≡ string_bytes text.old ++ spec.line_in form e.now) }
+{
+    if form.quiet && !is_verdict(&e.event) {
+        return Ok(());
+    }
+    write_timed(alloc, text, form.json, e)
+}
+
+/// Appends the lines of events.
 pub fn write_events(
     alloc: Global,
     text: &mut String,
-    json: bool,
+    form: LineForm,
     events: &[TimedEvent],
 ) -> Result<(), AllocError>
-    ensures { OnOk result (string_bytes text.new ≡ string_bytes text.old ++ spec.lines_of json events.now) }
+    ensures { OnOk result (string_bytes text.new ≡ string_bytes text.old ++ spec.lines_of form events.now) }
 {
     for event in events {
-        write_timed(alloc, text, json, event)?;
+        write_in(alloc, text, form, event)?;
     }
     Ok(())
 }

@@ -1,6 +1,7 @@
 //! Lines of events, plain or as JSON objects.
 //!
-//! - [`write_events`]: appends the lines of events to a text (`specs/EventLines`, `specs/ReportLines`).
+//! - [`write_events`]: appends the lines of events, or of the verdict alone, to a text (`specs/EventLines`,
+//!   `specs/ReportLines`).
 //! - [`write_verdict_text`]: appends a verdict as sentences (`specs/VerdictTexts`).
 #![tactic(auto)]
 
@@ -18,6 +19,6 @@ mod verdict_text;
 mod video_lines;
 mod window_line;
 
-pub use event_lines::write_events;
+pub use event_lines::{LineForm, write_events};
 pub use lines::write_seconds;
 pub use verdict_text::write_verdict_text;

@@ -7,7 +7,8 @@ use Rattle.std.proofs.lemmas.List.{length-take-le, take-append-drop, take-append
 use Rattle.std.proofs.Math.Nat.{eq-or-lt_of_le}
 use Rattle.std.specs.Io.KnownBytes.{Appends}
 use Rattle.capture.specs.Captures.{Part}
-use Rattle.event_lines.specs.EventLines.{lines_of, timed_line}
+use Rattle.event_lines.specs.declared.event_lines.LineForm.{LineForm}
+use Rattle.event_lines.specs.EventLines.{line_in, lines_of}
 use Rattle.events.specs.declared.timed_event.TimedEvent.{TimedEvent}
 use Rattle.analysis.specs.Analysis.{AnalysisState}
 use Rattle.analysis.specs.Analysis.{is_crowded}
@@ -26,10 +27,10 @@ use Rattle.tsview_cli.proofs.CapturedParts.{events_both}
 
 -- 1. The lines of parts, one part after another
 
-pub lines_both : (json : Bool) (s : AnalysisState) (parts more : List Part) →
-    lines_all json s (parts ++ more) ≡ lines_all json s parts ++ lines_all json (after_parts s parts) more
-lines_both json s parts more =
-    ap (lines_of json) (events_both s parts more) ∙ flat_map-append (timed_line json) (events_of s parts) (events_of (after_parts s parts) more)
+pub lines_both : (form : LineForm) (s : AnalysisState) (parts more : List Part) →
+    lines_all form s (parts ++ more) ≡ lines_all form s parts ++ lines_all form (after_parts s parts) more
+lines_both form s parts more =
+    ap (lines_of form) (events_both s parts more) ∙ flat_map-append (line_in form) (events_of s parts) (events_of (after_parts s parts) more)
 
 pub settled_by : (first : AnalysisState) (now : CapturedView) (bytes : List ℕ) (found : List Part) → IsSoFar first now bytes found → AreSettled bytes found
 settled_by first now bytes found s = record { reader = now.reader; left = s.left; few = s.few }
@@ -65,23 +66,23 @@ part_whole piece given room size = omega (arith, room, size)
 
 -- 3. The pieces that were viewed
 
-pub seen_none : (json : Bool) (first : AnalysisState) (now : CapturedView) (port : Port) → IsSoFar first now [] [] → Seen json first (between port port) now []
+pub seen_none : (form : LineForm) (first : AnalysisState) (now : CapturedView) (port : Port) → IsSoFar first now [] [] → Seen form first (between port port) now []
 unfolding events_of
-seen_none json first now port s = record { found = []; so_far = s; written = Appends-nil port.bytes; clean = refl; calm = none_calm first }
+seen_none form first now port s = record { found = []; so_far = s; written = Appends-nil port.bytes; clean = refl; calm = none_calm first }
 
 -- The lines of one more piece were written.
-pub seen_then : (json : Bool) (first : AnalysisState) (before now : CapturedView) (begin middle end : Port) (text piece : List ℕ) →
+pub seen_then : (form : LineForm) (first : AnalysisState) (before now : CapturedView) (begin middle end : Port) (text piece : List ℕ) →
     is_crowded before.parts.view ≡ false → length piece ≤ longest_piece →
-    ((bytes : List ℕ) (found : List Part) → IsSoFar first before bytes found → Shows json first now (bytes ++ piece) found text) →
+    ((bytes : List ℕ) (found : List Part) → IsSoFar first before bytes found → Shows form first now (bytes ++ piece) found text) →
     Appends middle.bytes end.bytes text → end.failed ≡ middle.failed → (bytes : List ℕ) →
-    length bytes % longest_piece ≡ 0 → Seen json first (between begin middle) before bytes → Seen json first (between begin end) now (bytes ++ piece)
-seen_then json first before now begin middle end text piece calm most shows written clean bytes whole s =
-    let m : Shows json first now (bytes ++ piece) s.found text = shows bytes s.found s.so_far in
+    length bytes % longest_piece ≡ 0 → Seen form first (between begin middle) before bytes → Seen form first (between begin end) now (bytes ++ piece)
+seen_then form first before now begin middle end text piece calm most shows written clean bytes whole s =
+    let m : Shows form first now (bytes ++ piece) s.found text = shows bytes s.found s.so_far in
     record {
       found = s.found ++ m.more;
       so_far = m.so_far;
-      written = subst (Appends begin.bytes end.bytes) (sym (lines_both json first s.found m.more))
-          (Appends-trans begin.bytes middle.bytes end.bytes (lines_all json first s.found) (lines_all json (after_parts first s.found) m.more) s.written
+      written = subst (Appends begin.bytes end.bytes) (sym (lines_both form first s.found m.more))
+          (Appends-trans begin.bytes middle.bytes end.bytes (lines_all form first s.found) (lines_all form (after_parts first s.found) m.more) s.written
           (subst (Appends middle.bytes end.bytes) m.text_is written));
       clean = clean ∙ s.clean;
       calm = calm_then first bytes piece s.calm (calm_so_far first before bytes s.found s.so_far calm) whole most;
@@ -103,10 +104,10 @@ begins : (old mid : Port) (bytes : List ℕ) → IsAfter old mid bytes → Begin
 begins old mid bytes after xs e = let h = after xs e in (h.0, h.1)
 
 -- The reader failed.
-pub read_failed : (json : Bool) (first : AnalysisState) (before : CapturedView) (old mid new : Port) (output : Device) (size : ℕ) →
-    TakesFront (Seen json first output before) longest_piece old mid size →
-    Failed mid.failed new.failed → Breaks json first (between old new) output Read
-read_failed json first before old mid new output size f failed = record {
+pub read_failed : (form : LineForm) (first : AnalysisState) (before : CapturedView) (old mid new : Port) (output : Device) (size : ℕ) →
+    TakesFront (Seen form first output before) longest_piece old mid size →
+    Failed mid.failed new.failed → Breaks form first (between old new) output Read
+read_failed form first before old mid new output size f failed = record {
   bytes = f.bytes;
   front = begins old mid f.bytes f.known;
   found = f.taken.found;
@@ -116,10 +117,10 @@ read_failed json first before old mid new output size f failed = record {
 }
 
 -- There was no memory for the lines of a piece.
-pub no_memory : (json : Bool) (first : AnalysisState) (before : CapturedView) (old mid new : Port) (output : Device) (size : ℕ) →
-    TakesFront (Seen json first output before) longest_piece old mid size →
-    new.failed ≡ mid.failed → Breaks json first (between old new) output Memory
-no_memory json first before old mid new output size f clean = record {
+pub no_memory : (form : LineForm) (first : AnalysisState) (before : CapturedView) (old mid new : Port) (output : Device) (size : ℕ) →
+    TakesFront (Seen form first output before) longest_piece old mid size →
+    new.failed ≡ mid.failed → Breaks form first (between old new) output Memory
+no_memory form first before old mid new output size f clean = record {
   bytes = f.bytes;
   front = begins old mid f.bytes f.known;
   found = f.taken.found;
@@ -129,11 +130,11 @@ no_memory json first before old mid new output size f clean = record {
 }
 
 -- No next piece was viewed.
-pub next_stopped : (json : Bool) (first : AnalysisState) (before : CapturedView) (old mid new : Port) (output : Device) (size : ℕ) (halt : Halt) →
-    TakesFront (Seen json first output before) longest_piece old mid size → StopsNext (between mid new) halt → Breaks json first (between old new) output halt
-next_stopped json first before old mid new output size Read f failed = read_failed json first before old mid new output size f failed
-next_stopped json first before old mid new output size Write f never = absurd never
-next_stopped json first before old mid new output size Memory f clean = no_memory json first before old mid new output size f clean
+pub next_stopped : (form : LineForm) (first : AnalysisState) (before : CapturedView) (old mid new : Port) (output : Device) (size : ℕ) (halt : Halt) →
+    TakesFront (Seen form first output before) longest_piece old mid size → StopsNext (between mid new) halt → Breaks form first (between old new) output halt
+next_stopped form first before old mid new output size Read f failed = read_failed form first before old mid new output size f failed
+next_stopped form first before old mid new output size Write f never = absurd never
+next_stopped form first before old mid new output size Memory f clean = no_memory form first before old mid new output size f clean
 
 -- The input is too long.
 long_if : (known : Option (List ℕ)) (bytes : List ℕ) → longest_input < length bytes →
@@ -144,10 +145,10 @@ long_if (Some xs) bytes s h =
     let all : length xs ≡ length bytes + length k.0 = ap length k.1 ∙ length-append bytes k.0 in
     omega (arith, all, s)
 
-pub too_long : (json : Bool) (first : AnalysisState) (before : CapturedView) (old mid : Port) (output : Device) (size : ℕ) →
-    TakesFront (Seen json first output before) longest_piece old mid size → longest_input < size →
-    Breaks json first (between old mid) output Read
-too_long json first before old mid output size f long = record {
+pub too_long : (form : LineForm) (first : AnalysisState) (before : CapturedView) (old mid : Port) (output : Device) (size : ℕ) →
+    TakesFront (Seen form first output before) longest_piece old mid size → longest_input < size →
+    Breaks form first (between old mid) output Read
+too_long form first before old mid output size f long = record {
   bytes = f.bytes;
   front = begins old mid f.bytes f.known;
   found = f.taken.found;
@@ -157,10 +158,10 @@ too_long json first before old mid output size f long = record {
 }
 
 -- The input is too long within its last piece.
-pub too_long_then : (json : Bool) (first : AnalysisState) (now : CapturedView) (old mid new : Port) (output : Device) (bytes piece : List ℕ) (n : ℕ) →
+pub too_long_then : (form : LineForm) (first : AnalysisState) (now : CapturedView) (old mid new : Port) (output : Device) (bytes piece : List ℕ) (n : ℕ) →
     IsAfter old mid bytes → ReadsFront (between mid new) piece n →
-    Seen json first output now (bytes ++ take n piece) → ReadsInput (between old new) (Err Read) → Breaks json first (between old new) output Read
-too_long_then json first now old mid new output bytes piece n known r s why = record {
+    Seen form first output now (bytes ++ take n piece) → ReadsInput (between old new) (Err Read) → Breaks form first (between old new) output Read
+too_long_then form first now old mid new output bytes piece n known r s why = record {
   bytes = bytes ++ take n piece;
   front = after_more old mid new bytes piece n known r.known;
   found = s.found;
@@ -176,20 +177,20 @@ take_past (x ∷ xs) ys n =
     let e : length (x ∷ xs) + n ≡ suc (length xs + n) = omega arith in
     rw e (ap (λ (l : List ℕ). x ∷ l) (take_past xs ys n))
 
-pub write_failed : (json : Bool) (first : AnalysisState) (before now : CapturedView) (old mid new : Port) (begin middle end : Port) (size n : ℕ)
+pub write_failed : (form : LineForm) (first : AnalysisState) (before now : CapturedView) (old mid new : Port) (begin middle end : Port) (size n : ℕ)
     (text piece : List ℕ) →
     is_crowded before.parts.view ≡ false → length (take n piece) ≤ longest_piece →
-    TakesFront (Seen json first (between begin middle) before) longest_piece old mid size → ReadsFront (between mid new) piece n →
-    ((bytes : List ℕ) (found : List Part) → IsSoFar first before bytes found → Shows json first now (bytes ++ take n piece) found text) →
+    TakesFront (Seen form first (between begin middle) before) longest_piece old mid size → ReadsFront (between mid new) piece n →
+    ((bytes : List ℕ) (found : List Part) → IsSoFar first before bytes found → Shows form first now (bytes ++ take n piece) found text) →
     Stopped text (between middle end) → Failed middle.failed end.failed →
-    Breaks json first (between old new) (between begin end) Write
-write_failed json first before now old mid new begin middle end size n text piece calm most f r shows stopped failed =
+    Breaks form first (between old new) (between begin end) Write
+write_failed form first before now old mid new begin middle end size n text piece calm most f r shows stopped failed =
     let bytes = f.bytes ++ take n piece in
-    let m : Shows json first now bytes f.taken.found text = shows f.bytes f.taken.found f.taken.so_far in
-    let a = lines_all json first f.taken.found in
-    let lines : a ++ text ≡ lines_all json first (f.taken.found ++ m.more) =
-    ap (λ (l : List ℕ). a ++ l) m.text_is ∙ sym (lines_both json first f.taken.found m.more) in
-    let front : a ++ take stopped.taken text ≡ take (length a + stopped.taken) (lines_all json first (f.taken.found ++ m.more)) =
+    let m : Shows form first now bytes f.taken.found text = shows f.bytes f.taken.found f.taken.so_far in
+    let a = lines_all form first f.taken.found in
+    let lines : a ++ text ≡ lines_all form first (f.taken.found ++ m.more) =
+    ap (λ (l : List ℕ). a ++ l) m.text_is ∙ sym (lines_both form first f.taken.found m.more) in
+    let front : a ++ take stopped.taken text ≡ take (length a + stopped.taken) (lines_all form first (f.taken.found ++ m.more)) =
     sym (take_past a text stopped.taken) ∙ ap (take (length a + stopped.taken)) lines in
     record {
       bytes = bytes;
@@ -207,16 +208,16 @@ write_failed json first before now old mid new begin middle end size n text piec
       );
     }
 
-pub write_stopped : (V : Type 0) (json : Bool) (first : AnalysisState) (before now : CapturedView) (old mid new begin middle end : Port) (size n : ℕ)
+pub write_stopped : (V : Type 0) (form : LineForm) (first : AnalysisState) (before now : CapturedView) (old mid new begin middle end : Port) (size n : ℕ)
     (text piece : List ℕ) (halt : Halt) →
     is_crowded before.parts.view ≡ false → length (take n piece) ≤ longest_piece →
-    TakesFront (Seen json first (between begin middle) before) longest_piece old mid size → ReadsFront (between mid new) piece n →
-    ((bytes : List ℕ) (found : List Part) → IsSoFar first before bytes found → Shows json first now (bytes ++ take n piece) found text) →
-    WritesLine {V = V} text (between middle end) (Err halt) → Breaks json first (between old new) (between begin end) halt
-write_stopped V json first before now old mid new begin middle end size n text piece Read calm most f r shows w = absurd w
-write_stopped V json first before now old mid new begin middle end size n text piece Write calm most f r shows w =
-    write_failed json first before now old mid new begin middle end size n text piece calm most f r shows w.0 w.1
-write_stopped V json first before now old mid new begin middle end size n text piece Memory calm most f r shows w = absurd w
+    TakesFront (Seen form first (between begin middle) before) longest_piece old mid size → ReadsFront (between mid new) piece n →
+    ((bytes : List ℕ) (found : List Part) → IsSoFar first before bytes found → Shows form first now (bytes ++ take n piece) found text) →
+    WritesLine {V = V} text (between middle end) (Err halt) → Breaks form first (between old new) (between begin end) halt
+write_stopped V form first before now old mid new begin middle end size n text piece Read calm most f r shows w = absurd w
+write_stopped V form first before now old mid new begin middle end size n text piece Write calm most f r shows w =
+    write_failed form first before now old mid new begin middle end size n text piece calm most f r shows w.0 w.1
+write_stopped V form first before now old mid new begin middle end size n text piece Memory calm most f r shows w = absurd w
 
 -- 5. The end of the input
 
@@ -225,28 +226,28 @@ pub if_ok : (HasTaken : List ℕ → Type 0) (input : Device) (r : Result ℕ Ha
 if_ok HasTaken input (Ok size) t = t
 if_ok HasTaken input (Err halt) t = tt
 
-pub if_err : (HasTaken : List ℕ → Type 0) (json : Bool) (first : AnalysisState) (now : CapturedView) (old mid new : Port) (output : Device) (size n : ℕ)
+pub if_err : (HasTaken : List ℕ → Type 0) (form : LineForm) (first : AnalysisState) (now : CapturedView) (old mid new : Port) (output : Device) (size n : ℕ)
     (piece : List ℕ) (before : CapturedView) (middle : Device) (r : Result ℕ Halt) →
-    TakesFront (Seen json first middle before) longest_piece old mid size → ReadsFront (between mid new) piece n →
-    ((bytes : List ℕ) → length bytes % longest_piece ≡ 0 → Seen json first middle before bytes → Seen json first output now (bytes ++ take n piece)) →
+    TakesFront (Seen form first middle before) longest_piece old mid size → ReadsFront (between mid new) piece n →
+    ((bytes : List ℕ) → length bytes % longest_piece ≡ 0 → Seen form first middle before bytes → Seen form first output now (bytes ++ take n piece)) →
     IfErr r (λ halt. (halt ≡ Read) × (longest_input < size + n)) → TakesInput HasTaken (between old new) r →
-    IfErr r (Breaks json first (between old new) output)
-if_err HasTaken json first now old mid new output size n piece before middle (Ok whole) f r t e takes = tt
-if_err HasTaken json first now old mid new output size n piece before middle (Err halt) f r t e takes =
-    subst (Breaks json first (between old new) output) (sym e.0)
-    (too_long_then json first now old mid new output f.bytes piece n f.known r (t f.bytes f.whole f.taken)
+    IfErr r (Breaks form first (between old new) output)
+if_err HasTaken form first now old mid new output size n piece before middle (Ok whole) f r t e takes = tt
+if_err HasTaken form first now old mid new output size n piece before middle (Err halt) f r t e takes =
+    subst (Breaks form first (between old new) output) (sym e.0)
+    (too_long_then form first now old mid new output f.bytes piece n f.known r (t f.bytes f.whole f.taken)
     (subst (λ (h : Halt). ReadsInput (between old new) (Err h)) e.0 takes))
 
 -- 6. The whole input, or a front of it that ends because too many units of a stream wait
 
-pub if_whole : (json : Bool) (first : AnalysisState) (input output : Device) (now : CapturedView) (r : Result ℕ Halt) →
-    IfOk r (λ size. TakesInput (Seen json first output now) input (Ok size)) →
-    IfOk r (Reaches json first input output now)
-if_whole json first input output now (Ok size) t = inl t
-if_whole json first input output now (Err halt) t = tt
+pub if_whole : (form : LineForm) (first : AnalysisState) (input output : Device) (now : CapturedView) (r : Result ℕ Halt) →
+    IfOk r (λ size. TakesInput (Seen form first output now) input (Ok size)) →
+    IfOk r (Reaches form first input output now)
+if_whole form first input output now (Ok size) t = inl t
+if_whole form first input output now (Err halt) t = tt
 
-pub crowds : (json : Bool) (first : AnalysisState) (now : CapturedView) (old new : Port) (output : Device) (size : ℕ) →
-    TakesFront (Seen json first output now) longest_piece old new size → is_crowded now.parts.view ≡ true →
-    Reaches json first (between old new) output now size
-crowds json first now old new output size f crowded =
+pub crowds : (form : LineForm) (first : AnalysisState) (now : CapturedView) (old new : Port) (output : Device) (size : ℕ) →
+    TakesFront (Seen form first output now) longest_piece old new size → is_crowded now.parts.view ≡ true →
+    Reaches form first (between old new) output now size
+crowds form first now old new output size f crowded =
     inr (record { bytes = f.bytes; size_is = f.size_is; front = begins old new f.bytes f.known; seen = f.taken; clean = f.clean; crowded = crowded })

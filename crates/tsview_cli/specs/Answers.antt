@@ -9,5 +9,5 @@ use Rattle.tsview_cli.specs.declared.request.Request.TheVariants.{Lines, Page}
 
 -- the stream is viewed as it comes, or a page of it is drawn
 abbrev pub Answers : Request → Device → Device → Device → ℕ → Type 0
-Answers (Lines request json) = Views request json
+Answers (Lines request form) = Views request form
 Answers (Page request) = Performs (DrawsPage request)

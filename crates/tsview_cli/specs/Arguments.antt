@@ -6,6 +6,7 @@ use Rattle.clap.specs.Words.{Row, Text, first_of}
 use Rattle.devices.specs.Options.{is_given}
 use Rattle.arrival.specs.declared.arrival.Arrival.{Arrival}
 use Rattle.arrival.specs.declared.arrival.Arrival.TheVariants.{Unknown, AtRate, OnLines}
+use Rattle.event_lines.specs.declared.event_lines.LineForm.{LineForm}
 use Rattle.given_buffers.specs.GivenBuffers.{buffer_list}
 use Rattle.es_buffers.specs.declared.buffers.PidBuffers.{PidBuffers}
 use Rattle.es_events.specs.declared.view_options.ViewOptions.{ViewOptions}
@@ -71,15 +72,19 @@ stamps_beside (OnLines lines) stamps = Some stamps
 abbrev pub stamps_in : List Row → Arrival → Option Bool
 stamps_in rows arrival = stamps_beside arrival (is_given (first_of (codes "arrival-stamps") rows))
 
--- the lines of its report, or the page of them: not both
-unfoldable pub requested : Bool → Bool → RequestView → Option Request
-requested page json request = if page then (if json then None else Some (Page request)) else Some (Lines request json)
+-- how lines are written
+abbrev pub form_of : List Row → LineForm
+form_of rows = record { json = is_given (first_of (codes "json") rows); quiet = is_given (first_of (codes "quiet") rows) }
+
+-- the lines of its report, or the page of them, which has no JSON objects
+unfoldable pub requested : Bool → LineForm → RequestView → Option Request
+requested page form request = if page then (if form.json then None else Some (Page request)) else Some (Lines request form)
 
 -- a request with the options that are lists
 unfoldable pub request_with : List Row → ViewOptions → ViewSpan → Bool → Option Request
 request_with rows given span stamps =
     option_and_then (λ viewed.
-    requested (is_given (first_of (codes "page") rows)) (is_given (first_of (codes "json") rows)) (request given viewed span stamps))
+    requested (is_given (first_of (codes "page") rows)) (form_of rows) (request given viewed span stamps))
     (choice_of rows)
 
 unfoldable pub request_of : List Row → Option Request

@@ -7,6 +7,7 @@ use Rattle.ts_watch.specs.Choices.{RequestView}
 use Rattle.analysis.specs.Analysis.{is_crowded}
 use Rattle.analysis.specs.declared.analyser.Analyser.{Analyser}
 use Rattle.analysis.specs.Analysis.{IsAnalysed, AnalysisState, start}
+use Rattle.event_lines.specs.declared.event_lines.LineForm.{LineForm}
 use Rattle.event_lines.specs.EventLines.{lines_of}
 use Rattle.devices.specs.Devices.{Device, HasFailed, IsClean, IsUntouched, Takes}
 use Rattle.devices.specs.Lines.{Reports, Stopped, line_text}
@@ -23,18 +24,18 @@ use Rattle.tsview_cli.specs.declared.viewing.Viewed.TheVariants as is_viewed
 -- 1. The lines of a stream, plain or as JSON objects
 
 -- the lines of the events that parts settle
-abbrev pub lines_all : Bool → AnalysisState → List Part → List ℕ
-lines_all json s parts = lines_of json (events_of s parts)
+abbrev pub lines_all : LineForm → AnalysisState → List Part → List ℕ
+lines_all form s parts = lines_of form (events_of s parts)
 
-abbrev pub settled : RequestView → Bool → List Part → List ℕ
-settled request json parts = lines_all json (start request) parts
+abbrev pub settled : RequestView → LineForm → List Part → List ℕ
+settled request form parts = lines_all form (start request) parts
 
 -- all lines, with the lines at the end; status 1 if something is wrong
-abbrev pub all_lines : RequestView → Bool → List ℕ → List ℕ
-all_lines request json bytes = settled request json (parts_in bytes) ++ lines_of json (events_last request bytes)
+abbrev pub all_lines : RequestView → LineForm → List ℕ → List ℕ
+all_lines request form bytes = settled request form (parts_in bytes) ++ lines_of form (events_last request bytes)
 
-abbrev pub viewed : RequestView → Bool → List ℕ → Outcome
-viewed request json bytes = printed (all_lines request json bytes) (if is_good_input request bytes then 0 else 1)
+abbrev pub viewed : RequestView → LineForm → List ℕ → Outcome
+viewed request form bytes = printed (all_lines request form bytes) (if is_good_input request bytes then 0 else 1)
 
 -- a view of the first parts of these bytes is crowded: too many units of a stream wait
 pub record IsCrowdedAfter (request : RequestView) (bytes : List ℕ) : Type 0 where
@@ -73,8 +74,8 @@ pub record StaysCalm (first : AnalysisState) (bytes : List ℕ) : Type 0 where
   pub after : IsCalmAfter first bytes
 
 -- all lines, of an input whose view is crowded after no piece
-pub record Leads (request : RequestView) (json : Bool) (bytes : List ℕ) (outcome : Outcome) : Type 0 where
-  pub is : outcome ≡ viewed request json bytes
+pub record Leads (request : RequestView) (form : LineForm) (bytes : List ℕ) (outcome : Outcome) : Type 0 where
+  pub is : outcome ≡ viewed request form bytes
   pub calm : StaysCalm (start request) bytes
 
 -- 2. As far as it came
@@ -90,39 +91,39 @@ abbrev pub BeginsWith : Option (List ℕ) → List ℕ → Type 0
 BeginsWith known bytes = (xs : List ℕ) → known ≡ Some xs → (rest : List ℕ) × (xs ≡ bytes ++ rest)
 
 -- these bytes were viewed, piece by piece, and the lines that they settle were written
-pub record Seen (json : Bool) (first : AnalysisState) (output : Device) (now : CapturedView) (bytes : List ℕ) : Type 0 where
+pub record Seen (form : LineForm) (first : AnalysisState) (output : Device) (now : CapturedView) (bytes : List ℕ) : Type 0 where
   pub found : List Part
   pub so_far : IsSoFar first now bytes found
-  pub written : Takes output (lines_all json first found)
+  pub written : Takes output (lines_all form first found)
   pub clean : IsClean output
   pub calm : WasCalm first bytes
 
 -- the lines of the further parts that these bytes settle
-pub record Shows (json : Bool) (first : AnalysisState) (now : CapturedView) (bytes : List ℕ) (found : List Part) (text : List ℕ) : Type 0 where
+pub record Shows (form : LineForm) (first : AnalysisState) (now : CapturedView) (bytes : List ℕ) (found : List Part) (text : List ℕ) : Type 0 where
   pub more : List Part
   pub so_far : IsSoFar first now bytes (found ++ more)
-  pub text_is : text ≡ lines_all json (after_parts first found) more
+  pub text_is : text ≡ lines_all form (after_parts first found) more
 
 -- the lines of the rest of the input, and the lines at the end
-pub record EndShows (rate : Option ℕ) (json : Bool) (first : AnalysisState) (bytes : List ℕ) (found : List Part) (text : List ℕ) (good : Bool) : Type 0 where
+pub record EndShows (rate : Option ℕ) (form : LineForm) (first : AnalysisState) (bytes : List ℕ) (found : List Part) (text : List ℕ) (good : Bool) : Type 0 where
   pub more : List Part
   pub parts_are : parts_in bytes ≡ found ++ more
-  pub text_is : text ≡ lines_of json (events_of (after_parts first found) more
+  pub text_is : text ≡ lines_of form (events_of (after_parts first found) more
       ++ last_events rate (capture_of bytes).form (after_parts first (parts_in bytes)) (left_in bytes))
   pub good_is : good ≡ is_whole rate (capture_of bytes).form (after_parts first (parts_in bytes)) (left_in bytes)
 
 -- the first `size` bytes of the input were viewed, and then too many units of a stream waited: no more of the input is viewed
-pub record Crowds (json : Bool) (first : AnalysisState) (input output : Device) (now : CapturedView) (size : ℕ) : Type 0 where
+pub record Crowds (form : LineForm) (first : AnalysisState) (input output : Device) (now : CapturedView) (size : ℕ) : Type 0 where
   pub bytes : List ℕ
   pub size_is : size ≡ length bytes
   pub front : BeginsWith input.before.bytes bytes
-  pub seen : Seen json first output now bytes
+  pub seen : Seen form first output now bytes
   pub clean : IsClean input
   pub crowded : is_crowded now.parts.view ≡ true
 
 -- the whole input was viewed, or that front of it
-abbrev pub Reaches : Bool → AnalysisState → Device → Device → CapturedView → ℕ → Type 0
-Reaches json first input output now size = TakesInput (Seen json first output now) input (Ok size) ⊎ Crowds json first input output now size
+abbrev pub Reaches : LineForm → AnalysisState → Device → Device → CapturedView → ℕ → Type 0
+Reaches form first input output now size = TakesInput (Seen form first output now) input (Ok size) ⊎ Crowds form first input output now size
 
 -- if the view is crowded, the input may have more bytes than were viewed
 abbrev pub as_viewed : Bool → Bool → Viewed
@@ -136,59 +137,59 @@ BreaksAt text input output Write = Stopped text output × HasFailed output
 BreaksAt text input output Memory = Takes output text × IsClean input
 
 -- the lines that the first bytes of the input settle
-pub record Breaks (json : Bool) (first : AnalysisState) (input output : Device) (halt : Halt) : Type 0 where
+pub record Breaks (form : LineForm) (first : AnalysisState) (input output : Device) (halt : Halt) : Type 0 where
   pub bytes : List ℕ
   pub front : BeginsWith input.before.bytes bytes
   pub found : List Part
   pub are : AreSettled bytes found
   pub calm : WasCalm first bytes
-  pub at : BreaksAt (lines_all json first found) input output halt
+  pub at : BreaksAt (lines_all form first found) input output halt
 
 -- these bytes are the whole input, or too many units of a stream wait after them: no more is viewed
 abbrev pub AreViewed : RequestView → Device → List ℕ → Type 0
 AreViewed request input bytes = ReadsInput input (Ok bytes) ⊎ IsCrowdedAfter request bytes
 
 -- the lines of parts that these bytes settle
-abbrev pub IsSettledText : RequestView → Bool → List ℕ → List ℕ → Type 0
-IsSettledText request json bytes text = (found : List Part) × AreSettled bytes found × (text ≡ settled request json found)
+abbrev pub IsSettledText : RequestView → LineForm → List ℕ → List ℕ → Type 0
+IsSettledText request form bytes text = (found : List Part) × AreSettled bytes found × (text ≡ settled request form found)
 
 -- the same, or all lines of these bytes if no more of the input is viewed
-abbrev pub IsText : RequestView → Bool → Device → List ℕ → List ℕ → Type 0
-IsText request json input bytes text = IsSettledText request json bytes text ⊎ ((text ≡ all_lines request json bytes) × AreViewed request input bytes)
+abbrev pub IsText : RequestView → LineForm → Device → List ℕ → List ℕ → Type 0
+IsText request form input bytes text = IsSettledText request form bytes text ⊎ ((text ≡ all_lines request form bytes) × AreViewed request input bytes)
 
-pub record BreaksOff (request : RequestView) (json : Bool) (input output : Device) (halt : Halt) : Type 0 where
+pub record BreaksOff (request : RequestView) (form : LineForm) (input output : Device) (halt : Halt) : Type 0 where
   pub bytes : List ℕ
   pub front : BeginsWith input.before.bytes bytes
   pub text : List ℕ
-  pub text_is : IsText request json input bytes text
+  pub text_is : IsText request form input bytes text
   pub calm : WasCalm (start request) bytes
   pub at : BreaksAt text input output halt
 
 -- 3. A run
 
 -- all lines are written, and too many units of a stream waited at the end of no piece
-pub record SeesAll (request : RequestView) (json : Bool) (input output : Device) (good : Bool) : Type 0 where
+pub record SeesAll (request : RequestView) (form : LineForm) (input output : Device) (good : Bool) : Type 0 where
   pub bytes : List ℕ
   pub read : ReadsInput input (Ok bytes)
-  pub written : Takes output (all_lines request json bytes)
+  pub written : Takes output (all_lines request form bytes)
   pub clean : IsClean output
   pub calm : StaysCalm (start request) bytes
   pub good_is : good ≡ is_good_input request bytes
 
 -- or the lines of the first bytes of the input, after which too many units of a stream wait, with the lines at the end; no more is viewed
-pub record SeesFront (request : RequestView) (json : Bool) (input output : Device) : Type 0 where
+pub record SeesFront (request : RequestView) (form : LineForm) (input output : Device) : Type 0 where
   pub bytes : List ℕ
   pub front : BeginsWith input.before.bytes bytes
   pub read : IsClean input
   pub calm : WasCalm (start request) bytes
   pub crowded : IsCrowdedAfter request bytes
-  pub written : Takes output (all_lines request json bytes)
+  pub written : Takes output (all_lines request form bytes)
   pub clean : IsClean output
 
-abbrev pub Sees : RequestView → Bool → Device → Device → Result Viewed Halt → Type 0
-Sees request json input output (Ok (is_viewed.Whole good)) = SeesAll request json input output good
-Sees request json input output (Ok is_viewed.Crowded) = SeesFront request json input output
-Sees request json input output (Err halt) = BreaksOff request json input output halt
+abbrev pub Sees : RequestView → LineForm → Device → Device → Result Viewed Halt → Type 0
+Sees request form input output (Ok (is_viewed.Whole good)) = SeesAll request form input output good
+Sees request form input output (Ok is_viewed.Crowded) = SeesFront request form input output
+Sees request form input output (Err halt) = BreaksOff request form input output halt
 
 -- the line that standard error then takes, and the status
 abbrev pub Concludes : Viewed → Device → ℕ → Type 0
@@ -196,19 +197,19 @@ Concludes (is_viewed.Whole good) faults status = IsUntouched faults × (status �
 Concludes is_viewed.Crowded faults status = Reports faults (line_text (codes "waiting") []) × (status ≡ 3)
 
 -- it ended early, and the line that says why is printed
-pub record EndsEarly (request : RequestView) (json : Bool) (input output faults : Device) (status : ℕ) : Type 0 where
+pub record EndsEarly (request : RequestView) (form : LineForm) (input output faults : Device) (status : ℕ) : Type 0 where
   pub halt : Halt
-  pub breaks : BreaksOff request json input output halt
+  pub breaks : BreaksOff request form input output halt
   pub reports : Reports faults (halt_line halt)
   pub status_is : status ≡ 3
 
 -- or the rest of the input was not viewed, because too many units of a stream wait, and a line says so
-pub record EndsCrowded (request : RequestView) (json : Bool) (input output faults : Device) (status : ℕ) : Type 0 where
-  pub sees : SeesFront request json input output
+pub record EndsCrowded (request : RequestView) (form : LineForm) (input output faults : Device) (status : ℕ) : Type 0 where
+  pub sees : SeesFront request form input output
   pub reports : Reports faults (line_text (codes "waiting") [])
   pub status_is : status ≡ 3
 
-abbrev pub Views : RequestView → Bool → Device → Device → Device → ℕ → Type 0
-Views request json input output faults status =
-    Ends (Leads request json) input output faults status ⊎
-    (EndsEarly request json input output faults status ⊎ EndsCrowded request json input output faults status)
+abbrev pub Views : RequestView → LineForm → Device → Device → Device → ℕ → Type 0
+Views request form input output faults status =
+    Ends (Leads request form) input output faults status ⊎
+    (EndsEarly request form input output faults status ⊎ EndsCrowded request form input output faults status)

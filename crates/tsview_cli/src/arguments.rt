@@ -10,6 +10,7 @@ use arrival::Arrival;
 use clap::ArgMatches;
 use clock27::Rate;
 use devices::{is_given, text_of};
+use event_lines::LineForm;
 use given_buffers::buffer_list;
 use std::alloc::{AllocError, Global};
 use ts_report::{ViewChoice, ViewOptions, ViewRequest, ViewSpan};
@@ -80,15 +81,15 @@ fn stamps_in(matches: &ArgMatches<'_>, arrival: &Arrival) -> Option<bool>
     stamps_beside(arrival, is_given(text_of(matches, "arrival-stamps")))
 }
 
-// Returns the request for lines or for a page; `None` if the options ask for both.
+// Returns the request for lines or for a page; `None` if the options ask for a page of JSON objects.
 #[tactic(auto, unfolding(crate::specs::Arguments::requested))]
-fn requested(page: bool, json: bool, request: ViewRequest) -> Option<Request>
-    ensures { result ≡ spec.requested page json request }
+fn requested(page: bool, form: LineForm, request: ViewRequest) -> Option<Request>
+    ensures { result ≡ spec.requested page form request }
 {
     if !page {
-        return Some(Request::Lines(request, json));
+        return Some(Request::Lines(request, form));
     }
-    if json {
+    if form.json {
         drop(request);
         return None;
     }
@@ -109,6 +110,15 @@ fn choice_of(alloc: Global, matches: &ArgMatches<'_>) -> Result<Option<ViewChoic
     Ok(Some(ViewChoice { programs, buffers }))
 }
 
+fn form_of(matches: &ArgMatches<'_>) -> LineForm
+    ensures { result ≡ spec.form_of (rows_of (found_of matches.now)) }
+{
+    LineForm {
+        json: is_given(text_of(matches, "json")),
+        quiet: is_given(text_of(matches, "quiet")),
+    }
+}
+
 // Adds the options that are lists.
 #[tactic(auto, unfolding(crate::specs::Arguments::request_with))]
 fn request_with(
@@ -124,14 +134,14 @@ fn request_with(
         return Ok(None);
     };
     let page = is_given(text_of(matches, "page"));
-    let json = is_given(text_of(matches, "json"));
+    let form = form_of(matches);
     let request = ViewRequest {
         options,
         choice,
         span,
         stamps,
     };
-    Ok(requested(page, json, request))
+    Ok(requested(page, form, request))
 }
 
 // Returns all that the options ask for.

@@ -6,7 +6,7 @@ ghost use Rattle.word_faults.specs.KnownWords.{known_of};
 use word_faults::{KnownWords, OptionRow, Scale, ValueKind};
 
 /// The options and the name of a file. The reader, the first faulty word and the usage follow these rows.
-pub(crate) const OPTIONS: [OptionRow; 14] = [
+pub(crate) const OPTIONS: [OptionRow; 15] = [
     OptionRow {
         name: "file",
         value: ValueKind::Word,
@@ -84,6 +84,14 @@ pub(crate) const OPTIONS: [OptionRow; 14] = [
         help: "a JSON object a line",
     },
     OptionRow {
+        name: "quiet",
+        value: ValueKind::Flag,
+        form: "",
+        unit: "",
+        apart: "",
+        help: "the verdict alone",
+    },
+    OptionRow {
         name: "page",
         value: ValueKind::Flag,
         form: "",
@@ -151,6 +159,7 @@ const USAGE: &str = "usage: tsview [OPTIONS] [FILE|-] < PACKETS
   --from 0..1000000000           leave out faults and windows that end before this time in ms
   --to 0..1000000000             leave out faults and windows that begin after this time in ms
   --json                         a JSON object a line
+  --quiet                        the verdict alone
   --page                         a page of HTML with pictures instead
   --program N,..                 view the streams of these programs alone
   --buffers PID:RX:MAIN,..       buffers of a PID, in bits a second and bytes

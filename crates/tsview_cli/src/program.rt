@@ -1,6 +1,6 @@
 //! The program over any reader and two writers.
 
-ghost use Rattle.std.specs.Prelude.{◌≡◌, Bool, None, Some, if◌then◌else◌, true, false, codes, map};
+ghost use Rattle.std.specs.Prelude.{◌≡◌, None, Some, if◌then◌else◌, true, false, codes, map};
 ghost use Rattle.clap.specs.Words.{Text};
 ghost use Rattle.devices.specs.Devices.{Device, IsUntouched, reads, writes};
 ghost use Rattle.devices.specs.Files.{files_of};
@@ -24,6 +24,7 @@ use crate::request::{Asked, Request};
 use crate::viewing::{Viewed, view_input};
 use counted_io::{Sink, Source};
 use devices::{Halt, NamedFiles, report_halt, report_line, report_text};
+use event_lines::LineForm;
 use std::alloc::Global;
 use ts_report::ViewRequest;
 use word_faults::answer_words;
@@ -61,15 +62,15 @@ fn conclude<E: Sink>(seen: Viewed, faults: &mut E) -> u8
 fn view_stream<R: Source, W: Sink, E: Sink>(
     alloc: Global,
     request: ViewRequest,
-    json: bool,
+    form: LineForm,
     input: &mut R,
     output: &mut W,
     faults: &mut E,
 ) -> u8
-    ensures { Views request json (reads R.Source input.old input.new) (writes W.Sink output.old output.new)
+    ensures { Views request form (reads R.Source input.old input.new) (writes W.Sink output.old output.new)
         (writes E.Sink faults.old faults.new) result }
 {
-    match view_input(alloc, request, json, input, output) {
+    match view_input(alloc, request, form, input, output) {
         Ok(seen) => conclude(seen, faults),
         Err(halt) => report_halt(faults, halt),
     }
@@ -87,7 +88,7 @@ fn answer<R: Source, W: Sink, E: Sink>(
         (writes E.Sink faults.old faults.new) result }
 {
     match request {
-        Request::Lines(request, json) => view_stream(alloc, request, json, input, output, faults),
+        Request::Lines(request, form) => view_stream(alloc, request, form, input, output, faults),
         Request::Page(request) => draw_stream(alloc, request, input, output, faults),
     }
 }
@@ -150,9 +151,9 @@ fn run_on_stream<F: NamedFiles, R: Source, W: Sink, E: Sink>(
     faults: &mut E,
 ) -> u8
     // A transport stream, as it comes, to the lines of its report.
-    ensures view { (r : RequestView) (json : Bool) →
-        asked words.now ≡ Some (asked_for (Request.Lines r json) None) →
-        Views r json (reads R.Source input.old input.new) (writes W.Sink output.old output.new)
+    ensures view { (r : RequestView) (form : LineForm) →
+        asked words.now ≡ Some (asked_for (Request.Lines r form) None) →
+        Views r form (reads R.Source input.old input.new) (writes W.Sink output.old output.new)
         (writes E.Sink faults.old faults.new) result }
     // A transport stream to a page of its events.
     ensures page { (r : RequestView) →
@@ -160,9 +161,9 @@ fn run_on_stream<F: NamedFiles, R: Source, W: Sink, E: Sink>(
         Performs (DrawsPage r) (reads R.Source input.old input.new) (writes W.Sink output.old output.new)
         (writes E.Sink faults.old faults.new) result }
     // A transport stream in a file, to its lines or its page.
-    ensures view_file { (r : RequestView) (json : Bool) (name : Text) →
-        asked words.now ≡ Some (asked_for (Request.Lines r json) (Some name)) →
-        OfFile (files_of (F.contents_of files.now) (F.opens files.now) F.never_fails) name (Views r json)
+    ensures view_file { (r : RequestView) (form : LineForm) (name : Text) →
+        asked words.now ≡ Some (asked_for (Request.Lines r form) (Some name)) →
+        OfFile (files_of (F.contents_of files.now) (F.opens files.now) F.never_fails) name (Views r form)
         (reads R.Source input.old input.new) (writes W.Sink output.old output.new)
         (writes E.Sink faults.old faults.new) result }
     ensures page_file { (r : RequestView) (name : Text) →
@@ -203,9 +204,9 @@ pub fn run<F: NamedFiles, R: Source, W: Sink, E: Sink>(
         Performs DrawsPlan (reads R.Source input.old input.new)
         (writes W.Sink output.old output.new) (writes E.Sink faults.old faults.new) result }
     // A transport stream, as it comes, to the lines of its report.
-    ensures view { is_plan (map (λ s. s.now) words.now) ≡ false → (r : RequestView) (json : Bool) →
-        asked words.now ≡ Some (asked_for (Request.Lines r json) None) →
-        Views r json (reads R.Source input.old input.new) (writes W.Sink output.old output.new)
+    ensures view { is_plan (map (λ s. s.now) words.now) ≡ false → (r : RequestView) (form : LineForm) →
+        asked words.now ≡ Some (asked_for (Request.Lines r form) None) →
+        Views r form (reads R.Source input.old input.new) (writes W.Sink output.old output.new)
         (writes E.Sink faults.old faults.new) result }
     // A transport stream to a page of its events.
     ensures page { is_plan (map (λ s. s.now) words.now) ≡ false → (r : RequestView) →
@@ -213,9 +214,9 @@ pub fn run<F: NamedFiles, R: Source, W: Sink, E: Sink>(
         Performs (DrawsPage r) (reads R.Source input.old input.new) (writes W.Sink output.old output.new)
         (writes E.Sink faults.old faults.new) result }
     // A transport stream in a file, to its lines or its page.
-    ensures view_file { is_plan (map (λ s. s.now) words.now) ≡ false → (r : RequestView) (json : Bool) (name : Text) →
-        asked words.now ≡ Some (asked_for (Request.Lines r json) (Some name)) →
-        OfFile (files_of (F.contents_of files.now) (F.opens files.now) F.never_fails) name (Views r json)
+    ensures view_file { is_plan (map (λ s. s.now) words.now) ≡ false → (r : RequestView) (form : LineForm) (name : Text) →
+        asked words.now ≡ Some (asked_for (Request.Lines r form) (Some name)) →
+        OfFile (files_of (F.contents_of files.now) (F.opens files.now) F.never_fails) name (Views r form)
         (reads R.Source input.old input.new) (writes W.Sink output.old output.new)
         (writes E.Sink faults.old faults.new) result }
     ensures page_file { is_plan (map (λ s. s.now) words.now) ≡ false → (r : RequestView) (name : Text) →

@@ -1,12 +1,13 @@
 //! The request of the words.
 
+use event_lines::LineForm;
 use std::marker::Model;
 use ts_report::ViewRequest;
 
-/// The lines of events, each a JSON object on request, or the page that is drawn of them.
+/// The lines of events, or the page that is drawn of them.
 #[derive(Drop)]
 pub enum Request {
-    Lines(ViewRequest, bool),
+    Lines(ViewRequest, LineForm),
     Page(ViewRequest),
 }
 

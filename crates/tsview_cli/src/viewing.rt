@@ -15,7 +15,7 @@ ghost use Rattle.tsview_cli.specs.Viewing as spec;
 use crate::captured::{CapturedView, rate_of};
 use counted_io::{Sink, Source};
 use devices::{Halt, LONGEST_INPUT, new_piece, read_piece, size_within, write_text};
-use event_lines::write_events;
+use event_lines::{LineForm, write_events};
 use std::alloc::{AllocError, Global};
 use ts_report::ViewRequest;
 
@@ -35,23 +35,23 @@ pub(crate) enum Viewed {
 // Views the next piece: the text has the lines of the events that it settles.
 fn view_lines(
     alloc: Global,
-    json: bool,
+    form: LineForm,
     stream: &mut CapturedView,
     piece: &[u8],
     text: &mut String,
 ) -> Result<(), AllocError>
     requires out { string_bytes text.old ≡ [] }
     ensures { (first : AnalysisState) (bytes : List ℕ) (found : List Part) → IsSoFar first stream.old bytes found →
-        OnOk result (Shows json first stream.new (bytes ++ piece.now) found (string_bytes text.new)) }
+        OnOk result (Shows form first stream.new (bytes ++ piece.now) found (string_bytes text.new)) }
 {
     stream.take(piece)?;
-    write_events(alloc, text, json, &stream.parts.events)
+    write_events(alloc, text, form, &stream.parts.events)
 }
 
 // Views the next piece, unless memory runs out.
 fn view_piece(
     alloc: Global,
-    json: bool,
+    form: LineForm,
     stream: &mut CapturedView,
     piece: &[u8],
     text: &mut String,
@@ -59,10 +59,10 @@ fn view_piece(
     requires out { string_bytes text.old ≡ [] }
     ensures shown { (first : AnalysisState) (bytes : List ℕ) (found : List Part) →
         IsSoFar first stream.old bytes found →
-        OnOk result (Shows json first stream.new (bytes ++ piece.now) found (string_bytes text.new)) }
+        OnOk result (Shows form first stream.new (bytes ++ piece.now) found (string_bytes text.new)) }
     ensures memory { IfErr result (λ halt. halt ≡ Halt.Memory) }
 {
-    match view_lines(alloc, json, stream, piece, text) {
+    match view_lines(alloc, form, stream, piece, text) {
         Ok(()) => Ok(()),
         Err(_) => Err(Halt::Memory),
     }
@@ -71,7 +71,7 @@ fn view_piece(
 // Reads the next piece of the input, and views it: the lines that it settles wait in the text. Returns its size.
 fn view_next<R: Source>(
     alloc: Global,
-    json: bool,
+    form: LineForm,
     input: &mut R,
     piece: &mut [u8],
     stream: &mut CapturedView,
@@ -85,11 +85,11 @@ fn view_next<R: Source>(
     ensures read { IfOk result (λ n. ReadsFront (reads R.Source input.old input.new) piece.new n) }
     ensures shown { (first : AnalysisState) (bytes : List ℕ) (found : List Part) →
         IsSoFar first stream.old bytes found →
-        IfOk result (λ n. Shows json first stream.new (bytes ++ take n piece.new) found (string_bytes text.new)) }
+        IfOk result (λ n. Shows form first stream.new (bytes ++ take n piece.new) found (string_bytes text.new)) }
     ensures err { IfErr result (StopsNext (reads R.Source input.old input.new)) }
 {
     let n = read_piece(input, piece)?;
-    view_piece(alloc, json, stream, &piece[..n], text)?;
+    view_piece(alloc, form, stream, &piece[..n], text)?;
     Ok(n)
 }
 
@@ -106,7 +106,7 @@ fn write_settled<W: Sink>(text: &mut String, output: &mut W) -> Result<(), Halt>
 // Views the input to its end, or until the view is crowded, and returns the size of what was viewed.
 fn view_pieces<R: Source, W: Sink>(
     alloc: Global,
-    json: bool,
+    form: LineForm,
     input: &mut R,
     output: &mut W,
     piece: &mut [u8],
@@ -117,16 +117,16 @@ fn view_pieces<R: Source, W: Sink>(
     requires text { string_bytes text.old ≡ [] }
     requires calm { is_crowded stream.old.parts.view ≡ false }
     ensures ok { (s : AnalysisState) → IsSoFar s stream.old [] [] →
-        IfOk result (Reaches json s (reads R.Source input.old input.new)
+        IfOk result (Reaches form s (reads R.Source input.old input.new)
         (writes W.Sink output.old output.new) stream.new) }
     ensures err { (s : AnalysisState) → IsSoFar s stream.old [] [] →
-        IfErr result (Breaks json s (reads R.Source input.old input.new)
+        IfErr result (Breaks form s (reads R.Source input.old input.new)
         (writes W.Sink output.old output.new)) }
     ensures text { OnOk result (string_bytes text.new ≡ []) }
 {
     let mut size = 0;
     while size <= LONGEST_INPUT {
-        let n = view_next(alloc, json, input, piece, stream, text)?;
+        let n = view_next(alloc, form, input, piece, stream, text)?;
         match write_settled(text, output) {
             Ok(()) => {}
             Err(halt) => return Err(halt),
@@ -145,24 +145,24 @@ fn view_pieces<R: Source, W: Sink>(
 // Ends the input: the text has the last lines. Whether nothing is wrong in it.
 fn write_end(
     alloc: Global,
-    json: bool,
+    form: LineForm,
     rate: Option<u64>,
     stream: &mut CapturedView,
     text: &mut String,
 ) -> Result<bool, AllocError>
     requires out { string_bytes text.old ≡ [] }
     ensures { (first : AnalysisState) (bytes : List ℕ) (found : List Part) → IsSoFar first stream.old bytes found →
-        IfOk result (EndShows rate json first bytes found (string_bytes text.new)) }
+        IfOk result (EndShows rate form first bytes found (string_bytes text.new)) }
 {
     let good = stream.end(rate)?;
-    write_events(alloc, text, json, &stream.parts.events)?;
+    write_events(alloc, text, form, &stream.parts.events)?;
     Ok(good)
 }
 
 // Ends the view, unless memory runs out.
 fn end_view(
     alloc: Global,
-    json: bool,
+    form: LineForm,
     rate: Option<u64>,
     stream: &mut CapturedView,
     text: &mut String,
@@ -170,10 +170,10 @@ fn end_view(
     requires out { string_bytes text.old ≡ [] }
     ensures shown { (first : AnalysisState) (bytes : List ℕ) (found : List Part) →
         IsSoFar first stream.old bytes found →
-        IfOk result (EndShows rate json first bytes found (string_bytes text.new)) }
+        IfOk result (EndShows rate form first bytes found (string_bytes text.new)) }
     ensures memory { IfErr result (λ halt. halt ≡ Halt.Memory) }
 {
-    match write_end(alloc, json, rate, stream, text) {
+    match write_end(alloc, form, rate, stream, text) {
         Ok(good) => Ok(good),
         Err(_) => Err(Halt::Memory),
     }
@@ -193,7 +193,7 @@ fn as_viewed(crowded: bool, good: bool) -> Viewed
 // Views the input to its end, or until the view is crowded, and writes the last lines of what was viewed.
 fn view_whole<R: Source, W: Sink>(
     alloc: Global,
-    json: bool,
+    form: LineForm,
     rate: Option<u64>,
     input: &mut R,
     output: &mut W,
@@ -205,14 +205,14 @@ fn view_whole<R: Source, W: Sink>(
     requires text { string_bytes text.old ≡ [] }
     requires calm { is_crowded stream.old.parts.view ≡ false }
     ensures { (r : RequestView) → IsSoFar (start r) stream.old [] [] → rate ≡ rate_in r →
-        Sees r json (reads R.Source input.old input.new) (writes W.Sink output.old output.new) result }
+        Sees r form (reads R.Source input.old input.new) (writes W.Sink output.old output.new) result }
 {
-    match view_pieces(alloc, json, input, output, piece, stream, text) {
+    match view_pieces(alloc, form, input, output, piece, stream, text) {
         Ok(_) => {}
         Err(halt) => return Err(halt),
     }
     let crowded = stream.is_crowded();
-    let good = match end_view(alloc, json, rate, stream, text) {
+    let good = match end_view(alloc, form, rate, stream, text) {
         Ok(good) => good,
         Err(halt) => return Err(halt),
     };
@@ -227,11 +227,11 @@ fn view_whole<R: Source, W: Sink>(
 pub(crate) fn view_input<R: Source, W: Sink>(
     alloc: Global,
     request: ViewRequest,
-    json: bool,
+    form: LineForm,
     input: &mut R,
     output: &mut W,
 ) -> Result<Viewed, Halt>
-    ensures { Sees request json (reads R.Source input.old input.new) (writes W.Sink output.old output.new) result }
+    ensures { Sees request form (reads R.Source input.old input.new) (writes W.Sink output.old output.new) result }
 {
     let mut piece = match new_piece(alloc, PIECE) {
         Ok(piece) => piece,
@@ -242,7 +242,7 @@ pub(crate) fn view_input<R: Source, W: Sink>(
     let mut text = String::new(alloc);
     let result = view_whole(
         alloc,
-        json,
+        form,
         rate,
         input,
         output,

@@ -8,7 +8,7 @@ use Rattle.tsview_cli.proofs.Viewed.{none_seen}
 use Rattle.tsview_cli.proofs.program.run_on_stream.Goals as goal
 
 pub returns-in-Ok-Some-clause-view : goal.returns-in-Ok-Some-clause-view
-returns-in-Ok-Some-clause-view g c = λ r json is. of_input _ c.in-Ok-Some.wanted (Lines r json) _ _ _ _ (sym c.in-Ok-Some.field-0-is ∙ c.in-Ok-Some.ensures) is
+returns-in-Ok-Some-clause-view g c = λ r form is. of_input _ c.in-Ok-Some.wanted (Lines r form) _ _ _ _ (sym c.in-Ok-Some.field-0-is ∙ c.in-Ok-Some.ensures) is
     c.answer_asked.ensures.input
 
 pub returns-in-Ok-Some-clause-page : goal.returns-in-Ok-Some-clause-page
@@ -17,7 +17,7 @@ returns-in-Ok-Some-clause-page g c =
 
 pub returns-in-Ok-Some-clause-view_file : goal.returns-in-Ok-Some-clause-view_file
 returns-in-Ok-Some-clause-view_file g c =
-    λ r json name is. of_file _ c.in-Ok-Some.wanted (Lines r json) name _ _ _ _ _ (sym c.in-Ok-Some.field-0-is ∙ c.in-Ok-Some.ensures) is
+    λ r form name is. of_file _ c.in-Ok-Some.wanted (Lines r form) name _ _ _ _ _ (sym c.in-Ok-Some.field-0-is ∙ c.in-Ok-Some.ensures) is
     c.answer_asked.ensures.file
 
 pub returns-in-Ok-Some-clause-page_file : goal.returns-in-Ok-Some-clause-page_file
@@ -25,12 +25,12 @@ returns-in-Ok-Some-clause-page_file g c =
     λ r name is. of_file _ c.in-Ok-Some.wanted (Page r) name _ _ _ _ _ (sym c.in-Ok-Some.field-0-is ∙ c.in-Ok-Some.ensures) is c.answer_asked.ensures.file
 
 pub returns-in-Err-clause-view : goal.returns-in-Err-clause-view
-returns-in-Err-clause-view g c = λ o json e.
+returns-in-Err-clause-view g c = λ o form e.
     let input : Port = record { bytes = g.R.Read.remaining c.args.input.now; failed = g.R.Source.fault_count c.args.input.now } in
     let output : Port = record { bytes = g.W.Write.contents c.args.output.now; failed = g.W.Sink.fault_count c.args.output.now } in
     inr (inl (record {
       halt = Memory;
-      breaks = none_seen o json input output Memory refl;
+      breaks = none_seen o form input output Memory refl;
       reports = c.report_halt.ensures.reports;
       status_is =
           c.report_halt.ensures.status;

@@ -11,7 +11,7 @@ returns-in-Ok g c =
     (record { bytes = g.W.Write.contents c.view_input.new.output; failed = g.W.Sink.fault_count c.view_input.new.output }) in
     let faults : Device = between (record { bytes = g.E.Write.contents c.args.faults.now; failed = g.E.Sink.fault_count c.args.faults.now })
     (record { bytes = g.E.Write.contents c.conclude.new.faults; failed = g.E.Sink.fault_count c.conclude.new.faults }) in
-    concluded c.args.request c.args.json input output faults c.in-Ok.seen _ c.in-Ok.ensures c.conclude.ensures
+    concluded c.args.request c.args.form input output faults c.in-Ok.seen _ c.in-Ok.ensures c.conclude.ensures
 
 pub returns-in-Err : goal.returns-in-Err
 returns-in-Err g c =

@@ -13,5 +13,5 @@ returns c = λ first bytes found so_far.
     on_ok c.write_events.result (λ e. record {
       more = m.more;
       so_far = m.so_far;
-      text_is = e ∙ ap (λ (t : List ℕ). t ++ lines_of c.args.json c.deref.result.now) c.requires.out ∙ ap (lines_of c.args.json) is;
+      text_is = e ∙ ap (λ (t : List ℕ). t ++ lines_of c.args.form c.deref.result.now) c.requires.out ∙ ap (lines_of c.args.form) is;
     }) c.write_events.ensures

@@ -18,7 +18,7 @@ loop-size-init g c =
       room = refl;
       none = c.requires.text;
       calm = c.requires.calm;
-      front = λ s k. front_none (Seen c.args.json s (between output output) c.args.stream.now) longest_piece input (seen_none c.args.json s c.args.stream.now output k);
+      front = λ s k. front_none (Seen c.args.form s (between output output) c.args.stream.now) longest_piece input (seen_none c.args.form s c.args.stream.now output k);
     }
 
 pub loop-size-preserved : goal.loop-size-preserved
@@ -34,17 +34,17 @@ loop-size-preserved g c =
     let most : length piece ≤ longest_piece =
     part_most c.view_next.new.piece c.args.piece.now c.in_ok-n.n room c.requires.size c.in_ok-n.ensures.read.fits in
     let shows : (s : AnalysisState) (bytes : List ℕ) (found : List Part) → IsSoFar s c.loop-size.stream bytes found →
-    Shows c.args.json s c.view_next.new.stream (bytes ++ piece) found (string_bytes c.view_next.new.text) =
+    Shows c.args.form s c.view_next.new.stream (bytes ++ piece) found (string_bytes c.view_next.new.text) =
     λ s bytes found so_far. c.in_ok-n.ensures.shown s bytes found so_far in
     let calm : is_crowded c.view_next.new.stream.parts.view ≡ false = search rules in
     record {
       room = room;
       none = c.in-Ok.ensures.empty;
       calm = calm;
-      front = λ s k. front_more (Seen c.args.json s (between begin middle) c.loop-size.stream) (Seen c.args.json s (between begin end) c.view_next.new.stream)
+      front = λ s k. front_more (Seen c.args.form s (between begin middle) c.loop-size.stream) (Seen c.args.form s (between begin end) c.view_next.new.stream)
           longest_piece old mid new
           c.loop-size.size c.in_ok-n.n c.view_next.new.piece (c.loop-size.invariant.front s k) c.in_ok-n.ensures.read
-          (seen_then c.args.json s c.loop-size.stream c.view_next.new.stream begin middle end (string_bytes c.view_next.new.text) piece
+          (seen_then c.args.form s c.loop-size.stream c.view_next.new.stream begin middle end (string_bytes c.view_next.new.text) piece
           c.loop-size.invariant.calm most (shows s)
           c.in-Ok.ensures.written.0 c.in-Ok.ensures.written.1)
           (part_whole c.view_next.new.piece c.args.piece.now room c.requires.size) (omega (arith, c.if-n-piece.false));
@@ -63,9 +63,9 @@ returns-in-Err-clause-err g c = λ s k.
     let most : length piece ≤ longest_piece =
     part_most c.view_next.new.piece c.args.piece.now c.in_ok-n.n room c.requires.size c.in_ok-n.ensures.read.fits in
     let shows : (bytes : List ℕ) (found : List Part) → IsSoFar s c.loop-size.stream bytes found →
-    Shows c.args.json s c.view_next.new.stream (bytes ++ piece) found (string_bytes c.view_next.new.text) =
+    Shows c.args.form s c.view_next.new.stream (bytes ++ piece) found (string_bytes c.view_next.new.text) =
     λ bytes found so_far. c.in_ok-n.ensures.shown s bytes found so_far in
-    write_stopped (Unit {0}) c.args.json s c.loop-size.stream c.view_next.new.stream old mid new begin middle end c.loop-size.size c.in_ok-n.n
+    write_stopped (Unit {0}) c.args.form s c.loop-size.stream c.view_next.new.stream old mid new begin middle end c.loop-size.size c.in_ok-n.n
     (string_bytes c.view_next.new.text) c.view_next.new.piece c.in-Err.halt
     c.loop-size.invariant.calm most (c.loop-size.invariant.front s k) c.in_ok-n.ensures.read shows c.in-Err.ensures.written
 
@@ -82,13 +82,13 @@ returns-then-n-piece-clause-ok g c = λ s k.
     let most : length piece ≤ longest_piece =
     part_most c.view_next.new.piece c.args.piece.now c.in_ok-n.n room c.requires.size c.in_ok-n.ensures.read.fits in
     let shows : (bytes : List ℕ) (found : List Part) → IsSoFar s c.loop-size.stream bytes found →
-    Shows c.args.json s c.view_next.new.stream (bytes ++ piece) found (string_bytes c.view_next.new.text) =
+    Shows c.args.form s c.view_next.new.stream (bytes ++ piece) found (string_bytes c.view_next.new.text) =
     λ bytes found so_far. c.in_ok-n.ensures.shown s bytes found so_far in
-    if_whole c.args.json s (between old new) (between begin end) c.view_next.new.stream c.size_within.result
-    (if_ok (Seen c.args.json s (between begin end) c.view_next.new.stream) (between old new) c.size_within.result
-    (front_end (Seen c.args.json s (between begin middle) c.loop-size.stream) (Seen c.args.json s (between begin end) c.view_next.new.stream) longest_piece old mid new
+    if_whole c.args.form s (between old new) (between begin end) c.view_next.new.stream c.size_within.result
+    (if_ok (Seen c.args.form s (between begin end) c.view_next.new.stream) (between old new) c.size_within.result
+    (front_end (Seen c.args.form s (between begin middle) c.loop-size.stream) (Seen c.args.form s (between begin end) c.view_next.new.stream) longest_piece old mid new
     c.loop-size.size c.in_ok-n.n c.view_next.new.piece c.size_within.result (c.loop-size.invariant.front s k) c.in_ok-n.ensures.read
-    (seen_then c.args.json s c.loop-size.stream c.view_next.new.stream begin middle end (string_bytes c.view_next.new.text) piece
+    (seen_then c.args.form s c.loop-size.stream c.view_next.new.stream begin middle end (string_bytes c.view_next.new.text) piece
     c.loop-size.invariant.calm most shows
     c.in-Ok.ensures.written.0 c.in-Ok.ensures.written.1)
     (omega (arith, c.if-n-piece.true)) c.size_within.ensures.ok c.size_within.ensures.err))
@@ -106,13 +106,13 @@ returns-then-is_crowded-clause-ok g c = λ s k.
     let most : length piece ≤ longest_piece =
     part_most c.view_next.new.piece c.args.piece.now c.in_ok-n.n room c.requires.size c.in_ok-n.ensures.read.fits in
     let shows : (bytes : List ℕ) (found : List Part) → IsSoFar s c.loop-size.stream bytes found →
-    Shows c.args.json s c.view_next.new.stream (bytes ++ piece) found (string_bytes c.view_next.new.text) =
+    Shows c.args.form s c.view_next.new.stream (bytes ++ piece) found (string_bytes c.view_next.new.text) =
     λ bytes found so_far. c.in_ok-n.ensures.shown s bytes found so_far in
     let crowded : is_crowded c.view_next.new.stream.parts.view ≡ true = search rules in
-    crowds c.args.json s c.view_next.new.stream old new (between begin end) (c.loop-size.size + c.in_ok-n.n)
-    (front_more (Seen c.args.json s (between begin middle) c.loop-size.stream) (Seen c.args.json s (between begin end) c.view_next.new.stream) longest_piece old mid new
+    crowds c.args.form s c.view_next.new.stream old new (between begin end) (c.loop-size.size + c.in_ok-n.n)
+    (front_more (Seen c.args.form s (between begin middle) c.loop-size.stream) (Seen c.args.form s (between begin end) c.view_next.new.stream) longest_piece old mid new
     c.loop-size.size c.in_ok-n.n c.view_next.new.piece (c.loop-size.invariant.front s k) c.in_ok-n.ensures.read
-    (seen_then c.args.json s c.loop-size.stream c.view_next.new.stream begin middle end (string_bytes c.view_next.new.text) piece
+    (seen_then c.args.form s c.loop-size.stream c.view_next.new.stream begin middle end (string_bytes c.view_next.new.text) piece
     c.loop-size.invariant.calm most shows
     c.in-Ok.ensures.written.0 c.in-Ok.ensures.written.1)
     (part_whole c.view_next.new.piece c.args.piece.now room c.requires.size) (omega (arith, c.if-n-piece.false))) crowded
@@ -130,15 +130,15 @@ returns-then-n-piece-clause-err g c = λ s k.
     let most : length piece ≤ longest_piece =
     part_most c.view_next.new.piece c.args.piece.now c.in_ok-n.n room c.requires.size c.in_ok-n.ensures.read.fits in
     let shows : (bytes : List ℕ) (found : List Part) → IsSoFar s c.loop-size.stream bytes found →
-    Shows c.args.json s c.view_next.new.stream (bytes ++ piece) found (string_bytes c.view_next.new.text) =
+    Shows c.args.form s c.view_next.new.stream (bytes ++ piece) found (string_bytes c.view_next.new.text) =
     λ bytes found so_far. c.in_ok-n.ensures.shown s bytes found so_far in
-    let seen = seen_then c.args.json s c.loop-size.stream c.view_next.new.stream begin middle end (string_bytes c.view_next.new.text) piece
+    let seen = seen_then c.args.form s c.loop-size.stream c.view_next.new.stream begin middle end (string_bytes c.view_next.new.text) piece
     c.loop-size.invariant.calm most shows
     c.in-Ok.ensures.written.0 c.in-Ok.ensures.written.1 in
-    if_err (Seen c.args.json s (between begin end) c.view_next.new.stream) c.args.json s c.view_next.new.stream old mid new (between begin end)
+    if_err (Seen c.args.form s (between begin end) c.view_next.new.stream) c.args.form s c.view_next.new.stream old mid new (between begin end)
     c.loop-size.size c.in_ok-n.n c.view_next.new.piece c.loop-size.stream (between begin middle) c.size_within.result (c.loop-size.invariant.front s k)
     c.in_ok-n.ensures.read seen c.size_within.ensures.err
-    (front_end (Seen c.args.json s (between begin middle) c.loop-size.stream) (Seen c.args.json s (between begin end) c.view_next.new.stream) longest_piece old mid new
+    (front_end (Seen c.args.form s (between begin middle) c.loop-size.stream) (Seen c.args.form s (between begin end) c.view_next.new.stream) longest_piece old mid new
     c.loop-size.size c.in_ok-n.n c.view_next.new.piece c.size_within.result (c.loop-size.invariant.front s k) c.in_ok-n.ensures.read seen
     (omega (arith, c.if-n-piece.true)) c.size_within.ensures.ok c.size_within.ensures.err)
 
@@ -149,9 +149,9 @@ returns-in_err-n-clause-err g c = λ s k.
     let new : Port = record { bytes = g.R.Read.remaining c.view_next.new.input; failed = g.R.Source.fault_count c.view_next.new.input } in
     let begin : Port = record { bytes = g.W.Write.contents c.args.output.now; failed = g.W.Sink.fault_count c.args.output.now } in
     let middle : Port = record { bytes = g.W.Write.contents c.loop-size.output; failed = g.W.Sink.fault_count c.loop-size.output } in
-    let f : TakesFront (Seen c.args.json s (between begin middle) c.loop-size.stream) longest_piece old mid c.loop-size.size = c.loop-size.invariant.front s k in
-    let stopped : (halt : Halt) → StopsNext (between mid new) halt → Breaks c.args.json s (between old new) (between begin middle) halt =
-    λ halt stops. next_stopped c.args.json s c.loop-size.stream old mid new (between begin middle) c.loop-size.size halt f stops in
+    let f : TakesFront (Seen c.args.form s (between begin middle) c.loop-size.stream) longest_piece old mid c.loop-size.size = c.loop-size.invariant.front s k in
+    let stopped : (halt : Halt) → StopsNext (between mid new) halt → Breaks c.args.form s (between old new) (between begin middle) halt =
+    λ halt stops. next_stopped c.args.form s c.loop-size.stream old mid new (between begin middle) c.loop-size.size halt f stops in
     search rules
 
 pub returns-clause-err : goal.returns-clause-err
@@ -160,5 +160,5 @@ returns-clause-err g c = λ s k.
     let mid : Port = record { bytes = g.R.Read.remaining c.loop-size.input; failed = g.R.Source.fault_count c.loop-size.input } in
     let begin : Port = record { bytes = g.W.Write.contents c.args.output.now; failed = g.W.Sink.fault_count c.args.output.now } in
     let middle : Port = record { bytes = g.W.Write.contents c.loop-size.output; failed = g.W.Sink.fault_count c.loop-size.output } in
-    too_long c.args.json s c.loop-size.stream old mid (between begin middle) c.loop-size.size (c.loop-size.invariant.front s k)
+    too_long c.args.form s c.loop-size.stream old mid (between begin middle) c.loop-size.size (c.loop-size.invariant.front s k)
     (omega (arith, c.loop-size-test.false))

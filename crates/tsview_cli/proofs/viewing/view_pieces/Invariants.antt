@@ -13,7 +13,7 @@ invariant-loop-size g l = record {
   none : string_bytes l.text ≡ [];
   calm : is_crowded l.stream.parts.view ≡ false;
   front : (s : AnalysisState) → IsSoFar s l.fn.stream [] [] → TakesFront
-      (Seen l.json s (between (record { bytes = g.W.Write.contents l.fn.output; failed = g.W.Sink.fault_count l.fn.output })
+      (Seen l.form s (between (record { bytes = g.W.Write.contents l.fn.output; failed = g.W.Sink.fault_count l.fn.output })
       (record { bytes = g.W.Write.contents l.output; failed = g.W.Sink.fault_count l.output })) l.stream) longest_piece
       (record { bytes = g.R.Read.remaining l.fn.input; failed = g.R.Source.fault_count l.fn.input })
       (record { bytes = g.R.Read.remaining l.input; failed = g.R.Source.fault_count l.input }) l.size;

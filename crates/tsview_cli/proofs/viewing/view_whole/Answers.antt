@@ -13,7 +13,7 @@ returns-in-Err g c = λ o e same.
     (record { bytes = g.R.Read.remaining c.view_pieces.new.input; failed = g.R.Source.fault_count c.view_pieces.new.input }) in
     let output : Device = between (record { bytes = g.W.Write.contents c.args.output.now; failed = g.W.Sink.fault_count c.args.output.now })
     (record { bytes = g.W.Write.contents c.view_pieces.new.output; failed = g.W.Sink.fault_count c.view_pieces.new.output }) in
-    broken o c.args.json input output c.in-Err.halt (c.in-Err.ensures.err (start o) e)
+    broken o c.args.form input output c.in-Err.halt (c.in-Err.ensures.err (start o) e)
 
 pub returns-in-Err-end_view : goal.returns-in-Err-end_view
 returns-in-Err-end_view g c = λ o e same.
@@ -21,7 +21,7 @@ returns-in-Err-end_view g c = λ o e same.
     (record { bytes = g.R.Read.remaining c.view_pieces.new.input; failed = g.R.Source.fault_count c.view_pieces.new.input }) in
     let output : Device = between (record { bytes = g.W.Write.contents c.args.output.now; failed = g.W.Sink.fault_count c.args.output.now })
     (record { bytes = g.W.Write.contents c.view_pieces.new.output; failed = g.W.Sink.fault_count c.view_pieces.new.output }) in
-    no_end o c.args.json input output c.view_pieces.new.stream _ c.in-Err-end_view.halt c.in-Err-end_view.ensures.memory
+    no_end o c.args.form input output c.view_pieces.new.stream _ c.in-Err-end_view.halt c.in-Err-end_view.ensures.memory
     (c.in-Ok.ensures.ok (start o) e)
 
 pub returns-in-Err-write_text : goal.returns-in-Err-write_text
@@ -31,10 +31,10 @@ returns-in-Err-write_text g c = λ o e same.
     let begin : Port = record { bytes = g.W.Write.contents c.args.output.now; failed = g.W.Sink.fault_count c.args.output.now } in
     let mid : Port = record { bytes = g.W.Write.contents c.view_pieces.new.output; failed = g.W.Sink.fault_count c.view_pieces.new.output } in
     let end : Port = record { bytes = g.W.Write.contents c.write_text.new.to; failed = g.W.Sink.fault_count c.write_text.new.to } in
-    let ends : EndsWith c.args.rate c.args.json c.view_pieces.new.stream c.as_str.result.now c.in-Ok-end_view.good =
-    λ first bytes found so_far. subst (λ (t : List ℕ). EndShows c.args.rate c.args.json first bytes found t c.in-Ok-end_view.good) (sym c.as_str.ensures.value)
+    let ends : EndsWith c.args.rate c.args.form c.view_pieces.new.stream c.as_str.result.now c.in-Ok-end_view.good =
+    λ first bytes found so_far. subst (λ (t : List ℕ). EndShows c.args.rate c.args.form first bytes found t c.in-Ok-end_view.good) (sym c.as_str.ensures.value)
     (c.in-Ok-end_view.ensures.shown first bytes found so_far) in
-    not_ended (Unit {0}) o c.args.json input begin mid end c.view_pieces.new.stream _ c.as_str.result.now c.in-Err-write_text.halt c.args.rate
+    not_ended (Unit {0}) o c.args.form input begin mid end c.view_pieces.new.stream _ c.as_str.result.now c.in-Err-write_text.halt c.args.rate
     c.in-Ok-end_view.good same
     (c.in-Ok.ensures.ok (start o) e) ends c.in-Err-write_text.ensures
 
@@ -45,11 +45,11 @@ returns-in-Ok-write_text g c = λ o e same.
     let begin : Port = record { bytes = g.W.Write.contents c.args.output.now; failed = g.W.Sink.fault_count c.args.output.now } in
     let mid : Port = record { bytes = g.W.Write.contents c.view_pieces.new.output; failed = g.W.Sink.fault_count c.view_pieces.new.output } in
     let end : Port = record { bytes = g.W.Write.contents c.write_text.new.to; failed = g.W.Sink.fault_count c.write_text.new.to } in
-    let ends : EndsWith c.args.rate c.args.json c.view_pieces.new.stream c.as_str.result.now c.in-Ok-end_view.good =
-    λ first bytes found so_far. subst (λ (t : List ℕ). EndShows c.args.rate c.args.json first bytes found t c.in-Ok-end_view.good) (sym c.as_str.ensures.value)
+    let ends : EndsWith c.args.rate c.args.form c.view_pieces.new.stream c.as_str.result.now c.in-Ok-end_view.good =
+    λ first bytes found so_far. subst (λ (t : List ℕ). EndShows c.args.rate c.args.form first bytes found t c.in-Ok-end_view.good) (sym c.as_str.ensures.value)
     (c.in-Ok-end_view.ensures.shown first bytes found so_far) in
-    subst (λ (v : Viewed). Sees o c.args.json input (between begin end) (Ok v)) (sym c.as_viewed.ensures)
-    (viewed_so o c.args.json input begin mid end c.view_pieces.new.stream _ c.as_str.result.now c.args.rate c.is_crowded-crowded.result c.in-Ok-end_view.good
+    subst (λ (v : Viewed). Sees o c.args.form input (between begin end) (Ok v)) (sym c.as_viewed.ensures)
+    (viewed_so o c.args.form input begin mid end c.view_pieces.new.stream _ c.as_str.result.now c.args.rate c.is_crowded-crowded.result c.in-Ok-end_view.good
     same c.is_crowded-crowded.ensures
     (c.in-Ok.ensures.ok (start o) e) ends
     c.in-Ok-write_text.ensures.0 c.in-Ok-write_text.ensures.1)

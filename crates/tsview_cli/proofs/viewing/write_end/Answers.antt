@@ -13,6 +13,6 @@ returns c = λ first bytes found so_far.
     record {
       more = e.more;
       parts_are = e.parts_are;
-      text_is = c.in_ok-write_events.ensures ∙ ap (λ (t : List ℕ). t ++ lines_of c.args.json c.deref.result.now) c.requires.out ∙ ap (lines_of c.args.json) is;
+      text_is = c.in_ok-write_events.ensures ∙ ap (λ (t : List ℕ). t ++ lines_of c.args.form c.deref.result.now) c.requires.out ∙ ap (lines_of c.args.form) is;
       good_is = e.good_is;
     }
