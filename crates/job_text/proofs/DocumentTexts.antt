@@ -8,7 +8,6 @@ use Rattle.std.specs.Ordering.{nat_cmp, is_lt}
 use Rattle.std.specs.Cmp.Lexicographic.{slice_cmp}
 use Rattle.unit_timing.specs.declared.allowance.Allowance.{Allowance}
 use Rattle.unit_timing.specs.declared.allowance.Allowance.TheVariants.{Groups, Pace}
-use Rattle.unit_timing.specs.declared.framing.Framing.{Framing}
 use Rattle.unit_timing.specs.declared.multiplexing_buffer.MultiplexingBuffer.{MultiplexingBuffer}
 use Rattle.hex.specs.Hex.{encode_lower}
 use Rattle.toml_writer.specs.Text.{key_text}
@@ -16,15 +15,15 @@ use Rattle.toml.specs.Data.{string, integer, boolean, Members, no_members, membe
 use Rattle.toml.specs.Text.{expressions, pairs, sections, elements}
 use Rattle.toml.specs.Tables.{Expression, array_table}
 use Rattle.toml.proofs.Lines.{after}
-use Rattle.job_text.specs.DescriptionParts.{EventPartView, HeadingView, NetworkPartView, ProgramPartView, StreamPartView, TablePartView}
+use Rattle.job_text.specs.DescriptionParts.{EventPartView, FramingPartView, HeadingView, NetworkPartView, ProgramPartView, StreamPartView, TablePartView}
 use Rattle.job_text.specs.KeyLines.{with_numbers, with_hex, with_list, header, hex_line, list_line, key_line, number_lines}
 use Rattle.job_text.specs.Notes.{type_note}
-use Rattle.job_text.specs.Fields.{program_numbers, burst_numbers, frame_numbers, group_numbers, time_numbers, size_numbers, pace_numbers, place_numbers}
+use Rattle.job_text.specs.Fields.{program_numbers, burst_numbers, rest_numbers, group_numbers, time_numbers, size_numbers, pace_numbers, place_numbers}
 use Rattle.job_text.specs.Fields.{leak_numbers, limit_numbers, drain_numbers, last_numbers}
 use Rattle.job_text.specs.Documents.{document, elements_of, with_table, with_tables, event_table, network_table, program_table, stream_last, stream_drain}
 use Rattle.job_text.specs.Documents.{stream_place, stream_middle, stream_rest, stream_members, stream_table, table_table}
-use Rattle.job_text.specs.Texts.{event_text, heading_text, network_text, network_if_any, program_text, stream_end, stream_text, table_text}
-use Rattle.job_text.specs.Laws.{Fits, FitsEvent, FitsHeading, FitsNetwork, FitsProgram, FitsAllowance, FitsMultiplexing, FitsFraming, FitsStream, FitsTable}
+use Rattle.job_text.specs.Texts.{event_text, framing_if_any, heading_text, network_text, network_if_any, program_text, stream_end, stream_text, table_text}
+use Rattle.job_text.specs.Laws.{Fits, FitsEvent, FitsHeading, FitsNetwork, FitsProgram, FitsAllowance, FitsMultiplexing, FitsFrames, FitsFraming, FitsStream, FitsTable}
 use Rattle.job_text.specs.Laws.{TextsAreRead}
 use Rattle.job_text.proofs.Comments.{AreCommented, commented_both, document_read}
 use Rattle.job_text.proofs.FlatArrays.{list_none, list_some, numbers_are, numbers_sorted, digits_are, digits_sorted}
@@ -80,20 +79,19 @@ hex_lines [] more = ap scalar_lines (hex_none more) ∙ ap (λ (l : List ℕ). l
 hex_lines (b ∷ bytes) more = ap scalar_lines (hex_some b bytes more) ∙ ap (λ (l : List ℕ). l ++ scalar_lines more) (sym (line_some b bytes))
 
 -- Numbers before other keys are scalars.
-list_scalars : (ns : List ℕ) (more : Members) → All Fits ns → AreScalars more → AreScalars (with_list (codes "shared_with") ns more)
-unfolding key_text
-list_scalars [] more f h = h
-list_scalars (n ∷ ns) more f h = (refl, numbers_are (n ∷ ns) f, h)
+list_scalars : (key ns : List ℕ) (more : Members) → key_text key ≡ key → All Fits ns → AreScalars more → AreScalars (with_list key ns more)
+list_scalars key [] more plain f h = h
+list_scalars key (n ∷ ns) more plain f h = (plain, numbers_are (n ∷ ns) f, h)
 
-list_sorted : (ns : List ℕ) (more : Members) → is_before (codes "shared_with") more ≡ true → members_are_sorted more ≡ true
-    → members_are_sorted (with_list (codes "shared_with") ns more) ≡ true
-list_sorted [] more first sorted = sorted
-list_sorted (n ∷ ns) more first sorted = rw (first, numbers_sorted ns, sorted)
+list_sorted : (key ns : List ℕ) (more : Members) → is_before key more ≡ true → members_are_sorted more ≡ true
+    → members_are_sorted (with_list key ns more) ≡ true
+list_sorted key [] more first sorted = sorted
+list_sorted key (n ∷ ns) more first sorted = rw (first, numbers_sorted ns, sorted)
 
-list_after : (key : List ℕ) (ns : List ℕ) (more : Members) → is_lt (slice_cmp nat_cmp key (codes "shared_with")) ≡ true → is_before key more ≡ true
-    → is_before key (with_list (codes "shared_with") ns more) ≡ true
-list_after key [] more first last = last
-list_after key (n ∷ ns) more first last = first
+list_after : (key at ns : List ℕ) (more : Members) → is_lt (slice_cmp nat_cmp key at) ≡ true → is_before key more ≡ true
+    → is_before key (with_list at ns more) ≡ true
+list_after key at [] more first last = last
+list_after key at (n ∷ ns) more first last = first
 
 -- The table of an event
 event_scalars : (e : EventPartView) → FitsEvent e → AreScalars (event_table e)
@@ -165,7 +163,7 @@ program_lines p = rw (hex_lines p.descriptors (program_rest p)) (simp (append_as
 -- The table of a stream
 end_scalars : (s : StreamPartView) → FitsStream s → AreScalars (with_list (codes "shared_with") s.shared_with (stream_last s))
 unfolding key_text
-end_scalars s h = list_scalars s.shared_with (stream_last s) h.shared_with (refl, small s.size h.size, (refl, small s.stream_type h.stream_type, tt))
+end_scalars s h = list_scalars (codes "shared_with") s.shared_with (stream_last s) refl h.shared_with (refl, small s.size h.size, (refl, small s.stream_type h.stream_type, tt))
 
 limit_scalars : (m : Option MultiplexingBuffer) (s : StreamPartView) → FitsMultiplexing m → FitsStream s → AreScalars (stream_drain m s)
 unfolding key_text
@@ -215,14 +213,24 @@ middle_scalars (Pace burst pace) m l s f g k h =
     let rest = size_scalars (Pace burst pace) m l s f g k h in
     (refl, small s.stream_id h.stream_id, (refl, small s.interval h.interval, (refl, small s.lead h.lead, (refl, small s.main h.main, rest))))
 
-rest_scalars : (a : Allowance) (m : Option MultiplexingBuffer) (p : Option Framing) (l : Option ℕ) (s : StreamPartView) → FitsAllowance a → FitsMultiplexing m
+-- The keys of a stream from those on that follow the sums of its access units
+abbrev after_sums : Allowance → Option MultiplexingBuffer → FramingPartView → Option ℕ → StreamPartView → Members
+after_sums a m p l s = with_numbers (rest_numbers p) (stream_middle a m l s)
+
+sums_scalars : (a : Allowance) (m : Option MultiplexingBuffer) (p : FramingPartView) (l : Option ℕ) (s : StreamPartView) → FitsAllowance a →
+    FitsMultiplexing m → FitsFrames p → IfSome l Fits → FitsStream s → AreScalars (with_list (codes "frame_left") p.left (after_sums a m p l s))
+unfolding key_text
+sums_scalars a m p l s f g e k h =
+    list_scalars (codes "frame_left") p.left (after_sums a m p l s) refl e.left
+    (refl, small p.rest e.rest, (refl, small p.frames e.frames, middle_scalars a m l s f g k h))
+
+rest_scalars : (a : Allowance) (m : Option MultiplexingBuffer) (p : Option FramingPartView) (l : Option ℕ) (s : StreamPartView) → FitsAllowance a → FitsMultiplexing m
     → FitsFraming p → IfSome l Fits → FitsStream s → AreScalars (stream_rest a m p l s)
 unfolding key_text
 rest_scalars a m None l s f g e k h = middle_scalars a m l s f g k h
-rest_scalars a m (Some p) l s f g e k h =
-    (refl, small p.frame e.frame, (refl, small p.frame_size e.frame_size, (refl, small p.frames e.frames, middle_scalars a m l s f g k h)))
+rest_scalars a m (Some p) l s f g e k h = (refl, small p.frame e.frame, sums_scalars a m p l s f g e k h)
 
-scalars_with : (a : Allowance) (m : Option MultiplexingBuffer) (p : Option Framing) (l : Option ℕ) (s : StreamPartView) → FitsAllowance a → FitsMultiplexing m
+scalars_with : (a : Allowance) (m : Option MultiplexingBuffer) (p : Option FramingPartView) (l : Option ℕ) (s : StreamPartView) → FitsAllowance a → FitsMultiplexing m
     → FitsFraming p → IfSome l Fits → FitsStream s → AreScalars (stream_members a m p l s)
 unfolding key_text
 scalars_with (Groups units packets) m p l s f g e k h =
@@ -232,8 +240,14 @@ scalars_with (Pace burst pace) m p l s f g e k h =
 
 -- The keys of a stream are sorted from its leak on, whatever keys precede it.
 drain_sorted : (m : Option MultiplexingBuffer) (s : StreamPartView) → members_are_sorted (stream_drain m s) ≡ true
-drain_sorted None s = rw (list_after (codes "rx") s.shared_with (stream_last s) refl refl, list_sorted s.shared_with (stream_last s) refl refl)
-drain_sorted (Some m) s = rw (list_after (codes "rx") s.shared_with (stream_last s) refl refl, list_sorted s.shared_with (stream_last s) refl refl)
+drain_sorted None s = rw (
+  list_after (codes "rx") (codes "shared_with") s.shared_with (stream_last s) refl refl,
+  list_sorted (codes "shared_with") s.shared_with (stream_last s) refl refl,
+)
+drain_sorted (Some m) s = rw (
+  list_after (codes "rx") (codes "shared_with") s.shared_with (stream_last s) refl refl,
+  list_sorted (codes "shared_with") s.shared_with (stream_last s) refl refl,
+)
 
 place_sorted : (m : Option MultiplexingBuffer) (l : Option ℕ) (s : StreamPartView) → members_are_sorted (stream_place m l s) ≡ true
 place_sorted None None s = drain_sorted None s
@@ -247,25 +261,31 @@ middle_sorted (Groups units packets) (Some m) l s = place_sorted (Some m) l s
 middle_sorted (Pace burst pace) None l s = place_sorted None l s
 middle_sorted (Pace burst pace) (Some m) l s = place_sorted (Some m) l s
 
-rest_sorted : (a : Allowance) (m : Option MultiplexingBuffer) (p : Option Framing) (l : Option ℕ) (s : StreamPartView) →
+sums_sorted : (a : Allowance) (m : Option MultiplexingBuffer) (p : FramingPartView) (l : Option ℕ) (s : StreamPartView) →
+    members_are_sorted (with_list (codes "frame_left") p.left (after_sums a m p l s)) ≡ true
+sums_sorted (Groups units packets) m p l s =
+    list_sorted (codes "frame_left") p.left (after_sums (Groups units packets) m p l s) refl (middle_sorted (Groups units packets) m l s)
+sums_sorted (Pace burst pace) m p l s =
+    list_sorted (codes "frame_left") p.left (after_sums (Pace burst pace) m p l s) refl (middle_sorted (Pace burst pace) m l s)
+
+rest_sorted : (a : Allowance) (m : Option MultiplexingBuffer) (p : Option FramingPartView) (l : Option ℕ) (s : StreamPartView) →
     members_are_sorted (stream_rest a m p l s) ≡ true
 rest_sorted a m None l s = middle_sorted a m l s
-rest_sorted (Groups units packets) m (Some p) l s = middle_sorted (Groups units packets) m l s
-rest_sorted (Pace burst pace) m (Some p) l s = middle_sorted (Pace burst pace) m l s
+rest_sorted a m (Some p) l s = rw (list_after (codes "frame") (codes "frame_left") p.left (after_sums a m p l s) refl refl, sums_sorted a m p l s)
 
-after_descriptors : (a : Allowance) (m : Option MultiplexingBuffer) (p : Option Framing) (l : Option ℕ) (s : StreamPartView) →
+after_descriptors : (a : Allowance) (m : Option MultiplexingBuffer) (p : Option FramingPartView) (l : Option ℕ) (s : StreamPartView) →
     is_before (codes "descriptors") (stream_rest a m p l s) ≡ true
 after_descriptors a m (Some p) l s = refl
 after_descriptors (Groups units packets) m None l s = refl
 after_descriptors (Pace burst pace) m None l s = refl
 
-after_burst : (a : Allowance) (m : Option MultiplexingBuffer) (p : Option Framing) (l : Option ℕ) (s : StreamPartView) →
+after_burst : (a : Allowance) (m : Option MultiplexingBuffer) (p : Option FramingPartView) (l : Option ℕ) (s : StreamPartView) →
     is_before (codes "burst_packets") (stream_rest a m p l s) ≡ true
 after_burst a m (Some p) l s = refl
 after_burst (Groups units packets) m None l s = refl
 after_burst (Pace burst pace) m None l s = refl
 
-sorted_with : (a : Allowance) (m : Option MultiplexingBuffer) (p : Option Framing) (l : Option ℕ) (s : StreamPartView) →
+sorted_with : (a : Allowance) (m : Option MultiplexingBuffer) (p : Option FramingPartView) (l : Option ℕ) (s : StreamPartView) →
     members_are_sorted (stream_members a m p l s) ≡ true
 sorted_with (Groups units packets) m p l s =
     hex_sorted s.descriptors (stream_rest (Groups units packets) m p l s) (after_descriptors (Groups units packets) m p l s)
@@ -285,16 +305,15 @@ own_hex : (s : StreamPartView) (bytes : List ℕ) (more : Members) → own_lines
 own_hex s [] more = ap (own_lines s) (hex_none more) ∙ ap (λ (l : List ℕ). l ++ own_lines s more) (sym line_none)
 own_hex s (b ∷ bytes) more = ap (own_lines s) (hex_some b bytes more) ∙ ap (λ (l : List ℕ). l ++ own_lines s more) (sym (line_some b bytes))
 
-own_list : (s : StreamPartView) (ns : List ℕ) (more : Members) → own_lines s (with_list (codes "shared_with") ns more)
-    ≡ list_line (codes "shared_with") ns ++ own_lines s more
-own_list s [] more = ap (λ (l : List ℕ). l ++ own_lines s more) (sym (list_none (codes "shared_with")))
-own_list s (n ∷ ns) more = ap (λ (l : List ℕ). l ++ own_lines s more) (sym (list_some (codes "shared_with") n ns))
+own_list : (s : StreamPartView) (key ns : List ℕ) (more : Members) → own_lines s (with_list key ns more) ≡ list_line key ns ++ own_lines s more
+own_list s key [] more = ap (λ (l : List ℕ). l ++ own_lines s more) (sym (list_none key))
+own_list s key (n ∷ ns) more = ap (λ (l : List ℕ). l ++ own_lines s more) (sym (list_some key n ns))
 
 -- The lines of a stream: from its leak on, after its access units, and all lines
 drain_lines : (m : Option MultiplexingBuffer) (s : StreamPartView) → own_lines s (stream_drain m s)
     ≡ number_lines (leak_numbers m) ++ (number_lines (drain_numbers s) ++ stream_end s)
-drain_lines None s = rw (own_list s s.shared_with (stream_last s)) (simp (append_assoc, append-nil))
-drain_lines (Some m) s = rw (own_list s s.shared_with (stream_last s)) (simp (append_assoc, append-nil))
+drain_lines None s = rw (own_list s (codes "shared_with") s.shared_with (stream_last s)) (simp (append_assoc, append-nil))
+drain_lines (Some m) s = rw (own_list s (codes "shared_with") s.shared_with (stream_last s)) (simp (append_assoc, append-nil))
 
 limit_lines : (m : Option MultiplexingBuffer) (l : Option ℕ) (s : StreamPartView) → own_lines s (with_numbers (limit_numbers l) (stream_drain m s))
     ≡ number_lines (limit_numbers l) ++ own_lines s (stream_drain m s)
@@ -309,14 +328,14 @@ middle_lines (Groups units packets) (Some m) l s = rw (limit_lines (Some m) l s)
 middle_lines (Pace burst pace) None l s = rw (limit_lines None l s) (simp (append_assoc, append-nil))
 middle_lines (Pace burst pace) (Some m) l s = rw (limit_lines (Some m) l s) (simp (append_assoc, append-nil))
 
-rest_lines : (a : Allowance) (m : Option MultiplexingBuffer) (p : Option Framing) (l : Option ℕ) (s : StreamPartView)
-    → own_lines s (stream_rest a m p l s) ≡ number_lines (frame_numbers p) ++ own_lines s (stream_middle a m l s)
+rest_lines : (a : Allowance) (m : Option MultiplexingBuffer) (p : Option FramingPartView) (l : Option ℕ) (s : StreamPartView)
+    → own_lines s (stream_rest a m p l s) ≡ framing_if_any p ++ own_lines s (stream_middle a m l s)
 rest_lines a m None l s = refl
-rest_lines a m (Some p) l s = simp (append_assoc, append-nil)
+rest_lines a m (Some p) l s = rw (own_list s (codes "frame_left") p.left (after_sums a m p l s)) (simp (append_assoc, append-nil))
 
-lines_with : (a : Allowance) (m : Option MultiplexingBuffer) (p : Option Framing) (l : Option ℕ) (s : StreamPartView) → own_lines s (stream_members a m p l s)
+lines_with : (a : Allowance) (m : Option MultiplexingBuffer) (p : Option FramingPartView) (l : Option ℕ) (s : StreamPartView) → own_lines s (stream_members a m p l s)
     ≡ number_lines (burst_numbers a) ++ (hex_line (codes "descriptors") s.descriptors
-    ++ (number_lines (frame_numbers p) ++ own_lines s (stream_middle a m l s)))
+    ++ (framing_if_any p ++ own_lines s (stream_middle a m l s)))
 lines_with (Groups units packets) m p l s =
     rw (own_hex s s.descriptors (stream_rest (Groups units packets) m p l s), rest_lines (Groups units packets) m p l s) refl
 lines_with (Pace burst pace) m p l s =

@@ -1,10 +1,10 @@
 -- The parts of a service description: numbers, and texts and descriptors as lists.
-use Rattle.std.specs.Prelude.{ℕ, Bool, List, Option, map}
+use Rattle.std.specs.Prelude.{ℕ, Bool, List, Option, option_map, map}
 use Rattle.unit_timing.specs.declared.allowance.Allowance.{Allowance}
-use Rattle.unit_timing.specs.declared.framing.Framing.{Framing}
 use Rattle.unit_timing.specs.declared.multiplexing_buffer.MultiplexingBuffer.{MultiplexingBuffer}
 use Rattle.stream_coding.specs.declared.profiles.ProfileLevel.{ProfileLevel}
 use Rattle.job_text.specs.declared.event_part.EventPart.{EventPart}
+use Rattle.job_text.specs.declared.framing_part.FramingPart.{FramingPart}
 use Rattle.job_text.specs.declared.heading.Heading.{Heading}
 use Rattle.job_text.specs.declared.network_part.NetworkPart.{NetworkPart}
 use Rattle.job_text.specs.declared.program_part.ProgramPart.{ProgramPart}
@@ -44,6 +44,12 @@ pub record ProgramPartView : Type 0 where
   pub provider : List ℕ
   pub name : List ℕ
 
+pub record FramingPartView : Type 0 where
+  pub frames : ℕ
+  pub frame : ℕ
+  pub rest : ℕ
+  pub left : List ℕ
+
 pub record StreamPartView : Type 0 where
   pub program : ℕ
   pub pid : ℕ
@@ -59,7 +65,7 @@ pub record StreamPartView : Type 0 where
   pub allowance : Allowance
   pub shared_with : List ℕ
   pub multiplexing : Option MultiplexingBuffer
-  pub framing : Option Framing
+  pub framing : Option FramingPartView
   pub said : ProfileLevel
 
 pub record TablePartView : Type 0 where
@@ -108,6 +114,9 @@ program_view p = record {
   name = p.name.now;
 }
 
+abbrev pub framing_view : FramingPart → FramingPartView
+framing_view f = record { frames = f.frames; frame = f.frame; rest = f.rest; left = f.left.now }
+
 abbrev pub stream_view : StreamPart → StreamPartView
 stream_view s = record {
   program = s.program;
@@ -124,7 +133,7 @@ stream_view s = record {
   allowance = s.allowance;
   shared_with = s.shared_with.now;
   multiplexing = s.multiplexing;
-  framing = s.framing;
+  framing = option_map framing_view s.framing;
   said = s.said;
 }
 

@@ -3,12 +3,11 @@ use Rattle.std.specs.Prelude.{ℕ, pos, List, [], ◌∷◌, codes, Option, Some
 use Rattle.hex.specs.Hex.{encode_lower}
 use Rattle.toml.specs.Data.{string, integer, boolean, array, table, Items, no_items, item, Members, no_members, member}
 use Rattle.unit_timing.specs.declared.allowance.Allowance.{Allowance}
-use Rattle.unit_timing.specs.declared.framing.Framing.{Framing}
 use Rattle.unit_timing.specs.declared.multiplexing_buffer.MultiplexingBuffer.{MultiplexingBuffer}
-use Rattle.job_text.specs.DescriptionParts.{EventPartView, HeadingView, NetworkPartView, ProgramPartView, StreamPartView, TablePartView}
+use Rattle.job_text.specs.DescriptionParts.{EventPartView, FramingPartView, HeadingView, NetworkPartView, ProgramPartView, StreamPartView, TablePartView}
 use Rattle.job_text.specs.KeyLines.{with_numbers, with_hex, with_list, digits_of}
-use Rattle.job_text.specs.Fields.{program_numbers, burst_numbers, frame_numbers, group_numbers, time_numbers, size_numbers, pace_numbers, place_numbers}
-use Rattle.job_text.specs.Fields.{leak_numbers, limit_numbers, drain_numbers, last_numbers, table_numbers}
+use Rattle.job_text.specs.Fields.{program_numbers, burst_numbers, frame_numbers, rest_numbers, group_numbers, time_numbers, size_numbers, pace_numbers}
+use Rattle.job_text.specs.Fields.{place_numbers, leak_numbers, limit_numbers, drain_numbers, last_numbers, table_numbers}
 
 -- tables as the elements of an array
 abbrev pub elements_of : List Members → Items
@@ -64,10 +63,15 @@ stream_middle a m l s =
     (with_numbers (time_numbers s)
     (with_numbers (size_numbers m) (with_numbers (pace_numbers a) (stream_place m l s))))
 
-abbrev pub stream_rest : Allowance → Option MultiplexingBuffer → Option Framing → Option ℕ → StreamPartView → Members
-stream_rest a m f l s = with_numbers (frame_numbers f) (stream_middle a m l s)
+-- the keys of access units before other keys, if it has several in a unit
+abbrev pub with_framing : Option FramingPartView → Members → Members
+with_framing None more = more
+with_framing (Some f) more = with_numbers (frame_numbers f) (with_list (codes "frame_left") f.left (with_numbers (rest_numbers f) more))
 
-abbrev pub stream_members : Allowance → Option MultiplexingBuffer → Option Framing → Option ℕ → StreamPartView → Members
+abbrev pub stream_rest : Allowance → Option MultiplexingBuffer → Option FramingPartView → Option ℕ → StreamPartView → Members
+stream_rest a m f l s = with_framing f (stream_middle a m l s)
+
+abbrev pub stream_members : Allowance → Option MultiplexingBuffer → Option FramingPartView → Option ℕ → StreamPartView → Members
 stream_members a m f l s = with_numbers (burst_numbers a) (with_hex (codes "descriptors") s.descriptors (stream_rest a m f l s))
 
 abbrev pub stream_table : StreamPartView → Members

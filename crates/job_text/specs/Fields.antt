@@ -2,9 +2,8 @@
 use Rattle.std.specs.Prelude.{ℕ, List, [], ◌∷◌, Option, None, Some, codes}
 use Rattle.unit_timing.specs.declared.allowance.Allowance.{Allowance}
 use Rattle.unit_timing.specs.declared.allowance.Allowance.TheVariants.{Groups, Pace}
-use Rattle.unit_timing.specs.declared.framing.Framing.{Framing}
 use Rattle.unit_timing.specs.declared.multiplexing_buffer.MultiplexingBuffer.{MultiplexingBuffer}
-use Rattle.job_text.specs.DescriptionParts.{HeadingView, ProgramPartView, StreamPartView, TablePartView}
+use Rattle.job_text.specs.DescriptionParts.{FramingPartView, HeadingView, ProgramPartView, StreamPartView, TablePartView}
 
 -- the numbers of a heading, up to the array `program`
 abbrev pub first_numbers : HeadingView → List (List ℕ × ℕ)
@@ -23,10 +22,12 @@ abbrev pub burst_numbers : Allowance → List (List ℕ × ℕ)
 burst_numbers (Groups units packets) = []
 burst_numbers (Pace burst pace) = (codes "burst_packets", burst) ∷ []
 
--- the numbers after its descriptors: its access units
-abbrev pub frame_numbers : Option Framing → List (List ℕ × ℕ)
-frame_numbers None = []
-frame_numbers (Some f) = (codes "frame", f.frame) ∷ (codes "frame_size", f.frame_size) ∷ (codes "frames", f.frames) ∷ []
+-- the numbers of access units, before and after the sums of their bytes
+abbrev pub frame_numbers : FramingPartView → List (List ℕ × ℕ)
+frame_numbers f = (codes "frame", f.frame) ∷ []
+
+abbrev pub rest_numbers : FramingPartView → List (List ℕ × ℕ)
+rest_numbers f = (codes "frame_rest", f.rest) ∷ (codes "frames", f.frames) ∷ []
 
 -- the numbers of groups
 abbrev pub group_numbers : Allowance → List (List ℕ × ℕ)

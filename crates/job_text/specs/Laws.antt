@@ -5,9 +5,8 @@ use Rattle.toml.specs.Data.{Data}
 use Rattle.toml.specs.Parse.{parse_document}
 use Rattle.unit_timing.specs.declared.allowance.Allowance.{Allowance}
 use Rattle.unit_timing.specs.declared.allowance.Allowance.TheVariants.{Groups, Pace}
-use Rattle.unit_timing.specs.declared.framing.Framing.{Framing}
 use Rattle.unit_timing.specs.declared.multiplexing_buffer.MultiplexingBuffer.{MultiplexingBuffer}
-use Rattle.job_text.specs.DescriptionParts.{EventPartView, HeadingView, NetworkPartView, ProgramPartView, StreamPartView, TablePartView}
+use Rattle.job_text.specs.DescriptionParts.{EventPartView, FramingPartView, HeadingView, NetworkPartView, ProgramPartView, StreamPartView, TablePartView}
 use Rattle.job_text.specs.Notes.{is_shown, note_of, type_note}
 use Rattle.stream_coding.specs.declared.profiles.ProfileLevel.{ProfileLevel}
 use Rattle.job_text.specs.Documents.{document, event_table, network_table, program_table, stream_table, table_table}
@@ -52,12 +51,13 @@ abbrev pub FitsMultiplexing : Option MultiplexingBuffer → Type 0
 FitsMultiplexing m = IfSome m (λ m. Fits m.rbx × Fits m.size)
 
 -- the numbers of its access units are TOML's
-pub record FitsFrames (f : Framing) : Type 0 where
+pub record FitsFrames (f : FramingPartView) : Type 0 where
   pub frames : Fits f.frames
   pub frame : Fits f.frame
-  pub frame_size : Fits f.frame_size
+  pub rest : Fits f.rest
+  pub left : All Fits f.left
 
-abbrev pub FitsFraming : Option Framing → Type 0
+abbrev pub FitsFraming : Option FramingPartView → Type 0
 FitsFraming f = IfSome f FitsFrames
 
 pub record FitsStream (s : StreamPartView) : Type 0 where

@@ -13,13 +13,13 @@ abbrev pub is_among : List (List ℕ) → List ℕ → Bool
 is_among names key = list_any (λ name. bytes_eq name key) names
 
 abbrev pub tick_keys : List (List ℕ)
-tick_keys = codes "frame" ∷ codes "interval" ∷ codes "lead" ∷ codes "pts_limit" ∷ []
+tick_keys = codes "frame" ∷ codes "frame_rest" ∷ codes "interval" ∷ codes "lead" ∷ codes "pts_limit" ∷ []
 
 abbrev pub bit_rate_keys : List (List ℕ)
 bit_rate_keys = codes "pace" ∷ codes "rate" ∷ codes "rbx" ∷ codes "rx" ∷ []
 
 abbrev pub byte_keys : List (List ℕ)
-byte_keys = codes "frame_size" ∷ codes "main" ∷ codes "mb" ∷ codes "size" ∷ []
+byte_keys = codes "main" ∷ codes "mb" ∷ codes "size" ∷ []
 
 abbrev pub millisecond_keys : List (List ℕ)
 millisecond_keys = codes "limit" ∷ codes "pcr_limit" ∷ []

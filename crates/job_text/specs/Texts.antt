@@ -2,11 +2,11 @@
 use Rattle.std.specs.Prelude.{ℕ, List, [], ◌∷◌, ◌++◌, codes, Option, Some, None}
 use Rattle.hex.specs.Hex.{encode_lower}
 use Rattle.toml.specs.Data.{string, boolean, array}
-use Rattle.job_text.specs.DescriptionParts.{EventPartView, HeadingView, NetworkPartView, ProgramPartView, StreamPartView, TablePartView}
+use Rattle.job_text.specs.DescriptionParts.{EventPartView, FramingPartView, HeadingView, NetworkPartView, ProgramPartView, StreamPartView, TablePartView}
 use Rattle.job_text.specs.KeyLines.{key_line, noted_line, number_line, number_lines, hex_line, list_line, digits_of, table_header, header}
 use Rattle.job_text.specs.Notes.{type_note}
-use Rattle.job_text.specs.Fields.{first_numbers, program_numbers, burst_numbers, frame_numbers, group_numbers, time_numbers, size_numbers, pace_numbers}
-use Rattle.job_text.specs.Fields.{place_numbers, leak_numbers, limit_numbers, drain_numbers, last_numbers, table_numbers}
+use Rattle.job_text.specs.Fields.{first_numbers, program_numbers, burst_numbers, frame_numbers, rest_numbers, group_numbers, time_numbers, size_numbers}
+use Rattle.job_text.specs.Fields.{pace_numbers, place_numbers, leak_numbers, limit_numbers, drain_numbers, last_numbers, table_numbers}
 
 -- the keys of the document itself
 abbrev pub heading_text : HeadingView → List ℕ
@@ -53,12 +53,20 @@ program_service p = key_line (codes "provider") (string p.provider) ++ number_li
 abbrev pub program_text : ProgramPartView → List ℕ
 program_text p = program_front p ++ (number_lines (program_numbers p) ++ program_service p)
 
+-- the lines of access units, if a stream has several in a unit
+abbrev pub framing_text : FramingPartView → List ℕ
+framing_text f = number_lines (frame_numbers f) ++ (list_line (codes "frame_left") f.left ++ number_lines (rest_numbers f))
+
+abbrev pub framing_if_any : Option FramingPartView → List ℕ
+framing_if_any None = []
+framing_if_any (Some f) = framing_text f
+
 -- for a stream: the lines up to its group, or its access units, then up to its pace, then up to its rate, and the last lines
 abbrev pub stream_front : StreamPartView → List ℕ
 stream_front s =
     header (codes "stream")
     ++ (number_lines (burst_numbers s.allowance)
-    ++ (hex_line (codes "descriptors") s.descriptors ++ (number_lines (frame_numbers s.framing) ++ number_lines (group_numbers s.allowance))))
+    ++ (hex_line (codes "descriptors") s.descriptors ++ (framing_if_any s.framing ++ number_lines (group_numbers s.allowance))))
 
 abbrev pub stream_times : StreamPartView → List ℕ
 stream_times s = number_lines (time_numbers s) ++ (number_lines (size_numbers s.multiplexing) ++ number_lines (pace_numbers s.allowance))

@@ -162,6 +162,45 @@ pub(crate) fn write_list<A: Allocator>(
     }
 }
 
+// Appends the sums of an array after its first.
+fn write_next_sums<A: Allocator>(text: &mut String<A>, sums: &[u32]) -> Result<(), AllocError>
+    ensures { OnOk result (string_bytes text.new ≡ string_bytes text.old ++ flat_map next_number sums.now) }
+{
+    for sum in sums {
+        write!(text, ", {sum}")?;
+    }
+    Ok(())
+}
+
+// Appends a key with the array of a sum and the sums after it.
+fn write_sums_array<A: Allocator>(
+    text: &mut String<A>,
+    key: &str,
+    first: u32,
+    others: &[u32],
+) -> Result<(), AllocError>
+    ensures { OnOk result (string_bytes text.new ≡ string_bytes text.old ++ array_line key.now first others.now) }
+{
+    write!(text, "{key} = [{first}")?;
+    write_next_sums(text, others)?;
+    write!(text, "]\n")
+}
+
+/// Appends sums of bytes as an array, and no line if there are none.
+#[tactic(auto, using(crate::proofs::FlatArrays::list_written), unfolding(crate::specs::KeyLines::list_line))]
+pub(crate) fn write_sums<A: Allocator>(
+    text: &mut String<A>,
+    key: &str,
+    sums: &[u32],
+) -> Result<(), AllocError>
+    ensures { OnOk result (string_bytes text.new ≡ string_bytes text.old ++ list_line key.now sums.now) }
+{
+    match sums.split_first() {
+        None => Ok(()),
+        Some((first, others)) => write_sums_array(text, key, *first, others),
+    }
+}
+
 /// Appends bytes as pairs of lower-case hexadecimal digits, also if there are none.
 pub(crate) fn write_digits(
     alloc: Global,

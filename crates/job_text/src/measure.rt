@@ -39,11 +39,14 @@ fn is_among(key: &str, names: &[&str]) -> bool
 pub(crate) fn measure_of(key: &str) -> Measure
     ensures { result ≡ measure_of key.now }
 {
-    if is_among(key, &["frame", "interval", "lead", "pts_limit"]) {
+    if is_among(
+        key,
+        &["frame", "frame_rest", "interval", "lead", "pts_limit"],
+    ) {
         Measure::Ticks
     } else if is_among(key, &["pace", "rate", "rbx", "rx"]) {
         Measure::BitRate
-    } else if is_among(key, &["frame_size", "main", "mb", "size"]) {
+    } else if is_among(key, &["main", "mb", "size"]) {
         Measure::Bytes
     } else if is_among(key, &["limit", "pcr_limit"]) {
         Measure::Milliseconds

@@ -1,19 +1,19 @@
 //! An elementary stream of a service description.
 
-ghost use Rattle.std.specs.Prelude.{◌≡◌, ◌++◌, OnOk, codes, string_bytes};
-ghost use Rattle.job_text.specs.DescriptionParts.{stream_view};
-ghost use Rattle.job_text.specs.Fields.{burst_numbers, frame_numbers, group_numbers};
+ghost use Rattle.std.specs.Prelude.{◌≡◌, ◌++◌, OnOk, codes, option_map, string_bytes};
+ghost use Rattle.job_text.specs.DescriptionParts.{framing_view, stream_view};
+ghost use Rattle.job_text.specs.Fields.{burst_numbers, group_numbers};
 ghost use Rattle.job_text.specs.Fields.{size_numbers, pace_numbers, leak_numbers, limit_numbers};
 ghost use Rattle.job_text.specs.KeyLines.{hex_line, number_lines};
-ghost use Rattle.job_text.specs.Texts.{stream_text, stream_front, stream_times, stream_place, stream_end};
+ghost use Rattle.job_text.specs.Texts.{framing_if_any, stream_text, stream_front, stream_times, stream_place, stream_end};
 
+use crate::framing_part::{FramingPart, write_framing};
 use crate::key_line::{
     write_header, write_hex, write_list, write_number, write_numbers, write_type,
 };
 use std::alloc::{AllocError, Allocator};
 use stream_coding::ProfileLevel;
 use unit_timing::allowance::Allowance;
-use unit_timing::framing::Framing;
 use unit_timing::multiplexing_buffer::MultiplexingBuffer;
 
 /// An elementary stream and its units in a description (ISO/IEC 13818-1, 2.4.2 and 2.4.4.8). It has no component_tag
@@ -48,15 +48,15 @@ pub struct StreamPart<'a> {
     /// Its multiplexing buffer, if it has one.
     pub multiplexing: Option<MultiplexingBuffer>,
     /// The access units of its units, if these are PES packets that hold several.
-    pub framing: Option<Framing>,
+    pub framing: Option<FramingPart<'a>>,
     /// The profile and level in its headers, for the comment beside its stream_type.
     pub said: ProfileLevel,
 }
 
 impl StreamPart<'_> {
     /// Appends an empty line, `[[stream]]`, and its lines: every key, but `descriptors` and `shared_with` only if there
-    /// are any, `pts_limit` only if it has one, `rbx` and `mb` only if it has a multiplexing buffer, `frames`, `frame`
-    /// and `frame_size` only if it has a framing, and the keys of its packets by groups or by pace.
+    /// are any, `pts_limit` only if it has one, `rbx` and `mb` only if it has a multiplexing buffer, the keys of its
+    /// access units only if it has a framing, and the keys of its packets by groups or by pace.
     pub fn write_text<A: Allocator + Clone>(&self, text: &mut String<A>) -> Result<(), AllocError>
         ensures { OnOk result (string_bytes text.new ≡ string_bytes text.old ++ stream_text (stream_view self.now)) }
     {
@@ -83,18 +83,11 @@ impl StreamPart<'_> {
     // Writes the lines of its access units, if it has a framing.
     fn write_frames<A: Allocator>(&self, text: &mut String<A>) -> Result<(), AllocError>
         ensures { OnOk result (string_bytes text.new ≡ string_bytes text.old
-            ++ number_lines (frame_numbers self.now.framing)) }
+            ++ framing_if_any (option_map framing_view self.now.framing)) }
     {
         match self.framing {
             None => Ok(()),
-            Some(framing) => {
-                let numbers = [
-                    ("frame", framing.frame as u64),
-                    ("frame_size", framing.frame_size as u64),
-                    ("frames", framing.frames as u64),
-                ];
-                write_numbers(text, &numbers)
-            }
+            Some(framing) => write_framing(framing, text),
         }
     }
 
@@ -116,7 +109,8 @@ impl StreamPart<'_> {
     fn write_units<A: Allocator + Clone>(&self, text: &mut String<A>) -> Result<(), AllocError>
         ensures { OnOk result (string_bytes text.new ≡ string_bytes text.old
             ++ (hex_line (codes "descriptors") self.now.descriptors.now
-            ++ (number_lines (frame_numbers self.now.framing) ++ number_lines (group_numbers self.now.allowance)))) }
+            ++ (framing_if_any (option_map framing_view self.now.framing)
+            ++ number_lines (group_numbers self.now.allowance)))) }
     {
         write_hex(text, "descriptors", self.descriptors)?;
         self.write_frames(text)?;

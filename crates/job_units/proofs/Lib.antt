@@ -1,4 +1,5 @@
 pub mod CarriedStreams
+mod FrameRests
 mod OddStreams
 mod StreamMoments
 mod TakenStreams

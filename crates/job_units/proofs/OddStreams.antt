@@ -8,7 +8,7 @@ use Rattle.es_moments.specs.UnitMoments.{moment_of, units_at}
 use Rattle.es_moments.specs.declared.unit_moments.UnitMoment.{UnitMoment}
 use Rattle.es_moments.proofs.UnitMoments.{at_own}
 use Rattle.sound_frames.specs.FrameHeaders.{frame_kind}
-use Rattle.unit_timing.specs.declared.framing.Framing.{Framing}
+use Rattle.stream_choice.specs.declared.frame_counts.FrameCounts.{FrameCounts}
 use Rattle.job_units.specs.Declarations.{MeasuredView, crossing_for, first_bytes, framing_for, has_data, has_long, header_of, measured, most_header}
 use Rattle.job_programs.specs.JobStreams.{TimedStreamView, WireStreamView}
 use Rattle.job_units.specs.Moments.{wire_of, with_moments}
@@ -80,7 +80,7 @@ pub measured_alone : (w : WireStreamView) (units : CountedUnitsView) (header : �
     (measured (alone w))
 unfolding measured alone with_moments
 measured_alone w units header first descriptors counted most bytes same frames =
-    rw (counted, most, bytes, same) (ap (λ (framing : Option Framing). (let m : MeasuredView = record {
+    rw (counted, most, bytes, same) (ap (λ (framing : Option FrameCounts). (let m : MeasuredView = record {
       pid = w.pid;
       stream_id = w.stream_id;
       stream_type = w.stream_type;

@@ -3,9 +3,9 @@ use Rattle.std.specs.Prelude.{ℕ, ◌*◌, ◌/◌, ◌==◌, ◌||◌, ◌++�
 use Rattle.std.specs.Prelude.{option_to_list}
 use Rattle.clock27.specs.Units.{slot_units_at_1bps}
 use Rattle.unit_timing.specs.Shares.{parts}
-use Rattle.unit_timing.specs.declared.framing.Framing.{Framing}
 use Rattle.unit_timing.specs.declared.multiplexing_buffer.MultiplexingBuffer.{MultiplexingBuffer}
 use Rattle.stream_choice.specs.declared.choice.Choice.{Choice}
+use Rattle.stream_choice.specs.declared.frame_counts.FrameCounts.{FrameCounts}
 use Rattle.es_buffers.specs.Buffers.{buffers_of, given_buffers}
 use Rattle.es_buffers.specs.declared.buffers.PidBuffers.{PidBuffers}
 use Rattle.job_units.specs.declared.declarations.StreamChoice.{StreamChoice}
@@ -56,7 +56,7 @@ leak_warnings streams all chosen = flat_map leak_warnings_of (zip streams (zip a
 -- the buffers for more than a second, or that cross units
 
 -- how many a unit has at most, where it has several and the stream does not declare them
-unfoldable pub unkept_frames : Option Framing → Option Framing → Option ℕ
+unfoldable pub unkept_frames : Option FrameCounts → Option FrameCounts → Option ℕ
 unkept_frames None kept = None
 unkept_frames (Some f) (Some other) = None
 unkept_frames (Some f) None = if nat_lt 1 f.frames then Some f.frames else None

@@ -7,7 +7,6 @@ use Rattle.clock27.specs.declared.rate.TheConstants.{LEAST_RATE}
 use Rattle.pes_packet.specs.AccessUnits.{AccessUnit}
 use Rattle.pes_packet.specs.StreamIds.{greatest_size}
 use Rattle.unit_timing.specs.Shares.{parts}
-use Rattle.unit_timing.specs.declared.framing.Framing.{Framing}
 use Rattle.unit_timing.specs.declared.multiplexing_buffer.MultiplexingBuffer.{MultiplexingBuffer}
 use Rattle.stream_choice.specs.Choices.{groups_choice, preferred}
 use Rattle.stream_choice.specs.FramedChoices.{framed_groups}
@@ -16,6 +15,7 @@ use Rattle.stream_choice.specs.Paces.{pace_choice}
 use Rattle.stream_choice.specs.Ranges.{is_needs, are_max_packets}
 use Rattle.stream_choice.specs.Shares.{delay_before, leaking_needs, least_share}
 use Rattle.stream_choice.specs.declared.choice.Choice.{Choice}
+use Rattle.stream_choice.specs.declared.frame_counts.FrameCounts.{FrameCounts}
 use Rattle.stream_choice.specs.declared.needs.Needs.{Needs}
 use Rattle.es_buffers.specs.Buffers.{buffers_of, coding_holding, given_buffers, multiplexing_of}
 use Rattle.stream_coding.specs.Codings.{coding_of}
@@ -23,6 +23,7 @@ use Rattle.sound_frames.specs.FrameHeaders.{frame_kind}
 use Rattle.sound_frames.specs.Frames.{no_frames, all_frames}
 use Rattle.stream_coding.specs.Profiles.{profile_level}
 use Rattle.stream_coding.specs.declared.profiles.ProfileLevel.{ProfileLevel}
+use Rattle.sound_frames.specs.declared.frame_headers.FrameKind.{FrameKind}
 use Rattle.sound_frames.specs.declared.frames.UnitFrames.{UnitFrames}
 use Rattle.stream_coding.specs.declared.coding.Coding.{Coding}
 use Rattle.es_buffers.specs.declared.buffers.Buffers.{Buffers}
@@ -39,6 +40,7 @@ use Rattle.given_values.specs.declared.declare_by.DeclareBy.TheVariants as by
 use Rattle.job_programs.specs.Answers.{and_then, unless, each}
 use Rattle.job_programs.specs.JobStreams.{TimedStreamView}
 use Rattle.job_units.specs.CrossingFrames.{do_cross}
+use Rattle.job_units.specs.FrameRests.{least_rest}
 
 -- 1. What a description can't hold
 
@@ -67,7 +69,7 @@ pub record MeasuredView : Type 0 where
   pub stream_type : ℕ
   pub descriptors : List ℕ
   pub first : List ℕ
-  pub framing : Option Framing
+  pub framing : Option FrameCounts
   pub crossing : Bool
   pub header : ℕ
   pub units : CountedUnitsView
@@ -80,14 +82,19 @@ first_bytes (u ∷ us) = u.bytes
 unfoldable pub said_profile : TimedStreamView → ProfileLevel
 said_profile s = profile_level s.stream_type (first_bytes s.units)
 
--- the access units of a stream's units, if it is sound whose units are whole frames
-unfoldable pub framing_of : UnitFrames → Option Framing
-framing_of c = if nat_le c.count 64 && nat_lt c.time (2 ^ 32) then Some (record { frames = c.count; frame = c.time; frame_size = c.largest }) else None
+-- the access units of a stream's units, if it is sound whose units are whole frames, at most 64 each
+unfoldable pub framing_of : ℕ → UnitFrames → Option FrameCounts
+framing_of rest c =
+    if nat_le c.count 64 && nat_lt c.time (2 ^ 32) then Some (record { frames = c.count; frame = c.time; rest = rest; left = c.left }) else None
 
-unfoldable pub framing_for : TimedStreamView → Option Framing
+-- each frame is the longest time of a frame after the frame before it
+abbrev pub framing_by : FrameKind → List AccessUnit → UnitFrames → Option FrameCounts
+framing_by kind us c = framing_of (least_rest kind c.time us) c
+
+unfoldable pub framing_for : TimedStreamView → Option FrameCounts
 framing_for s = elim (frame_kind s.stream_type s.descriptors) [
   | None ↦ None
-  | Some kind ↦ option_and_then framing_of (all_frames kind no_frames (map (λ u. u.bytes) s.units))
+  | Some kind ↦ option_and_then (framing_by kind s.units) (all_frames kind no_frames (map (λ u. u.bytes) s.units))
 ]
 
 -- whether frames of sound cross the units of a stream
@@ -155,7 +162,7 @@ multiplexing_for given m = if is_some (given_buffers given m.pid) then None else
 pub record UnitCountsView : Type 0 where
   pub needs : Needs
   pub multiplexing : Option MultiplexingBuffer
-  pub framing : Option Framing
+  pub framing : Option FrameCounts
   pub max_group_packets : List ℕ
 
 unfoldable pub needs_of : List PidBuffers → MeasuredView → Needs
@@ -276,8 +283,12 @@ way_out declare_by lead sum units c =
     else (if is_declared declare_by lead sum units (with_buffers medium_buffers c) then Some medium_buffers
     else (if is_declared declare_by lead sum units (with_buffers large_buffers c) then Some large_buffers else None))
 
+-- no receiver has a greater buffer for sound
+unfoldable pub advised : DeclareBy → ℕ → ℕ → MeasuredView → UnitCountsView → Option GreaterBuffers
+advised declare_by lead sum m c = if is_some (frame_kind m.stream_type m.descriptors) then None else way_out declare_by lead sum m.units.runs c
+
 unfoldable pub buffers_refusal : DeclareBy → ℕ → ℕ → MeasuredView → UnitCountsView → JobRefusal
-buffers_refusal declare_by lead sum m c = refusals.Buffers m.pid c.needs.size c.needs.rx c.needs.main (way_out declare_by lead sum m.units.runs c)
+buffers_refusal declare_by lead sum m c = refusals.Buffers m.pid c.needs.size c.needs.rx c.needs.main (advised declare_by lead sum m c)
 
 -- with the stream's multiplexing buffer and a lead that its access units allow, if a choice keeps both; else with one main buffer and any
 -- lead. A stream of its level's greatest rate is of the second kind: its packets come faster than the leak by their headers, which the leak
@@ -299,30 +310,30 @@ unfoldable pub asked_shares : List StreamChoice → ℕ
 asked_shares chosen = max (min (min (sum_by (λ s. s.choice.share) chosen) (2 ^ 64 - 1) + recurring_share) (2 ^ 64 - 1)) least_output
 
 -- a choice keeps access units in an output whose shares have this sum
-abbrev pub keeps : ℕ → Framing → UnitCountsView → StreamChoice → Bool
+abbrev pub keeps : ℕ → FrameCounts → UnitCountsView → StreamChoice → Bool
 keeps sum f c s = keeps_framing c.needs f s.choice.lead s.choice.share sum
 
 -- the choice by groups, with one main buffer, that keeps them and asks for the least share
-unfoldable pub framed_by_groups : ℕ → ℕ → Framing → UnitCountsView → Option Choice
+unfoldable pub framed_by_groups : ℕ → ℕ → FrameCounts → UnitCountsView → Option Choice
 framed_by_groups lead sum f c =
     if is_framing c.needs f && is_countable c.needs c.max_group_packets then framed_groups c.needs f c.max_group_packets sum (min lead 90_000) else None
 
 -- the same, if the options allow groups
-unfoldable pub framed_of : DeclareBy → ℕ → ℕ → Framing → UnitCountsView → Option Choice
+unfoldable pub framed_of : DeclareBy → ℕ → ℕ → FrameCounts → UnitCountsView → Option Choice
 framed_of by.Pace lead sum f c = None
 framed_of by.Groups lead sum f c = framed_by_groups lead sum f c
 framed_of by.Either lead sum f c = framed_by_groups lead sum f c
 
--- that choice replaces the first one if it asks for less; or, if the first one does not keep them, for at most a 64th more
+-- that choice replaces the first one if it asks for less; or, if the first one does not keep them, for at most twice as much
 abbrev pub replaces : Choice → Choice → Bool → Bool
-replaces c first first_keeps = if first_keeps then nat_lt c.share first.share else nat_le (64 * c.share) (65 * first.share)
+replaces c first first_keeps = if first_keeps then nat_lt c.share first.share else nat_le c.share (2 * first.share)
 
 -- the first choice, with the access units if it keeps them
-abbrev pub first_framed : Framing → StreamChoice → Bool → StreamChoice
+abbrev pub first_framed : FrameCounts → StreamChoice → Bool → StreamChoice
 first_framed f first first_keeps =
     if first_keeps then record { choice = first.choice; multiplexing = first.multiplexing; framing = Some f } else first
 
-unfoldable pub framed_or : Framing → StreamChoice → Bool → Option Choice → StreamChoice
+unfoldable pub framed_or : FrameCounts → StreamChoice → Bool → Option Choice → StreamChoice
 framed_or f first first_keeps None = first_framed f first first_keeps
 framed_or f first first_keeps (Some c) =
     if replaces c first.choice first_keeps then record { choice = c; multiplexing = None; framing = Some f } else first_framed f first first_keeps

@@ -1,5 +1,6 @@
 pub mod Moments
 pub mod CrossingFrames
+pub mod FrameRests
 pub mod Declarations
 pub mod OddStreams
 pub mod StreamKinds

@@ -3,7 +3,7 @@
 ghost use Rattle.std.specs.Prelude.{◌≡◌, IsTrue};
 
 use crate::declarations::UnitCounts;
-use unit_timing::framing::Framing;
+use stream_choice::FrameCounts;
 use unit_timing::multiplexing_buffer::MultiplexingBuffer;
 
 // Returns whether both are none, or have one leak and one size.
@@ -18,15 +18,16 @@ fn is_same_buffer(one: Option<MultiplexingBuffer>, other: Option<MultiplexingBuf
 }
 
 // Returns whether both are none, or have the same numbers.
-fn is_same_framing(one: Option<Framing>, other: Option<Framing>) -> bool
+fn is_same_framing(one: Option<FrameCounts>, other: Option<FrameCounts>) -> bool
     ensures { IsTrue result → one ≡ other }
 {
     match (one, other) {
         (None, None) => true,
         (Some(first), Some(second)) => {
+            let same_times = first.frame == second.frame && first.rest == second.rest;
             first.frames == second.frames
-                && first.frame == second.frame
-                && first.frame_size == second.frame_size
+                && same_times
+                && first.left.as_slice() == second.left.as_slice()
         }
         _ => false,
     }

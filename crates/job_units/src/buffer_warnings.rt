@@ -9,8 +9,7 @@ use clock27::SLOT_UNITS_AT_1BPS;
 use es_buffers::{PidBuffers, buffers_of, given_buffers};
 use job_programs::Warning;
 use std::alloc::AllocError;
-use stream_choice::Choice;
-use unit_timing::framing::Framing;
+use stream_choice::{Choice, FrameCounts};
 use unit_timing::multiplexing_buffer::MultiplexingBuffer;
 use unit_timing::shares::PARTS;
 
@@ -151,13 +150,13 @@ fn push_leak_warnings(
 
 // Returns the number of access units in a unit of a stream that has several, and does not declare them.
 #[tactic(auto, unfolding(crate::specs::BufferWarnings::unkept_frames))]
-fn unkept_frames(found: Option<Framing>, kept: Option<Framing>) -> Option<u8>
+fn unkept_frames(found: Option<FrameCounts>, kept: Option<FrameCounts>) -> Option<u8>
     ensures { result ≡ spec.unkept_frames found kept }
 {
     match found {
         None => None,
         Some(framing) => match kept {
-            Some(Framing { .. }) => None,
+            Some(FrameCounts { .. }) => None,
             None => {
                 if framing.frames > 1 {
                     Some(framing.frames)

@@ -12,9 +12,8 @@ use job_programs::{JobError, JobRefusal, TimedStream};
 use pes_packet::greatest_size;
 use std::alloc::{AllocError, Global};
 use std::marker::Model;
-use stream_choice::{Choice, Needs};
+use stream_choice::{Choice, FrameCounts, Needs};
 use stream_coding::{Coding, coding_of};
-use unit_timing::framing::Framing;
 use unit_timing::multiplexing_buffer::MultiplexingBuffer;
 
 /// The greatest number of programs, and of streams, in a description.
@@ -34,7 +33,7 @@ const MAX_GROUP: usize = 64;
 pub struct UnitCounts {
     pub needs: Needs,
     pub multiplexing: Option<MultiplexingBuffer>,
-    pub framing: Option<Framing>,
+    pub framing: Option<FrameCounts>,
     pub max_group_packets: Vec<u32>,
 }
 
@@ -44,7 +43,7 @@ pub struct UnitCounts {
 pub struct StreamChoice {
     pub choice: Choice,
     pub multiplexing: Option<MultiplexingBuffer>,
-    pub framing: Option<Framing>,
+    pub framing: Option<FrameCounts>,
 }
 
 // A contract sees its packets as a list.

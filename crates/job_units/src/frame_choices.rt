@@ -7,15 +7,14 @@ use crate::choices::is_countable;
 use crate::declarations::{StreamChoice, UnitCounts};
 use given_values::DeclareBy;
 use std::alloc::{AllocError, Global};
-use stream_choice::{Choice, choose_framed, is_framing, keeps_framing};
-use unit_timing::framing::Framing;
+use stream_choice::{Choice, FrameCounts, choose_framed, is_framing, keeps_framing};
 
 // Returns what a stream of these units declares by groups with one main buffer that keeps these access units.
 #[tactic(auto, unfolding(crate::specs::Declarations::framed_by_groups))]
 fn framed_by_groups(
     greatest_lead: u32,
     sum: u64,
-    framing: Framing,
+    framing: FrameCounts,
     unit_counts: &UnitCounts,
 ) -> Option<Choice>
     requires { 2 ^ 17 ≤ sum }
@@ -36,7 +35,7 @@ fn framed_of(
     declare_by: DeclareBy,
     greatest_lead: u32,
     sum: u64,
-    framing: Framing,
+    framing: FrameCounts,
     unit_counts: &UnitCounts,
 ) -> Option<Choice>
     requires { 2 ^ 17 ≤ sum }
@@ -51,7 +50,7 @@ fn framed_of(
 }
 
 // Returns whether a choice keeps these access units in an output whose shares have this sum.
-fn keeps(sum: u64, framing: Framing, unit_counts: &UnitCounts, chosen: StreamChoice) -> bool
+fn keeps(sum: u64, framing: FrameCounts, unit_counts: &UnitCounts, chosen: StreamChoice) -> bool
     ensures { result ≡ spec.keeps sum framing unit_counts.now chosen }
 {
     let choice = chosen.choice;
@@ -59,19 +58,19 @@ fn keeps(sum: u64, framing: Framing, unit_counts: &UnitCounts, chosen: StreamCho
 }
 
 // Returns whether a choice that keeps a stream's access units replaces its first choice: if it asks for less; or, if
-// the first one does not keep them, for at most a 64th more.
+// the first one does not keep them, for at most twice as much.
 fn replaces(choice: Choice, first: Choice, first_keeps: bool) -> bool
     ensures { result ≡ spec.replaces choice first first_keeps }
 {
     if first_keeps {
         choice.share < first.share
     } else {
-        64 * u128::from(choice.share) <= 65 * u128::from(first.share)
+        u128::from(choice.share) <= 2 * u128::from(first.share)
     }
 }
 
 // Returns the first choice, with the access units if it keeps them.
-fn first_framed(framing: Framing, first: StreamChoice, first_keeps: bool) -> StreamChoice
+fn first_framed(framing: FrameCounts, first: StreamChoice, first_keeps: bool) -> StreamChoice
     ensures { result ≡ spec.first_framed framing first first_keeps }
 {
     if first_keeps {
@@ -88,7 +87,7 @@ fn first_framed(framing: Framing, first: StreamChoice, first_keeps: bool) -> Str
 // Returns the choice of a stream with these access units; `kept`: the choice that keeps them, if there is one.
 #[tactic(auto, unfolding(crate::specs::Declarations::framed_or))]
 fn framed_or(
-    framing: Framing,
+    framing: FrameCounts,
     first: StreamChoice,
     first_keeps: bool,
     kept: Option<Choice>,

@@ -10,6 +10,7 @@ use crate::stream_measures::StreamMeasures;
 use es_moments::UnitRuns;
 use given_values::DeclareBy;
 use job_programs::{GreaterBuffers, JobRefusal};
+use sound_frames::frame_kind;
 use std::alloc::{AllocError, Global};
 use stream_choice::Needs;
 
@@ -133,6 +134,26 @@ fn way_out(
     Ok(None)
 }
 
+// Returns the greater buffers that a line names: none for sound.
+#[tactic(auto, unfolding(crate::specs::Declarations::advised))]
+fn advised(
+    alloc: Global,
+    declare_by: DeclareBy,
+    greatest_lead: u32,
+    sum: u64,
+    stream: &StreamMeasures,
+    unit_counts: &UnitCounts,
+) -> Result<Option<GreaterBuffers>, AllocError>
+    requires { 2 ^ 17 ≤ sum }
+    ensures { IfOk result (λ way. way ≡ spec.advised declare_by greatest_lead sum stream.now unit_counts.now) }
+{
+    if frame_kind(stream.stream_type, &stream.descriptors).is_some() {
+        return Ok(None);
+    }
+    let units = &stream.units.runs;
+    way_out(alloc, declare_by, greatest_lead, sum, units, unit_counts)
+}
+
 /// Returns the refusal of a stream whose buffers nothing fits.
 #[tactic(auto, unfolding(crate::specs::Declarations::buffers_refusal))]
 pub(crate) fn buffers_refusal(
@@ -146,8 +167,7 @@ pub(crate) fn buffers_refusal(
     requires { 2 ^ 17 ≤ sum }
     ensures { IfOk result (λ why. why ≡ spec.buffers_refusal declare_by greatest_lead sum stream.now unit_counts.now) }
 {
-    let units = &stream.units.runs;
-    let way_out = way_out(alloc, declare_by, greatest_lead, sum, units, unit_counts)?;
+    let way_out = advised(alloc, declare_by, greatest_lead, sum, stream, unit_counts)?;
     Ok(JobRefusal::Buffers {
         pid: stream.pid,
         size: unit_counts.needs.size,

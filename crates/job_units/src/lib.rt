@@ -5,7 +5,8 @@
 //! `timed_streams::timed_streams` moves the bytes of the units out of the findings (`specs/TakenStreams`).
 //! `declarations::count_units` and `choices::choices` return what a description declares of them
 //! (`specs/Declarations`), `buffer_warnings::push_buffer_warnings` appends the warnings about their buffers
-//! (`specs/BufferWarnings`). `crossing_frames` finds frames of sound that cross units (`specs/CrossingFrames`).
+//! (`specs/BufferWarnings`). `crossing_frames` finds frames of sound that cross units (`specs/CrossingFrames`),
+//! `frame_rests` the time after a unit's last frame (`specs/FrameRests`).
 #![tactic(auto)]
 
 // Units as on the wire.
@@ -25,6 +26,7 @@ pub mod choices;
 pub mod crossing_frames;
 pub mod declarations;
 mod frame_choices;
+mod frame_rests;
 mod greater_buffers;
 mod share_sums;
 pub mod stream_measures;

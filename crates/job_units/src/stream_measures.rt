@@ -12,14 +12,15 @@ ghost use Rattle.job_units.specs.OddStreams as odd;
 ghost use Rattle.job_units.specs.OddStreams.{alone, first_carried, own_base};
 
 use crate::crossing_frames::do_cross;
+use crate::frame_rests::least_rest;
 use es_moments::{CountedUnits, FoundUnit, UnitMoment};
 use job_programs::{TimedStream, WireStream};
 use pes_packet::Unit;
 use sound_frames::{FrameKind, UnitFrames, frame_kind, unit_frames};
 use std::alloc::{AllocError, Global};
 use std::marker::Model;
+use stream_choice::FrameCounts;
 use stream_coding::{ProfileLevel, profile_level};
-use unit_timing::framing::Framing;
 
 /// The measures of a stream: its entry in the program map, the bytes of its first unit, the framing of its sound if
 /// each unit is whole frames, whether frames of sound cross its units, the most bytes of a PES packet header, and the
@@ -31,7 +32,7 @@ pub struct StreamMeasures {
     pub stream_type: u8,
     pub descriptors: Vec<u8>,
     pub first: Vec<u8>,
-    pub framing: Option<Framing>,
+    pub framing: Option<FrameCounts>,
     pub crossing: bool,
     pub header: u32,
     pub units: CountedUnits,
@@ -58,14 +59,15 @@ impl Model for StreamMeasures {
 
 // Returns the access units of a unit as a description declares them.
 #[tactic(auto, unfolding(crate::specs::Declarations::framing_of))]
-fn framing_of(frames: UnitFrames) -> Option<Framing>
-    ensures { result ≡ spec.framing_of frames }
+fn framing_of(rest: u32, frames: UnitFrames) -> Option<FrameCounts>
+    ensures { result ≡ spec.framing_of rest frames }
 {
     if frames.count <= 64 && frames.time < 1 << 32 {
-        Some(Framing {
+        Some(FrameCounts {
             frames: frames.count as u8,
             frame: frames.time as u32,
-            frame_size: frames.largest,
+            rest,
+            left: frames.left,
         })
     } else {
         None
@@ -88,11 +90,13 @@ fn all_frames(kind: FrameKind, units: &[Unit]) -> Option<UnitFrames>
 
 // Returns the access units of a stream's units, if it is sound whose units are whole frames.
 #[tactic(auto, unfolding(crate::specs::Declarations::framing_for))]
-fn framing_for(stream: &TimedStream) -> Option<Framing>
+fn framing_for(stream: &TimedStream) -> Option<FrameCounts>
     ensures { result ≡ spec.framing_for stream.now }
 {
     let kind = frame_kind(stream.stream_type, &stream.descriptors)?;
-    framing_of(all_frames(kind, &stream.units)?)
+    let frames = all_frames(kind, &stream.units)?;
+    let rest = least_rest(kind, frames.time, &stream.units);
+    framing_of(rest, frames)
 }
 
 // Returns whether frames of sound cross the units of a stream.

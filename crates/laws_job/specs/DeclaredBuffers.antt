@@ -2,9 +2,10 @@
 use Rattle.std.specs.Prelude.{◌≡◌, ◌≤◌, ℕ, ◌^◌, false, List, map, zip, slice_get, option_map, Some, All}
 use Rattle.pes_packet.specs.AccessUnits.{AccessUnit}
 use Rattle.pes_packet.specs.Units.{units_of}
-use Rattle.unit_timing.specs.AccessUnits.{frame_declaration}
-use Rattle.unit_timing.specs.declared.framing.Framing.{Framing}
+use Rattle.unit_timing.specs.declared.framing.FrameDeclaration.{FrameDeclaration}
+use Rattle.unit_timing.specs.declared.framing.LastBytes.TheVariants.{Sums}
 use Rattle.unit_timing.specs.declared.multiplexing_buffer.MultiplexingBuffer.{MultiplexingBuffer}
+use Rattle.description_keys.specs.StreamKeys.{padded}
 use Rattle.description_parts.specs.Described.{Described, DescribedStream}
 use Rattle.description_parts.specs.Ranges.{IsInRange}
 use Rattle.slot_plan.specs.Planned.{Planned}
@@ -14,7 +15,7 @@ use Rattle.mux_core.specs.Scheduled.{Scheduled}
 use Rattle.mux_core.specs.Headline.{VideoKept}
 use Rattle.mux_core.specs.FramesKept.{FramesKept}
 use Rattle.mux_core.specs.WholeJobs.{job_history, output_of}
-use Rattle.job_text.specs.DescriptionParts.{ProgramPartView, StreamPartView, TablePartView}
+use Rattle.job_text.specs.DescriptionParts.{FramingPartView, ProgramPartView, StreamPartView, TablePartView}
 use Rattle.job_text.specs.Laws.{FitsHeading, FitsEvent, FitsNetwork, FitsProgram, FitsStream, FitsTable}
 use Rattle.job_inputs.specs.JobInput.{JobInputView}
 use Rattle.job_programs.specs.JobOptions.{JobOptionsView}
@@ -47,10 +48,14 @@ pub record HasTomlNumbers (options : JobOptionsView) (input : JobInputView) (rat
 
 -- ---- what it is read with
 
+-- access units as a description declares them
+abbrev pub declared_framing : FramingPartView → FrameDeclaration
+declared_framing f = record { frames = f.frames; frame = f.frame; rest = f.rest; left = Sums (padded f.left) }
+
 -- a stream is described with the multiplexing buffer and the access units of this part
 pub record HasBuffersOf (part : StreamPartView) (s : DescribedStream) : Type 0 where
   pub multiplexing : s.multiplexing ≡ part.multiplexing
-  pub framing : s.framing ≡ option_map (frame_declaration s.interval) part.framing
+  pub framing : s.framing ≡ option_map declared_framing part.framing
 
 -- each stream of a description is described with the choice made for it
 abbrev pub DeclaredLaw : Type 0
@@ -64,7 +69,7 @@ pub record BuffersKept (schedule : Scheduled) (part : StreamPartView) (s : Descr
   -- with a multiplexing buffer neither it nor the elementary stream buffer overflows, and each unit that is due is whole in the second by its DTS
   pub video : (b : MultiplexingBuffer) → part.multiplexing ≡ Some b → VideoKept schedule s b units n bytes
   -- with several access units in a unit the main buffer does not overflow, and each of them is removed at its own decoding time
-  pub frames : (f : Framing) → part.framing ≡ Some f → FramesKept schedule s (frame_declaration s.interval f) units bytes
+  pub frames : (f : FramingPartView) → part.framing ≡ Some f → FramesKept schedule s (declared_framing f) units bytes
 
 -- this holds for each stream, with the choice made for it
 abbrev pub BuffersKeptLaw : Type 0

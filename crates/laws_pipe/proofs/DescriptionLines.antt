@@ -8,17 +8,16 @@ use Rattle.hex.specs.Hex.{encode_lower}
 use Rattle.toml.specs.Data.{Data, string, integer, boolean, array}
 use Rattle.unit_timing.specs.declared.allowance.Allowance.{Allowance}
 use Rattle.unit_timing.specs.declared.allowance.Allowance.TheVariants.{Groups, Pace}
-use Rattle.unit_timing.specs.declared.framing.Framing.{Framing}
 use Rattle.unit_timing.specs.declared.multiplexing_buffer.MultiplexingBuffer.{MultiplexingBuffer}
 use Rattle.pid_findings.specs.Views.{FindingView}
-use Rattle.job_text.specs.DescriptionParts.{EventPartView, HeadingView, NetworkPartView, ProgramPartView, StreamPartView, TablePartView}
-use Rattle.job_text.specs.Fields.{burst_numbers, drain_numbers, first_numbers, frame_numbers, group_numbers, last_numbers, leak_numbers, limit_numbers}
+use Rattle.job_text.specs.DescriptionParts.{EventPartView, FramingPartView, HeadingView, NetworkPartView, ProgramPartView, StreamPartView, TablePartView}
+use Rattle.job_text.specs.Fields.{burst_numbers, drain_numbers, first_numbers, frame_numbers, rest_numbers, group_numbers, last_numbers, leak_numbers, limit_numbers}
 use Rattle.job_text.specs.Fields.{pace_numbers, place_numbers, program_numbers, size_numbers, table_numbers, time_numbers}
 use Rattle.job_text.specs.KeyLines.{digits_of, header, hex_line, items_of, items_text, key_line, list_line, noted_line, number_line, number_lines, table_header}
 use Rattle.job_text.specs.KeyLines.{value_text}
 use Rattle.job_text.specs.Notes.{is_shown, note_of, type_note}
 use Rattle.job_text.proofs.NoteLines.{notes_are_shown}
-use Rattle.job_text.specs.Texts.{event_back, event_names, event_numbers, event_text, heading_text, network_if_any, program_front, program_service, program_text}
+use Rattle.job_text.specs.Texts.{event_back, event_names, event_numbers, event_text, framing_if_any, framing_text, heading_text, network_if_any, program_front, program_service, program_text}
 use Rattle.job_text.specs.Texts.{stream_end, stream_front, stream_place, stream_text, stream_times, table_back, table_front, table_text, type_line}
 use Rattle.ts_services.specs.NetworkInformation.{stream_network}
 use Rattle.ts_services.specs.Services.{FoundServiceView, service}
@@ -109,11 +108,11 @@ items_flat is_first (n ∷ ns) =
     flat_both (if is_first then [] else codes ", ") (decimal n ++ items_text false (items_of ns)) (comma_flat is_first)
     (flat_both (decimal n) (items_text false (items_of ns)) (decimal_flat n) (items_flat false ns))
 
-list_passes : (ns : List ℕ) → Passes (list_line (codes "shared_with") ns)
+list_passes : (key ns : List ℕ) → IsOther key → is_flat key ≡ true → Passes (list_line key ns)
 unfolding list_line
-list_passes ns =
-    cond_both (length ns == 0) [] (key_line (codes "shared_with") (array (items_of ns))) Passes (λ _. none_passes)
-    (λ _. key_passes (codes "shared_with") (array (items_of ns)) (λ rest. refl) refl
+list_passes key ns other plain =
+    cond_both (length ns == 0) [] (key_line key (array (items_of ns))) Passes (λ _. none_passes)
+    (λ _. key_passes key (array (items_of ns)) other plain
     (flat_both (codes "[") (items_text true (items_of ns)) refl (items_flat true ns)))
 
 -- The line of an array of strings of digits passes.
@@ -209,9 +208,16 @@ burst_passes : (a : Allowance) → Passes (number_lines (burst_numbers a))
 burst_passes (Groups units packets) = none_passes
 burst_passes (Pace burst pace) = numbers_pass (burst_numbers (Pace burst pace)) ((λ rest. refl), (refl, tt))
 
-frames_pass : (f : Option Framing) → Passes (number_lines (frame_numbers f))
+framing_passes : (f : FramingPartView) → Passes (framing_text f)
+framing_passes f =
+    let rest = numbers_pass (rest_numbers f) ((λ rest. refl), (refl, ((λ rest. refl), (refl, tt)))) in
+    let sums = both_pass (list_line (codes "frame_left") f.left) (number_lines (rest_numbers f)) (list_passes (codes "frame_left") f.left (λ rest. refl) refl)
+    rest in
+    both_pass (number_lines (frame_numbers f)) _ (numbers_pass (frame_numbers f) ((λ rest. refl), (refl, tt))) sums
+
+frames_pass : (f : Option FramingPartView) → Passes (framing_if_any f)
 frames_pass None = none_passes
-frames_pass (Some f) = numbers_pass (frame_numbers (Some f)) ((λ rest. refl), (refl, ((λ rest. refl), (refl, ((λ rest. refl), (refl, tt))))))
+frames_pass (Some f) = framing_passes f
 
 groups_pass : (a : Allowance) → Passes (number_lines (group_numbers a))
 groups_pass (Groups units packets) = numbers_pass (group_numbers (Groups units packets)) ((λ rest. refl), (refl, ((λ rest. refl), (refl, tt))))
@@ -235,7 +241,7 @@ limit_passes (Some n) = numbers_pass (limit_numbers (Some n)) ((λ rest. refl), 
 
 stream_passes : (s : StreamPartView) → Passes (stream_text s)
 stream_passes s =
-    let groups = both_pass (number_lines (frame_numbers s.framing)) (number_lines (group_numbers s.allowance)) (frames_pass s.framing)
+    let groups = both_pass (framing_if_any s.framing) (number_lines (group_numbers s.allowance)) (frames_pass s.framing)
     (groups_pass s.allowance) in
     let frames = both_pass (hex_line (codes "descriptors") s.descriptors) _ (bytes_pass s.descriptors) groups in
     let burst = both_pass (number_lines (burst_numbers s.allowance)) _ (burst_passes s.allowance) frames in
@@ -250,7 +256,8 @@ stream_passes s =
     let pids = numbers_pass (place_numbers s) ((λ rest. refl), (refl, ((λ rest. refl), (refl, tt)))) in
     let place = both_pass (number_lines (place_numbers s)) _ pids limit in
     let last = both_pass (number_lines (last_numbers s)) (type_line s) (numbers_pass (last_numbers s) ((λ rest. refl), (refl, tt))) (type_passes s) in
-    let shared = both_pass (list_line (codes "shared_with") s.shared_with) (number_lines (last_numbers s) ++ type_line s) (list_passes s.shared_with) last in
+    let shared = both_pass (list_line (codes "shared_with") s.shared_with) (number_lines (last_numbers s) ++ type_line s) 
+    (list_passes (codes "shared_with") s.shared_with (λ rest. refl) refl) last in
     let back = both_pass (stream_place s) (stream_end s) place shared in
     both_pass (stream_front s) (stream_times s ++ (stream_place s ++ stream_end s)) front
     (both_pass (stream_times s) (stream_place s ++ stream_end s) middle back)

@@ -1,2 +1,3 @@
+mod FrameSums
 mod FrameWalks
 mod FrameParts

@@ -1,3 +1,4 @@
 pub mod FrameHeaders
 pub mod Frames
+pub mod FrameSizes
 pub mod FrameWalks

@@ -1,20 +1,42 @@
 //! The frames of sound in units.
 
-ghost use Rattle.std.specs.Prelude.{◌≡◌, ◌<◌, ◌^◌, option_map};
+ghost use Rattle.std.specs.Prelude.{◌≡◌, ◌<◌, ◌^◌, max, option_map, slice_index};
 ghost use Rattle.sound_frames.specs.Frames as spec;
 
 use crate::frame::FrameHeader;
 use crate::frame_headers::{FrameKind, frame_header};
 
+/// The number of last frames of a unit whose bytes are summed: all but the first of 64.
+const SUMS: usize = 63;
+
 /// The frames of one unit or of several units.
-#[derive(Clone, Copy, PartialEq, Eq)]
+#[derive(Clone, Copy)]
 pub struct UnitFrames {
     /// The most frames of a unit.
     pub count: usize,
     /// The longest time of a frame, in units of 90 kHz, rounded up.
     pub time: u64,
-    /// The bytes of the greatest frame that is not the first of its unit.
-    pub largest: u32,
+    /// The most bytes of the last 1, 2, .. 63 frames of a unit, without its first frame.
+    pub left: [u32; SUMS],
+}
+
+// Returns the greater of the sums of two units at an index.
+fn greater_at(one: &[u32; SUMS], other: &[u32; SUMS], index: usize) -> u32
+    requires { index < 63 }
+    ensures { result ≡ max (slice_index one.now index) (slice_index other.now index) }
+{
+    one[index].max(other[index])
+}
+
+// Returns the greater sums of two units.
+fn greater_left(one: &[u32; SUMS], other: &[u32; SUMS]) -> [u32; SUMS]
+    ensures { result ≡ spec.greater_left one.now other.now }
+{
+    let mut left = [0u32; SUMS];
+    for i in 0..SUMS {
+        left[i] = greater_at(one, other, i);
+    }
+    left
 }
 
 impl UnitFrames {
@@ -25,7 +47,7 @@ impl UnitFrames {
         UnitFrames {
             count: 0,
             time: 0,
-            largest: 0,
+            left: [0; SUMS],
         }
     }
 
@@ -36,8 +58,47 @@ impl UnitFrames {
         UnitFrames {
             count: self.count.max(other.count),
             time: self.time.max(other.time),
-            largest: self.largest.max(other.largest),
+            left: greater_left(&self.left, &other.left),
         }
+    }
+}
+
+// Returns the bytes of the last `frames` frames.
+fn sum_of(left: &[u32; SUMS], frames: usize) -> u32
+    requires { frames < 63 }
+    ensures { result ≡ spec.sum_of left.now frames }
+{
+    if frames == 0 { 0 } else { left[frames - 1] }
+}
+
+// Returns the bytes of a frame and of the `before` frames before it, by the sums up to the frame before it.
+fn sum_with(left: &[u32; SUMS], size: u32, before: usize) -> u32
+    requires { before < 63 }
+    ensures { result ≡ spec.sum_with left.now size before }
+{
+    sum_of(left, before).saturating_add(size)
+}
+
+// Returns the bytes of the last frames when one more frame comes.
+fn left_with(left: &[u32; SUMS], size: u32) -> [u32; SUMS]
+    ensures { result ≡ spec.left_with left.now size }
+{
+    let mut sums = [0u32; SUMS];
+    for i in 0..SUMS {
+        sums[i] = sum_with(left, size, i);
+    }
+    sums
+}
+
+// Returns the same of a unit: its first frame is not counted.
+#[tactic(auto, unfolding(crate::specs::Frames::left_after))]
+fn left_after(frames: &UnitFrames, size: u32) -> [u32; SUMS]
+    ensures { result ≡ spec.left_after frames.now size }
+{
+    if frames.count == 0 {
+        frames.left
+    } else {
+        left_with(&frames.left, size)
     }
 }
 
@@ -47,15 +108,10 @@ fn with_frame(frames: UnitFrames, header: FrameHeader) -> UnitFrames
     requires { frames.count < 2 ^ 63 }
     ensures { result ≡ spec.with_frame frames header }
 {
-    let largest = if frames.count == 0 {
-        frames.largest
-    } else {
-        frames.largest.max(header.size)
-    };
     UnitFrames {
         count: frames.count + 1,
         time: frames.time.max(header.time),
-        largest,
+        left: left_after(&frames, header.size),
     }
 }
 

@@ -1,7 +1,8 @@
 //! Frames of sound, counted, or found as bytes come.
 //!
 //! `specs/FrameHeaders` has their headers, `specs/Frames` counts the frames of a unit, and `specs/FrameWalks` says
-//! which frames are found as the bytes of a unit come, and when each is due.
+//! which frames are found as the bytes of a unit come, and when each is due. By the law of `specs/FrameSizes` the sums of
+//! the last frames of a unit are those of their sizes.
 #![tactic(auto)]
 
 mod ac3_frames;
@@ -9,6 +10,7 @@ mod frame;
 mod frame_headers;
 mod frame_walk;
 mod frames;
+pub mod laws;
 mod layers;
 
 pub use frame_headers::{FrameKind, frame_kind};

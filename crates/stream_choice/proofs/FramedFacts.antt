@@ -4,7 +4,7 @@ use Rattle.std.specs.Prelude.{slice_index, IfSome, if◌then◌else◌}
 use Rattle.std.proofs.lemmas.Bool.Decides.{nat_tests}
 use Rattle.std.proofs.lemmas.List.Elements.{All-get_or}
 use Rattle.unit_timing.specs.declared.allowance.Allowance.{Allowance}
-use Rattle.unit_timing.specs.declared.framing.Framing.{Framing}
+use Rattle.stream_choice.specs.declared.frame_counts.FrameCounts.{FrameCounts}
 use Rattle.stream_choice.specs.declared.needs.Needs.{Needs}
 use Rattle.stream_choice.specs.declared.choice.Choice.{Choice}
 use Rattle.stream_choice.specs.Ranges.{IsGroup, IsAllowance, AreMaxPackets}
@@ -22,11 +22,11 @@ same : (x y : Choice) → Some x ≡ Some y → x ≡ y
 same x y e = cc
 
 -- A choice that keeps access units is a choice.
-record IsFramedAt (needs : Needs) (f : Framing) (sum group packets lead : ℕ) (c : Choice) : Type 0 where
+record IsFramedAt (needs : Needs) (f : FrameCounts) (sum group packets lead : ℕ) (c : Choice) : Type 0 where
   pub kept : IsKept needs (delay_before None needs sum) group packets lead c
   pub framed : keeps_framing needs f c.lead c.share sum ≡ true
 
-framed_at : (needs : Needs) (f : Framing) (sum group packets lead : ℕ) (c : Choice) → framed_choice needs f sum group packets lead ≡ Some c →
+framed_at : (needs : Needs) (f : FrameCounts) (sum group packets lead : ℕ) (c : Choice) → framed_choice needs f sum group packets lead ≡ Some c →
     IsFramedAt needs f sum group packets lead c
 framed_at needs f sum group packets lead c e = step (choice_of needs group packets (delay_before None needs sum) lead) refl e
   where
@@ -45,12 +45,12 @@ framed_at needs f sum group packets lead c e = step (choice_of needs group packe
     step (Some d) is e = tests d is (keeps_framing needs f d.lead d.share sum) refl e
 
 -- With a lead by its number
-record IsFramedIn (needs : Needs) (f : Framing) (sum max_lead group packets : ℕ) (c : Choice) : Type 0 where
+record IsFramedIn (needs : Needs) (f : FrameCounts) (sum max_lead group packets : ℕ) (c : Choice) : Type 0 where
   pub lead : ℕ
   pub in_range : lead ≤ max_lead
   pub here : IsFramedAt needs f sum group packets lead c
 
-framed_in : (needs : Needs) (f : Framing) (sum max_lead group packets number : ℕ) (c : Choice) →
+framed_in : (needs : Needs) (f : FrameCounts) (sum max_lead group packets number : ℕ) (c : Choice) →
     numbered_framed needs f sum max_lead group packets number ≡ Some c → IsFramedIn needs f sum max_lead group packets c
 framed_in needs f sum max_lead group packets number c e = step (nat_le lead max_lead) refl e
   where
@@ -66,7 +66,7 @@ framed_in needs f sum max_lead group packets number c e = step (nat_le lead max_
     step true le e = record { lead = lead; in_range = below lead max_lead le; here = framed_at needs f sum group packets lead c e }
     step false gt e = absurd (nothing c e)
 
-framed : (needs : Needs) (f : Framing) (max_packets : List ℕ) (sum max_lead : ℕ) (c : Choice) → AreMaxPackets max_packets →
+framed : (needs : Needs) (f : FrameCounts) (max_packets : List ℕ) (sum max_lead : ℕ) (c : Choice) → AreMaxPackets max_packets →
     framed_groups needs f max_packets sum max_lead ≡ Some c → IsFramedChoice needs f sum max_lead c
 framed needs f max_packets sum max_lead c ranges e =
     let groups : ℕ → Option Choice = λ i. framed_group needs f sum max_lead (i + 1) (slice_index max_packets i) in
@@ -92,7 +92,7 @@ framed needs f max_packets sum max_lead c ranges e =
       framed = k.here.framed;
     }
 
-pub is_framed_choice : (needs : Needs) (f : Framing) (max_packets : List ℕ) (sum max_lead : ℕ) (o : Option Choice) → AreMaxPackets max_packets →
+pub is_framed_choice : (needs : Needs) (f : FrameCounts) (max_packets : List ℕ) (sum max_lead : ℕ) (o : Option Choice) → AreMaxPackets max_packets →
     o ≡ framed_groups needs f max_packets sum max_lead →
     IfSome o (IsFramedChoice needs f sum max_lead)
 is_framed_choice needs f max_packets sum max_lead None ranges e = _

@@ -6,11 +6,11 @@ ghost use Rattle.stream_choice.specs.Ranges.{IsNeeds, IsGroup, AreMaxPackets};
 ghost use Rattle.stream_choice.specs.FramedChoices as spec;
 
 use crate::choice::{Choice, better};
+use crate::frame_counts::FrameCounts;
 use crate::frames::keeps_framing;
 use crate::needs::Needs;
 use crate::selection::choice_of;
 use crate::shares::delay_before;
-use unit_timing::framing::Framing;
 
 /// The number of leads that are tried for each group.
 const LEADS: u64 = 64;
@@ -18,7 +18,7 @@ const LEADS: u64 = 64;
 /// Returns the choice of a group and a lead, if the stream's buffers hold its units and its access units.
 fn framed_choice(
     needs: Needs,
-    framing: Framing,
+    framing: FrameCounts,
     sum: u64,
     group: u8,
     packets: u32,
@@ -42,7 +42,7 @@ fn framed_choice(
 /// Returns the choice of a lead by its number, if the lead is not above the greatest.
 fn numbered_framed(
     needs: Needs,
-    framing: Framing,
+    framing: FrameCounts,
     sum: u64,
     max_lead: u32,
     group: u8,
@@ -67,7 +67,7 @@ fn numbered_framed(
 /// Returns the best choice of one group.
 fn framed_group(
     needs: Needs,
-    framing: Framing,
+    framing: FrameCounts,
     sum: u64,
     max_lead: u32,
     group: u8,
@@ -95,7 +95,7 @@ fn framed_group(
 /// 32nd of the distance of units longer.
 pub fn choose_framed(
     needs: Needs,
-    framing: Framing,
+    framing: FrameCounts,
     max_packets: &[u32],
     sum: u64,
     max_lead: u32,

@@ -4,22 +4,45 @@
 ghost use Rattle.std.specs.Prelude.{◌≡◌, ◌≤◌, ◌<◌, ◌^◌, ◌&&◌, nat_le};
 ghost use Rattle.stream_choice.specs.Frames as spec;
 
+use crate::frame_counts::FrameCounts;
 use crate::needs::Needs;
-use unit_timing::framing::Framing;
 use unit_timing::shares::PARTS;
 
-/// Returns whether the numbers are in the ranges of a description, of two access units or more.
+// Returns the most bytes of the last `count` access units of a unit that has more; 0 if so many are not summed.
+fn left_of(framing: FrameCounts, count: u8) -> u32
+    ensures { result ≡ spec.left_of framing count }
+{
+    match framing
+        .left
+        .as_slice()
+        .get(count.saturating_sub(1) as usize)
+    {
+        None => 0,
+        Some(bytes) => *bytes,
+    }
+}
+
+// Returns whether the sums of bytes of access units are in the ranges of a description.
+fn are_sums(needs: Needs, framing: FrameCounts) -> bool
+    ensures { result ≡ spec.are_sums needs framing }
+{
+    let most = framing.frames.saturating_sub(1);
+    0 < left_of(framing, 1) && left_of(framing, most) <= needs.size
+}
+
+/// Returns whether the numbers are in the ranges of a description, of two access units or more, the last of which is
+/// removed before the next unit is due.
 #[tactic(auto, unfolding(crate::specs::Frames::is_framing))]
-pub fn is_framing(needs: Needs, framing: Framing) -> bool
+pub fn is_framing(needs: Needs, framing: FrameCounts) -> bool
     ensures { result ≡ spec.is_framing needs framing }
 {
-    let others = u64::from(framing.frames.saturating_sub(1));
     1 < framing.frames
         && framing.frames <= 64
         && 0 < framing.frame
-        && others * u64::from(framing.frame) <= u64::from(needs.interval)
-        && 0 < framing.frame_size
-        && framing.frame_size <= needs.size
+        && framing.frame <= 90_000
+        && 0 < framing.rest
+        && framing.rest <= 90_000
+        && are_sums(needs, framing)
 }
 
 // Returns the most packets of this share that arrive within a lead, in an output whose shares have this sum, if each
@@ -44,28 +67,41 @@ fn later_bytes(needs: Needs, lead: u32, share: u64, sum: u64) -> u128
     (units * (19 + u128::from(needs.size))).min(184 * packets)
 }
 
-// Returns the bytes that wait when `gone` access units of a unit have been removed.
-#[tactic(auto, unfolding(crate::specs::Frames::framed_bytes))]
-fn framed_bytes(needs: Needs, framing: Framing, lead: u32, share: u64, sum: u64, gone: u8) -> u128
-    ensures { result ≡ spec.framed_bytes needs framing lead share sum gone }
+// Returns how long after any moment with `left` access units of a unit left the next unit is due, at most the lead.
+fn ahead(framing: FrameCounts, lead: u32, left: u8) -> u32
+    ensures value { result ≡ spec.ahead framing lead left }
+    ensures most { result ≤ lead }
 {
-    let left = u128::from(framing.frames.saturating_sub(gone)) * u128::from(framing.frame_size);
-    let passed = u64::from(gone) * u64::from(framing.frame);
-    let ahead = u64::from(needs.interval)
-        .saturating_sub(passed)
-        .min(u64::from(lead)) as u32;
+    let others = u64::from(left.saturating_sub(1)) * u64::from(framing.frame);
+    (u64::from(framing.rest) + others).min(u64::from(lead)) as u32
+}
+
+// Returns the bytes that wait when `left` access units of a unit are left.
+#[tactic(auto, unfolding(crate::specs::Frames::framed_bytes))]
+fn framed_bytes(
+    needs: Needs,
+    framing: FrameCounts,
+    lead: u32,
+    share: u64,
+    sum: u64,
+    left: u8,
+) -> u128
+    ensures { result ≡ spec.framed_bytes needs framing lead share sum left }
+{
+    let bytes = u128::from(left_of(framing, left));
+    let ahead = ahead(framing, lead, left);
     if ahead < lead {
-        left + later_bytes(needs, lead - ahead, share, sum)
+        bytes + later_bytes(needs, lead - ahead, share, sum)
     } else {
-        left
+        bytes
     }
 }
 
-// Returns whether the main buffer holds the bytes that wait when `gone` access units of a unit have been removed.
-fn holds_after(needs: Needs, framing: Framing, lead: u32, share: u64, sum: u64, gone: u8) -> bool
-    ensures { result ≡ nat_le (spec.framed_bytes needs framing lead share sum gone) needs.main }
+// Returns whether the main buffer holds the bytes that wait when `left` access units of a unit are left.
+fn holds_with(needs: Needs, framing: FrameCounts, lead: u32, share: u64, sum: u64, left: u8) -> bool
+    ensures { result ≡ nat_le (spec.framed_bytes needs framing lead share sum left) needs.main }
 {
-    framed_bytes(needs, framing, lead, share, sum, gone) <= u128::from(needs.main)
+    framed_bytes(needs, framing, lead, share, sum, left) <= u128::from(needs.main)
 }
 
 // Returns whether both conditions hold.
@@ -76,12 +112,19 @@ fn both(one: bool, other: bool) -> bool
 }
 
 // Returns whether the main buffer holds the bytes that wait, for each number of access units up to `others`.
-fn frames_hold(needs: Needs, framing: Framing, lead: u32, share: u64, sum: u64, others: u8) -> bool
+fn frames_hold(
+    needs: Needs,
+    framing: FrameCounts,
+    lead: u32,
+    share: u64,
+    sum: u64,
+    others: u8,
+) -> bool
     ensures { result ≡ spec.frames_hold needs framing lead share sum others }
 {
     let mut holds = true;
     for before in 0..others {
-        let fits = holds_after(needs, framing, lead, share, sum, before + 1);
+        let fits = holds_with(needs, framing, lead, share, sum, before + 1);
         holds = both(holds, fits);
     }
     holds
@@ -89,7 +132,7 @@ fn frames_hold(needs: Needs, framing: Framing, lead: u32, share: u64, sum: u64, 
 
 /// Returns the longest lead, in units of 90 kHz, with which the last access unit of a unit is in the buffers for at most
 /// a second (2.4.2.6).
-pub fn framed_lead(framing: Framing) -> u32
+pub fn framed_lead(framing: FrameCounts) -> u32
     ensures value { result ≡ spec.framed_lead framing }
     ensures most { result ≤ 90000 }
 {
@@ -99,8 +142,8 @@ pub fn framed_lead(framing: Framing) -> u32
 
 /// Returns whether a stream of this lead and share may declare these access units: their numbers are in the ranges of a
 /// description, the last one is in the buffers for at most a second, and the main buffer holds the bytes that wait,
-/// however many of a unit's access units have been removed. `sum` is the sum of all shares of the output.
-pub fn keeps_framing(needs: Needs, framing: Framing, lead: u32, share: u64, sum: u64) -> bool
+/// however many of a unit's access units are left. `sum` is the sum of all shares of the output.
+pub fn keeps_framing(needs: Needs, framing: FrameCounts, lead: u32, share: u64, sum: u64) -> bool
     ensures { result ≡ spec.keeps_framing needs framing lead share sum }
 {
     let others = framing.frames.saturating_sub(1);

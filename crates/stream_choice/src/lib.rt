@@ -19,6 +19,7 @@
 
 mod buffers;
 mod choice;
+mod frame_counts;
 mod framed_selection;
 mod frames;
 pub mod laws;
@@ -32,6 +33,7 @@ mod selection;
 mod shares;
 
 pub use choice::{Choice, preferred};
+pub use frame_counts::FrameCounts;
 pub use framed_selection::choose_framed;
 pub use frames::{framed_lead, is_framing, keeps_framing};
 pub use needs::Needs;

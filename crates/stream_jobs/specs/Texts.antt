@@ -1,8 +1,9 @@
 -- The description of a job as text.
-use Rattle.std.specs.Prelude.{ℕ, ◌-◌, ◌^◌, min, List, ◌++◌, flat_map, zip}
-use Rattle.job_text.specs.DescriptionParts.{HeadingView, ProgramPartView, StreamPartView}
+use Rattle.std.specs.Prelude.{ℕ, ◌-◌, ◌^◌, min, List, ◌++◌, flat_map, length, take, zip, option_map}
+use Rattle.job_text.specs.DescriptionParts.{FramingPartView, HeadingView, ProgramPartView, StreamPartView}
 use Rattle.job_text.specs.Texts.{heading_text, network_if_any, program_text, stream_text}
 use Rattle.ts_services.specs.Services.{FoundServiceView}
+use Rattle.stream_choice.specs.declared.frame_counts.FrameCounts.{FrameCounts}
 use Rattle.job_units.specs.declared.declarations.StreamChoice.{StreamChoice}
 use Rattle.job_units.specs.Declarations.{UnitCountsView, said_profile}
 use Rattle.job_programs.specs.JobPrograms.{JobProgramView}
@@ -46,6 +47,13 @@ program_part pcr_limit p = program_with pcr_limit p.0 p.1
 
 -- 3. Streams
 
+-- the access units of a stream's units: sums of the last 1, 2, .. of them, up to all but one
+abbrev pub declared_sums : FrameCounts → List ℕ
+declared_sums f = take (min (length f.left) (f.frames - 1)) f.left
+
+abbrev pub framing_part : FrameCounts → FramingPartView
+framing_part f = record { frames = f.frames; frame = f.frame; rest = f.rest; left = declared_sums f }
+
 unfoldable pub stream_part : TimedStreamView × (UnitCountsView × StreamChoice) → StreamPartView
 stream_part s = record {
   program = s.0.program;
@@ -62,7 +70,7 @@ stream_part s = record {
   allowance = s.1.1.choice.allowance;
   shared_with = s.0.shared_with;
   multiplexing = s.1.1.multiplexing;
-  framing = s.1.1.framing;
+  framing = option_map framing_part s.1.1.framing;
   said = said_profile s.0;
 }
 

@@ -1,6 +1,7 @@
 //! The description of a job.
 
-ghost use Rattle.std.specs.Prelude.{◌≡◌, ◌++◌, IfOk, IfErr, OnOk, Ok, string_bytes};
+ghost use Rattle.std.specs.Prelude.{◌≡◌, ◌++◌, IfOk, IfErr, OnOk, Ok, option_map, string_bytes};
+ghost use Rattle.job_text.specs.DescriptionParts.{framing_view};
 ghost use Rattle.job_text.specs.Texts.{heading_text, program_text, stream_text};
 ghost use Rattle.stream_jobs.specs.Rates.{IsText};
 ghost use Rattle.stream_jobs.specs.Texts as spec;
@@ -13,11 +14,12 @@ use job_inputs::JobInput;
 use job_programs::job_events::write_events;
 use job_programs::job_network::write_network;
 use job_programs::{JobError, JobOptions, JobProgram, JobRefusal, NamedService, TimedStream};
-use job_text::{Heading, ProgramPart, StreamPart};
+use job_text::{FramingPart, Heading, ProgramPart, StreamPart};
 use job_units::pts_limit::declared_limit;
 use job_units::stream_measures::said_profile;
 use job_units::{StreamChoice, UnitCounts};
 use std::alloc::{AllocError, Global};
+use stream_choice::FrameCounts;
 
 /// All that the description of a job says but for its rate.
 #[derive(Clone, Copy)]
@@ -123,6 +125,37 @@ fn write_programs(
     Ok(())
 }
 
+// Returns the sums of a unit's last access units, of each number but all of them.
+fn declared_sums(framing: &FrameCounts) -> &[u32]
+    ensures { result.now ≡ spec.declared_sums framing.now }
+{
+    let sums = framing.left.as_slice();
+    let others = framing.frames.saturating_sub(1) as usize;
+    &sums[..sums.len().min(others)]
+}
+
+// Returns the access units of a stream as a description declares them.
+fn framing_part(framing: &FrameCounts) -> FramingPart<'_>
+    ensures { framing_view result ≡ spec.framing_part framing.now }
+{
+    FramingPart {
+        frames: framing.frames,
+        frame: framing.frame,
+        rest: framing.rest,
+        left: declared_sums(framing),
+    }
+}
+
+// Returns the same if a stream declares them.
+fn framing_if_any(framing: &Option<FrameCounts>) -> Option<FramingPart<'_>>
+    ensures { option_map framing_view result ≡ option_map spec.framing_part framing.now }
+{
+    match framing {
+        None => None,
+        Some(framing) => Some(framing_part(framing)),
+    }
+}
+
 #[tactic(auto, unfolding(crate::specs::Texts::stream_part))]
 fn write_stream(
     stream: &TimedStream,
@@ -148,7 +181,7 @@ fn write_stream(
         allowance: choice.choice.allowance,
         shared_with: &stream.shared_with,
         multiplexing: choice.multiplexing,
-        framing: choice.framing,
+        framing: framing_if_any(&choice.framing),
         said: said_profile(stream),
     };
     entry.write_text(text)

@@ -1,8 +1,7 @@
 //! Frames of sound in units, worked by hand.
 
 use sound_frames::{frame_kind, unit_frames};
-use stream_choice::{Needs, are_max_packets, choose_framed, keeps_framing};
-use unit_timing::framing::Framing;
+use stream_choice::{FrameCounts, Needs, are_max_packets, choose_framed, keeps_framing};
 
 // Two frames of layer III, 24 kHz and 8 kbit/s, of 24 bytes.
 const LAYER_THREE: &[u8] = &[
@@ -29,20 +28,20 @@ const ENHANCED: &[u8] = &[
 
 const DEPENDENT: &[u8] = &[0x0b, 0x77, 0x40, 2, 0x30, 0x80];
 
-// A stream_type, a unit, and the number of its frames, the longest time of a frame, and the greatest frame but the
-// first.
-type Row = (u8, &'static [u8], Option<(usize, u64, u32)>);
+// A stream_type, a unit, and the number of its frames, the longest time of a frame, and the bytes of the last frame and
+// of the last two, without the first.
+type Row = (u8, &'static [u8], Option<(usize, u64, u32, u32)>);
 
 static UNITS: [Row; 10] = [
-    (3, LAYER_THREE, Some((2, 2_160, 24))),
+    (3, LAYER_THREE, Some((2, 2_160, 24, 24))),
     (4, &[0xff, 0xf3, 0x14, 0xc0], None),
     (3, ADTS, None),
-    (0x0f, ADTS, Some((2, 3_840, 7))),
-    (0x0f, ADTS_44, Some((1, 2_090, 0))),
-    (0x11, LOAS, Some((2, 3_840, 7))),
-    (0x87, ENHANCED, Some((3, 2_880, 8))),
+    (0x0f, ADTS, Some((2, 3_840, 7, 7))),
+    (0x0f, ADTS_44, Some((1, 2_090, 0, 0))),
+    (0x11, LOAS, Some((2, 3_840, 7, 7))),
+    (0x87, ENHANCED, Some((3, 2_880, 6, 14))),
     (0x81, DEPENDENT, None),
-    (0x81, &[], Some((0, 0, 0))),
+    (0x81, &[], Some((0, 0, 0, 0))),
     (0x1b, ADTS, None),
 ];
 
@@ -53,25 +52,35 @@ fn are_frames(row: &Row) -> bool {
         None => None,
     };
     match found {
-        Some(frames) => Some((frames.count, frames.time, frames.largest)) == wanted,
+        Some(frames) => Some((frames.count, frames.time, frames.left[0], frames.left[1])) == wanted,
         None => wanted.is_none(),
     }
+}
+
+// The sums of frames of this size.
+fn sums(size: u32) -> [u32; 63] {
+    let mut left = [0u32; 63];
+    for i in 0..63 {
+        left[i] = size.saturating_mul(i as u32 + 1);
+    }
+    left
 }
 
 // Five frames of 576 bytes in a unit of 2,880, 16 packets to a unit: when one to four frames have left the main buffer,
 // 3,408, 3,384, 3,544 and 3,475 bytes wait in a large output, and 3,224, 3,200, 3,360 and 3,336 where ten of eleven
 // packets are the stream's.
-fn are_kept(main: u32, frame: u32, sum: u64) -> bool {
+fn are_kept(main: u32, rest: u32, sum: u64) -> bool {
     let needs = Needs {
         interval: 10_800,
         size: 2_880,
         rx: 2_000_000,
         main,
     };
-    let framing = Framing {
+    let framing = FrameCounts {
         frames: 5,
-        frame,
-        frame_size: 576,
+        frame: 2_160,
+        rest,
+        left: sums(576),
     };
     keeps_framing(needs, framing, 11_796, 1_628_906_116, sum)
 }
@@ -85,10 +94,11 @@ fn framed(sum: u64) -> (u32, u64) {
         rx: 2_000_000,
         main: 3_584,
     };
-    let framing = Framing {
+    let framing = FrameCounts {
         frames: 3,
         frame: 2_160,
-        frame_size: 960,
+        rest: 2_160,
+        left: sums(960),
     };
     let most: [u32; 1] = [16];
     if !needs.is_in_range() || !are_max_packets(&most) || sum < 1 << 17 {
@@ -106,7 +116,7 @@ fn frames(rt: HostRuntime) {
         assert!(rt; are_frames(row));
     }
     assert!(rt; are_kept(3_544, 2_160, u64::MAX));
-    assert!(rt; !are_kept(3_543, 2_160, u64::MAX) && !are_kept(3_584, 2_701, u64::MAX));
+    assert!(rt; !are_kept(3_543, 2_160, u64::MAX) && !are_kept(3_584, 0, u64::MAX));
     assert!(rt; are_kept(3_360, 2_160, 1_791_796_728) && !are_kept(3_359, 2_160, 1_791_796_728));
     assert!(rt; framed(3_000_000_000) == (6_075, 3_918_081_525));
     assert!(rt; framed(3_300_000_000) == (6_480, 3_543_953_676));

@@ -1,12 +1,11 @@
 //! A description of two programs, written, and written with little memory.
 
-use job_text::{Heading, ProgramPart, StreamPart, TablePart, texts_are_read};
+use job_text::{FramingPart, Heading, ProgramPart, StreamPart, TablePart, texts_are_read};
 use linked_list_allocator::LocalHeap;
 use std::alloc::{AllocError, Allocator, Global};
 use stream_coding::ProfileLevel;
 use unit_records::records_are_read;
 use unit_timing::allowance::Allowance;
-use unit_timing::framing::Framing;
 use unit_timing::multiplexing_buffer::MultiplexingBuffer;
 
 const HEADING: Heading<'static> = Heading {
@@ -62,10 +61,11 @@ static STREAMS: [StreamPart<'static>; 2] = [
         },
         shared_with: &[2, 65_535],
         multiplexing: None,
-        framing: Some(Framing {
+        framing: Some(FramingPart {
             frames: 2,
             frame: 1_080,
-            frame_size: 288,
+            rest: 1_080,
+            left: &[288],
         }),
         said: ProfileLevel::Unsaid,
     },
@@ -129,7 +129,8 @@ service_type = 2 # digital radio
 [[stream]]
 descriptors = \"0a04656e6700\"
 frame = 1080 # 12 ms
-frame_size = 288 # 288 bytes
+frame_left = [288]
+frame_rest = 1080 # 12 ms
 frames = 2
 group = 1
 group_packets = 4

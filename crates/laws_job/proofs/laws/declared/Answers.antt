@@ -1,5 +1,5 @@
 use Rattle.std.proofs.Common.{sym, ap, option_map, ◌∙◌}
-use Rattle.unit_timing.specs.AccessUnits.{frame_declaration}
+use Rattle.laws_job.specs.DeclaredBuffers.{declared_framing}
 use Rattle.laws_job.proofs.DeclaredBuffers.{declared}
 use Rattle.laws_job.proofs.laws.declared.Goals as goal
 
@@ -12,5 +12,5 @@ returns-clause-kept c = λ options input rate d p findings units n fit is ranges
     let carried = c.carried.ensures d p findings units n ranges serving are few in
     record {
       video = λ b some. carried.video k s b is_s (has.multiplexing ∙ some);
-      frames = λ f some. carried.frames k s (frame_declaration s.interval f) is_s (has.framing ∙ ap (option_map (frame_declaration s.interval)) some);
+      frames = λ f some. carried.frames k s (declared_framing f) is_s (has.framing ∙ ap (option_map declared_framing) some);
     }

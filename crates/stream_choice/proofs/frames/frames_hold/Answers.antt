@@ -7,5 +7,5 @@ loop-before-init c = sym (held_none c.args.needs c.args.framing c.args.lead c.ar
 
 pub loop-before-preserved : goal.loop-before-preserved
 loop-before-preserved c =
-    c.both-holds.ensures ∙ ap₂ (λ (a b : Bool). a && b) c.loop-before.invariant c.holds_after-fits.ensures
+    c.both-holds.ensures ∙ ap₂ (λ (a b : Bool). a && b) c.loop-before.invariant c.holds_with-fits.ensures
     ∙ sym (held_more c.args.needs c.args.framing c.args.lead c.args.share c.args.sum c.loop-before.before)

@@ -1,0 +1,31 @@
+-- The time from the last frame of a unit to the next unit, from the first unit on
+use Rattle.std.proofs.Common.{◌≡◌, ◌≤◌, ◌<◌, ℕ, ◌+◌, ◌-◌, min, List, [], ◌∷◌, length, drop, get_or, refl, sym, add-one, arith}
+use Rattle.std.proofs.Math.Seq.{drop-cons}
+use Rattle.std.proofs.lemmas.List.{drop_all}
+use Rattle.pes_packet.specs.AccessUnits.{AccessUnit}
+use Rattle.sound_frames.specs.declared.frame_headers.FrameKind.{FrameKind}
+use Rattle.job_units.specs.FrameRests.{last_due, least_rest, rest_after}
+
+pub rest_more : (kind : FrameKind) (time i due : ℕ) (us : List AccessUnit) (u : AccessUnit) → i < length us → u ≡ get_or us i u →
+    rest_after kind time due (drop i us) ≡ min (u.dts - due) (rest_after kind time (last_due kind time u) (drop (i + 1) us))
+unfolding rest_after
+rest_more kind time i due us u below at = rw (drop-cons us i u below, add-one i, sym at) refl
+
+pub rest_end : (kind : FrameKind) (time i due : ℕ) (us : List AccessUnit) → length us ≤ i → rest_after kind time due (drop i us) ≡ 90_000
+unfolding rest_after
+rest_end kind time i due us over = rw (drop_all i us over) refl
+
+pub rest_most : (kind : FrameKind) (time due : ℕ) (us : List AccessUnit) → rest_after kind time due us ≤ 90_000
+unfolding rest_after
+rest_most kind time due [] = omega arith
+rest_most kind time due (u ∷ us) = omega (arith, rest_most kind time (last_due kind time u) us)
+
+pub rest_none : (kind : FrameKind) (time : ℕ) (us : List AccessUnit) → length us ≡ 0 → least_rest kind time us ≡ 90_000
+unfolding least_rest
+rest_none kind time [] is = refl
+rest_none kind time (u ∷ us) is = absurd (let no : ⊥ = omega (arith, is) in no)
+
+pub rest_some : (kind : FrameKind) (time : ℕ) (us others : List AccessUnit) (u : AccessUnit) → us ≡ u ∷ others →
+    least_rest kind time us ≡ rest_after kind time (last_due kind time u) others
+unfolding least_rest
+rest_some kind time us others u is = rw is refl
