@@ -1,2 +1,3 @@
 pub mod UnitWords
 pub mod JobWords
+pub mod FaultLines

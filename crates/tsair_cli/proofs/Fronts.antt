@@ -8,7 +8,6 @@ use Rattle.std.proofs.lemmas.List.{take-append-drop}
 use Rattle.counted_io.specs.Device.{ReadsPart}
 use Rattle.devices.specs.Devices.{Port, between}
 use Rattle.devices.specs.declared.halt.Halt.TheVariants.{Read, Write, Memory}
-use Rattle.checked_jobs.specs.Jobs.{job_of}
 use Rattle.checked_jobs.specs.declared.jobs.JobPlans.{JobPlans}
 use Rattle.tsair_cli.specs.Fronts.{Grows, HasRead, IsFrontOf, IsSpent, ReadsFront, plans_end}
 use Rattle.tsair_cli.specs.declared.front.FrontError.{FrontError}
@@ -99,16 +98,16 @@ byte_on before mid after old now new part n size upper some g known clean is =
 -- If the last line of each plan has arrived, the front is read as its job.
 pub front_read : (switch : Bool) (before after : Port) (text got : List ℕ) (r : Result JobPlans FrontError) → Grows (between before after) [] text →
     plans_end switch text ≡ true →
-    got ≡ text → IsFrontOf (job_of switch got) r → ReadsFront switch (between before after) r
+    got ≡ text → IsFrontOf switch got r → ReadsFront switch (between before after) r
 front_read switch before after text got r g ends same is =
-    by r (subst (λ (l : List ℕ). IsFrontOf (job_of switch l) r) same is)
+    by r (subst (λ (l : List ℕ). IsFrontOf switch l r) same is)
   where
     has : HasRead (between before after) text
     has = record { read = rw (sym g.grown) at g.read; clean = g.clean }
 
-    by : (r : Result JobPlans FrontError) → IsFrontOf (job_of switch text) r → ReadsFront switch (between before after) r
+    by : (r : Result JobPlans FrontError) → IsFrontOf switch text r → ReadsFront switch (between before after) r
     by (Ok plans) h = record { front = text; has_read = has; plans_are = h }
-    by (Err (Fault (Job fault))) h = record { front = text; has_read = has; is = (h, inl ends) }
+    by (Err (Fault (Job line))) h = record { front = text; has_read = has; is = (h, inl ends) }
     by (Err (Fault Unended)) h = record { front = text; has_read = has; is = inr h }
     by (Err (Stopped Read)) h = absurd cc
     by (Err (Stopped Write)) h = absurd cc

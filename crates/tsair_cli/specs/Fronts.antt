@@ -1,16 +1,16 @@
 -- The front of the input: a description and its plans, as far as the last line `end`.
 use Rattle.std.specs.Prelude.{◌≡◌, ◌⊎◌, ◌<◌, ◌≤◌, ◌+◌, ◌^◌, ◌==◌, ◌&&◌, ℕ, Bool, true, false, List, [], ◌∷◌, ◌++◌, length, Option, Some, None, Result, Ok, Err}
-use Rattle.std.specs.Prelude.{codes, nat_eq, nat_le, if◌then◌else◌, option_map}
+use Rattle.std.specs.Prelude.{codes, nat_eq, nat_le, if◌then◌else◌, option_map, string_bytes}
 use Rattle.std.specs.List.{starts_with}
 use Rattle.std.specs.Io.KnownBytes.{Consumes, IsAtEnd}
 use Rattle.devices.specs.Devices.{Device, HasFailed, IsClean}
-use Rattle.devices.specs.Lines.{line_text}
 use Rattle.devices.specs.Outcomes.{Outcome, reported, halted}
 use Rattle.devices.specs.declared.halt.Halt.{Halt}
 use Rattle.devices.specs.declared.halt.Halt.TheVariants.{Read, Write, Memory}
 use Rattle.checked_jobs.specs.Jobs.{JobFaultView, JobView, job_of, parts_of}
-use Rattle.checked_jobs.specs.JobFaults.{fault_line, fault_view, plans_view}
+use Rattle.checked_jobs.specs.JobFaults.{plans_view}
 use Rattle.checked_jobs.specs.declared.jobs.JobPlans.{JobPlans}
+use Rattle.explained_jobs.specs.FaultLines.{IsFaultLine}
 use Rattle.tsair_cli.specs.declared.front.FrontFault.TheVariants.{Job, Unended}
 use Rattle.tsair_cli.specs.declared.front.FrontError.{FrontError}
 use Rattle.tsair_cli.specs.declared.front.FrontError.TheVariants.{Fault, Stopped}
@@ -81,12 +81,18 @@ ReadsLine input old new (Err Read) = HasFailed input
 ReadsLine input old new (Err Write) = ⊥
 ReadsLine input old new (Err Memory) = IsClean input
 
--- the plans that a front is read as, with no byte after them; or its fault
-abbrev pub IsFrontOf : Result JobView JobFaultView → Result JobPlans FrontError → Type 0
-IsFrontOf wanted (Ok plans) = Ok (plans_view plans []) ≡ wanted
-IsFrontOf wanted (Err (Fault (Job fault))) = Err (fault_view fault) ≡ wanted
-IsFrontOf wanted (Err (Fault Unended)) = (j : JobView) × (Ok j ≡ wanted) × (0 < length j.rest)
-IsFrontOf wanted (Err (Stopped halt)) = halt ≡ Memory
+-- the line of the first fault in the job that a front is
+pub record IsRefusedAs (switch : Bool) (front line : List ℕ) : Type 0 where
+  pub fault : JobFaultView
+  pub is : Err fault ≡ job_of switch front
+  pub said : IsFaultLine front fault line
+
+-- the plans that a front is read as, with no byte after them; or the line of its fault
+abbrev pub IsFrontOf : Bool → List ℕ → Result JobPlans FrontError → Type 0
+IsFrontOf switch front (Ok plans) = Ok (plans_view plans []) ≡ job_of switch front
+IsFrontOf switch front (Err (Fault (Job line))) = IsRefusedAs switch front (string_bytes line)
+IsFrontOf switch front (Err (Fault Unended)) = (j : JobView) × (Ok j ≡ job_of switch front) × (0 < length j.rest)
+IsFrontOf switch front (Err (Stopped halt)) = halt ≡ Memory
 
 -- why no more bytes were read: the last line of each plan has come, or no byte is left
 abbrev pub IsWhole : Bool → List ℕ → Device → Type 0
@@ -107,11 +113,11 @@ pub record ReadsFault (switch : Bool) (input : Device) (Is : List ℕ → Type 0
   pub has_read : HasRead input front
   pub is : Is front
 
--- the plans of a front; or its fault, if the last line of each plan has arrived or the input has ended; or it is too long
+-- the plans of a front; or the line of its fault, if the last line of each plan has arrived or the input has ended; or it is too long
 abbrev pub ReadsFront : Bool → Device → Result JobPlans FrontError → Type 0
 ReadsFront switch input (Ok plans) = ReadsPlans switch input plans
-ReadsFront switch input (Err (Fault (Job fault))) =
-    ReadsFault switch input (λ front. (Err (fault_view fault) ≡ job_of switch front) × IsWhole switch front input)
+ReadsFront switch input (Err (Fault (Job line))) =
+    ReadsFault switch input (λ front. IsRefusedAs switch front (string_bytes line) × IsWhole switch front input)
 ReadsFront switch input (Err (Fault Unended)) =
     ReadsFault switch input (λ front. (max_front < length front) ⊎ ((j : JobView) × (Ok j ≡ job_of switch front) × (0 < length j.rest)))
 ReadsFront switch input (Err (Stopped Read)) = HasFailed input
@@ -121,6 +127,6 @@ ReadsFront switch input (Err (Stopped Memory)) = IsClean input
 -- 3. The report of a front that is not read
 
 unfoldable pub front_outcome : FrontError → Outcome
-front_outcome (Fault (Job fault)) = reported (fault_line (fault_view fault))
-front_outcome (Fault Unended) = reported (line_text (codes "front") [])
+front_outcome (Fault (Job line)) = reported (string_bytes line)
+front_outcome (Fault Unended) = reported (codes "front: the last plan has no line end within 4 MiB: ( cat DESCRIPTION PLAN; FEEDER ) | tsair\n")
 front_outcome (Stopped halt) = halted halt

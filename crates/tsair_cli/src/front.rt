@@ -3,14 +3,12 @@
 ghost use Rattle.std.specs.Prelude.{◌≡◌, ◌<◌, ◌≤◌, true, IfSome, length};
 ghost use Rattle.devices.specs.Devices.{reads, writes};
 ghost use Rattle.devices.specs.Lines.{Reports};
-ghost use Rattle.checked_jobs.specs.Jobs.{job_of};
 ghost use Rattle.tsair_cli.specs.Fronts as spec;
 
-use checked_jobs::{
-    CheckedJob, JobFault, JobPlans, JobReadError, parts_of, read_job, report_fault, report_refusal,
-};
+use checked_jobs::{CheckedJob, JobPlans, JobReadError, parts_of, read_job};
 use counted_io::{Sink, Source, read_part};
-use devices::{Halt, report_halt};
+use devices::{Halt, report_halt, report_text};
+use explained_jobs::fault_line;
 use std::alloc::Global;
 
 /// The maximum number of bytes of a front: the longest plan's text has half a million.
@@ -20,16 +18,16 @@ const MAX_FRONT: usize = 1 << 22;
 const LAST_PLAN_LINE: &[u8] = b"end\n";
 
 /// Why a front is refused.
-#[derive(Clone, Copy)]
+#[derive(Drop)]
 pub enum FrontFault {
-    /// The first fault in the job that it is.
-    Job(JobFault),
+    /// The line of the first fault in the job that it is.
+    Job(String),
     /// It does not end with the last line of its plans, within 4 MiB.
     Unended,
 }
 
 /// Why no front is read.
-#[derive(Clone, Copy)]
+#[derive(Drop)]
 pub enum FrontError {
     Fault(FrontFault),
     /// The reader failed, or out of memory.
@@ -107,7 +105,7 @@ fn have_ended(switch: bool, ended: Option<usize>) -> bool
 
 /// Returns the plans of a front that is all of a job before its records.
 fn plans_of(alloc: Global, switch: bool, front: &[u8]) -> Result<JobPlans, FrontError>
-    ensures { spec.IsFrontOf (job_of switch front.now) result }
+    ensures { spec.IsFrontOf switch front.now result }
 {
     match read_job(alloc, switch, front) {
         Ok(CheckedJob { plans, rest }) => {
@@ -118,7 +116,10 @@ fn plans_of(alloc: Global, switch: bool, front: &[u8]) -> Result<JobPlans, Front
             drop(plans);
             Err(FrontError::Fault(FrontFault::Unended))
         }
-        Err(JobReadError::Fault(fault)) => Err(FrontError::Fault(FrontFault::Job(fault))),
+        Err(JobReadError::Fault(fault)) => match fault_line(alloc, front, fault) {
+            Ok(line) => Err(FrontError::Fault(FrontFault::Job(line))),
+            Err(_) => Err(FrontError::Stopped(Halt::Memory)),
+        },
         Err(JobReadError::Memory) => Err(FrontError::Stopped(Halt::Memory)),
     }
 }
@@ -155,8 +156,17 @@ pub fn report_front<E: Sink>(faults: &mut E, error: FrontError) -> u8
     ensures status { result ≡ (spec.front_outcome error).status }
 {
     match error {
-        FrontError::Fault(FrontFault::Job(fault)) => report_fault(fault, faults),
-        FrontError::Fault(FrontFault::Unended) => report_refusal(faults, "front", &[]),
+        FrontError::Fault(FrontFault::Job(line)) => {
+            report_text(faults, line.as_str());
+            1
+        }
+        FrontError::Fault(FrontFault::Unended) => {
+            report_text(
+                faults,
+                "front: the last plan has no line end within 4 MiB: ( cat DESCRIPTION PLAN; FEEDER ) | tsair\n",
+            );
+            1
+        }
         FrontError::Stopped(halt) => report_halt(faults, halt),
     }
 }
