@@ -1,12 +1,16 @@
 -- A page of the plan in a job.
-use Rattle.std.specs.Prelude.{◌≡◌, ℕ, Bool, false, List, [], ◌∷◌, Result, Ok, Err, String, codes, string_bytes, ⊤}
+use Rattle.std.specs.Prelude.{◌≡◌, ◌⊎◌, ℕ, Bool, false, List, [], ◌∷◌, Result, Ok, Err, String, codes, string_bytes, ⊤}
 use Rattle.std.specs.Str.{bytes_eq}
 use Rattle.clap.specs.Words.{Text}
 use Rattle.checked_jobs.specs.Jobs.{JobFaultView, JobView, job_of}
-use Rattle.checked_jobs.specs.JobFaults.{fault_line, fault_view}
+use Rattle.checked_jobs.specs.JobFaults.{fault_view}
 use Rattle.checked_jobs.specs.declared.job_fault.JobReadError.{JobReadError}
 use Rattle.checked_jobs.specs.declared.job_fault.JobReadError.TheVariants.{Fault, Memory}
-use Rattle.devices.specs.Outcomes.{Outcome, printed, reported}
+use Rattle.devices.specs.Devices.{Device}
+use Rattle.devices.specs.Lines.{Reports}
+use Rattle.devices.specs.Outcomes.{Outcome, halt_line, printed, reported}
+use Rattle.devices.specs.declared.halt.Halt.TheVariants.{Memory as NoMemory}
+use Rattle.explained_jobs.specs.FaultLines.{IsFaultLine}
 use Rattle.plan_page.specs.PageText.{page_text}
 
 -- the word alone
@@ -28,10 +32,20 @@ IsPlanPage wanted (Ok text) = IsPageOf wanted (string_bytes text)
 IsPlanPage wanted (Err (Fault f)) = Err (fault_view f) ≡ wanted
 IsPlanPage wanted (Err Memory) = ⊤
 
+-- the line of a fault was reported, with the status 1; or there was no memory for it
+pub record ReportsFault (bytes : List ℕ) (fault : JobFaultView) (faults : Device) (status : ℕ) : Type 0 where
+  pub line : List ℕ
+  pub said : IsFaultLine bytes fault line
+  pub reports : Reports faults line
+  pub status_is : status ≡ 1
+
+abbrev pub ReportsLine : List ℕ → JobFaultView → Device → ℕ → Type 0
+ReportsLine bytes fault faults status = ReportsFault bytes fault faults status ⊎ (Reports faults (halt_line NoMemory) × (status ≡ 3))
+
 -- the page, and the status 0; or the line of the first fault, and the status 1
-unfoldable pub plan_outcome : Result JobView JobFaultView → Outcome
-plan_outcome (Ok job) = printed (job_page job) 0
-plan_outcome (Err fault) = reported (fault_line fault)
+abbrev pub IsOutcome : List ℕ → Result JobView JobFaultView → Outcome → Type 0
+IsOutcome bytes (Ok job) outcome = outcome ≡ printed (job_page job) 0
+IsOutcome bytes (Err fault) outcome = (line : List ℕ) × IsFaultLine bytes fault line × (outcome ≡ reported line)
 
 abbrev pub DrawsPlan : List ℕ → Outcome → Type 0
-DrawsPlan bytes outcome = outcome ≡ plan_outcome (job_of false bytes)
+DrawsPlan bytes outcome = IsOutcome bytes (job_of false bytes) outcome

@@ -3,12 +3,13 @@ ghost use Rattle.std.specs.Prelude.{◌≡◌, ℕ, List, IfOk, false, map, stri
 ghost use Rattle.devices.specs.Devices.{reads, writes};
 ghost use Rattle.devices.specs.Runs.{Performs};
 ghost use Rattle.checked_jobs.specs.Jobs.{job_of};
-ghost use Rattle.checked_jobs.specs.JobFaults.{plans_view};
+ghost use Rattle.checked_jobs.specs.JobFaults.{fault_view, plans_view};
 ghost use Rattle.tsview_cli.specs.PlanDrawing as spec;
 
-use checked_jobs::{CheckedJob, JobPlans, JobReadError, read_job, report_fault};
+use checked_jobs::{CheckedJob, JobFault, JobPlans, JobReadError, read_job};
 use counted_io::{Sink, Source};
-use devices::{Halt, read_whole, report_halt, write_text};
+use devices::{Halt, read_whole, report_halt, report_text, write_text};
+use explained_jobs::fault_line;
 use plan_page::write_plan_page;
 use std::alloc::{AllocError, Global};
 
@@ -49,6 +50,19 @@ fn drawn(alloc: Global, bytes: &[u8]) -> Result<String, JobReadError>
     }
 }
 
+// Reports the line of a fault of a job, and returns the status.
+fn report_line<E: Sink>(alloc: Global, bytes: &[u8], fault: JobFault, faults: &mut E) -> u8
+    ensures { spec.ReportsLine bytes.now (fault_view fault) (writes E.Sink faults.old faults.new) result }
+{
+    match fault_line(alloc, bytes, fault) {
+        Ok(line) => {
+            report_text(faults, line.as_str());
+            1
+        }
+        Err(_) => report_halt(faults, Halt::Memory),
+    }
+}
+
 /// Writes the page of the plan in the input, or why it is no plan that serves; and returns the status.
 #[tactic(auto, using(crate::proofs::PlanDrawings::page_written, crate::proofs::PlanDrawings::page_unwritten, crate::proofs::PlanDrawings::fault_reported, crate::proofs::PlanDrawings::no_memory_left))]
 pub(crate) fn draw_plan<R: Source, W: Sink, E: Sink>(
@@ -69,7 +83,7 @@ pub(crate) fn draw_plan<R: Source, W: Sink, E: Sink>(
             Ok(()) => 0,
             Err(halt) => report_halt(faults, halt),
         },
-        Err(JobReadError::Fault(fault)) => report_fault(fault, faults),
+        Err(JobReadError::Fault(fault)) => report_line(alloc, &bytes, fault, faults),
         Err(JobReadError::Memory) => report_halt(faults, Halt::Memory),
     }
 }

@@ -17,4 +17,5 @@ returns-in-Ok-drawn g c =
 pub returns-in-Err-Fault : goal.returns-in-Err-Fault
 returns-in-Err-Fault g c =
     fault_reported c.in-Ok.bytes.items (fault_view c.in-Err-Fault.fault) _ _ _ _ c.in-Ok.ensures
-    (rw c.deref.ensures.value at (rw c.in-Err-Fault.field-0-is at c.in-Err-Fault.ensures)) refl c.report_fault.ensures.report c.report_fault.ensures.status
+    (rw c.deref.ensures.value at (rw c.in-Err-Fault.field-0-is at c.in-Err-Fault.ensures)) refl
+    (rw c.deref-in-Err-Fault.ensures.value at c.report_line.ensures)
