@@ -1,7 +1,6 @@
 -- The streams of a description, and a stream that follows the description.
 use Rattle.std.proofs.Common.{◌≡◌, ◌∙◌, ◌<◌, ◌≤◌, ◌+◌, ◌++◌, ℕ, List, [], ◌∷◌, length, drop, get_or, Option, Some, None, true, Result, Ok, Err, refl, sym, ap}
 use Rattle.std.proofs.Common.{subst, add-one, inl, inr, arith}
-use Rattle.std.specs.Prelude.{codes}
 use Rattle.std.proofs.Math.Seq.{drop-cons}
 use Rattle.std.proofs.lemmas.List.{append_assoc, append-nil, drop_all}
 use Rattle.clap.specs.Words.{Text}
@@ -9,9 +8,7 @@ use Rattle.description_parts.specs.Described.{Described, DescribedStream}
 use Rattle.fed_streams.specs.Feeding.{FedStreamView}
 use Rattle.devices.specs.Devices.{Device, HasFailed, IsUntouched, Port}
 use Rattle.devices.specs.Files.{Files, IsOpened}
-use Rattle.devices.specs.Lines.{Reports, line_text}
-use Rattle.description_keys.specs.Codes.{fault_code, fault_item}
-use Rattle.description_keys.specs.declared.fault.DescFault.{DescFault}
+use Rattle.devices.specs.Lines.{Reports}
 use Rattle.devices.specs.Outcomes.{halt_line}
 use Rattle.devices.specs.WholeInput.{IsWhole, ReadsInput}
 use Rattle.devices.specs.declared.halt.Halt.{Halt}
@@ -21,7 +18,7 @@ use Rattle.description_parts.specs.Ranges.{IsInRange}
 use Rattle.job_run.specs.JobArguments.{JobArgumentsView}
 use Rattle.job_programs.specs.JobOptions.{JobOptionsView}
 use Rattle.job_run.specs.Outcomes.{PerformsJob}
-use Rattle.tsjob_cli.specs.StreamedUnits.{IsDescriptionIn, IsNamedDescription, StreamsUnits, fed_stream, none_outcome, refused_line, streams_from}
+use Rattle.tsjob_cli.specs.StreamedUnits.{IsDescriptionIn, IsNamedDescription, StreamsUnits, fed_stream, none_outcome, streams_from}
 use Rattle.tsjob_cli.specs.declared.streaming.NoDescription.{NoDescription}
 use Rattle.tsjob_cli.specs.declared.streaming.NoDescription.TheVariants.{Unopened, Stopped, Refused}
 
@@ -122,11 +119,3 @@ not_and_named name asked e f = let both : None ≡ Some name = e ∙ f in absurd
 -- A description has at most 256 streams, so 8 bits number them.
 pub few_streams : (d : Described) (streams : List DescribedStream) → streams ≡ d.streams → IsInRange d → length streams ≤ 256
 few_streams d streams e r = let size : length streams ≡ length d.streams = ap (length {A = DescribedStream}) e in omega (arith, size, r.most_streams)
-
--- The line of a refusal, by its two numbers
-pub refused_reported : (faults : Device) (f : DescFault) (code item : ℕ) → code ≡ fault_code f → item ≡ fault_item f →
-    Reports faults (line_text (codes "description") (code ∷ item ∷ [])) →
-    Reports faults (refused_line f)
-refused_reported faults f code item c i r =
-    subst (λ (n : ℕ). Reports faults (line_text (codes "description") (n ∷ fault_item f ∷ []))) c
-    (subst (λ (n : ℕ). Reports faults (line_text (codes "description") (code ∷ n ∷ []))) i r)

@@ -1,5 +1,5 @@
 -- The units of the streams of a description, while a stream comes.
-use Rattle.std.specs.Prelude.{◌≡◌, ◌⊎◌, ℕ, ◌+◌, ◌==◌, List, [], ◌∷◌, filter, map, None, Result, Ok, Err, codes, ⊤, Bool, if◌then◌else◌}
+use Rattle.std.specs.Prelude.{◌≡◌, ◌⊎◌, ℕ, ◌+◌, ◌==◌, List, [], ◌∷◌, filter, map, None, Result, Ok, Err, codes, ⊤, Bool, if◌then◌else◌, string_bytes}
 use Rattle.description_parts.specs.Described.{Described, DescribedProgram, DescribedStream}
 use Rattle.description_keys.specs.declared.fault.DescError.TheVariants as refused_by
 pub use Rattle.es_feed.specs.EachStream.{fed_stream}
@@ -7,8 +7,7 @@ use Rattle.fed_streams.specs.Feeding.{FeedView, FedStreamView, feed_first}
 use Rattle.fed_streams.specs.Maps.{MapView}
 use Rattle.fed_streams.specs.declared.fed_map.NamedStream.{NamedStream}
 use Rattle.es_records.specs.Passing.{RunsStream}
-use Rattle.checked_jobs.specs.Jobs.{described}
-use Rattle.description_keys.specs.Codes.{fault_code, fault_item}
+use Rattle.checked_jobs.specs.Jobs.{BadDescription, described}
 use Rattle.description_keys.specs.declared.fault.DescFault.{DescFault}
 use Rattle.devices.specs.Devices.{Device, IsUntouched}
 use Rattle.devices.specs.Files.{Files, IsUnopened, IsUnread}
@@ -20,6 +19,7 @@ use Rattle.given_marks.specs.Marking.{MarkingView}
 use Rattle.given_marks.specs.declared.marking.TypedPid.{TypedPid}
 use Rattle.job_programs.specs.JobOptions.{JobOptionsView}
 use Rattle.named_files.specs.ReadFiles.{HasBytes}
+use Rattle.explained_jobs.specs.FaultLines.{IsFaultLine}
 use Rattle.tsjob_cli.specs.declared.streaming.NoDescription.{NoDescription}
 use Rattle.tsjob_cli.specs.declared.streaming.NoDescription.TheVariants.{Unopened, Stopped, Refused}
 
@@ -67,11 +67,17 @@ pids_of d = map (λ s. s.pid) d.streams
 
 -- 2. The description in a file with these bytes
 
+-- the line of its fault
+pub record IsRefusedAs (text line : List ℕ) : Type 0 where
+  pub fault : DescFault
+  pub is : described text ≡ Err (refused_by.Refused fault)
+  pub said : IsFaultLine text (BadDescription fault) line
+
 abbrev pub IsDescriptionIn : List ℕ → Result Described NoDescription → Type 0
 IsDescriptionIn text (Ok d) = described text ≡ Ok d
 IsDescriptionIn text (Err Unopened) = ⊥
 IsDescriptionIn text (Err (Stopped halt)) = halt ≡ Memory
-IsDescriptionIn text (Err (Refused f)) = described text ≡ Err (refused_by.Refused f)
+IsDescriptionIn text (Err (Refused line)) = IsRefusedAs text (string_bytes line)
 
 -- the description in the file of a name: the file has a text, its own bytes if these are known, and this is the description in it, or it is refused
 abbrev pub IsNamedDescription : Files → List ℕ → Result Described NoDescription → Type 0
@@ -80,16 +86,12 @@ IsNamedDescription files name (Err Unopened) = IsUnopened files name
 IsNamedDescription files name (Err (Stopped Read)) = IsUnread files name
 IsNamedDescription files name (Err (Stopped Write)) = ⊥
 IsNamedDescription files name (Err (Stopped Memory)) = ⊤
-IsNamedDescription files name (Err (Refused f)) = (text : List ℕ) × (HasBytes files name text × (described text ≡ Err (refused_by.Refused f)))
-
--- the line for a refused description
-abbrev pub refused_line : DescFault → List ℕ
-refused_line f = line_text (codes "description") (fault_code f ∷ fault_item f ∷ [])
+IsNamedDescription files name (Err (Refused line)) = (text : List ℕ) × (HasBytes files name text × IsRefusedAs text (string_bytes line))
 
 unfoldable pub none_outcome : NoDescription → Outcome
 none_outcome Unopened = record { output = []; report = line_text (codes "open") []; status = 3 }
 none_outcome (Stopped halt) = halted halt
-none_outcome (Refused f) = reported (refused_line f)
+none_outcome (Refused line) = reported (string_bytes line)
 
 -- 3. The run
 

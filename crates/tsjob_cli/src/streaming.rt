@@ -6,14 +6,15 @@ ghost use Rattle.devices.specs.Files.{files_of};
 ghost use Rattle.devices.specs.Lines.{Reports};
 ghost use Rattle.tsjob_cli.specs.StreamedUnits as spec;
 
-use checked_jobs::read_description;
+use checked_jobs::{JobFault, read_description};
 use counted_io::{Sink, Source};
 use description::Description;
-use description_keys::{DescError, DescFault};
+use description_keys::DescError;
 use description_parts::{ProgramDescription, StreamDescription};
-use devices::{Halt, NamedFiles, read_whole, report_halt, report_line};
+use devices::{Halt, NamedFiles, read_whole, report_halt, report_line, report_text};
 use es_feed::UnitFeed;
 use es_records::pass_stream;
+use explained_jobs::fault_line;
 use fed_streams::{FedMap, FedStream, NamedStream};
 use given_marks::{Marking, TypedPid};
 use job_programs::JobOptions;
@@ -26,14 +27,14 @@ const EARLIEST: u64 = 270_000;
 pub(crate) const STREAM_TERMINAL: &str = "standard output is a terminal: name a file by > FILE\n";
 
 /// Why no description is had of a file.
-#[derive(Clone, Copy)]
+#[derive(Drop)]
 pub(crate) enum NoDescription {
     /// No file of this name can be opened.
     Unopened,
     /// It can't be read, or out of memory.
     Stopped(Halt),
-    /// The description is refused.
-    Refused(DescFault),
+    /// The description is refused: the line of its fault.
+    Refused(String),
 }
 
 // Adds the stream of a number and a PID, before its first unit.
@@ -201,7 +202,12 @@ fn description_in(alloc: Global, text: &[u8]) -> Result<Description, NoDescripti
 {
     match read_description(alloc, text) {
         Ok(description) => Ok(description),
-        Err(DescError::Refused(fault)) => Err(NoDescription::Refused(fault)),
+        Err(DescError::Refused(fault)) => {
+            match fault_line(alloc, text, JobFault::Description(fault)) {
+                Ok(line) => Err(NoDescription::Refused(line)),
+                Err(_) => Err(NoDescription::Stopped(Halt::Memory)),
+            }
+        }
         Err(DescError::Memory) => Err(NoDescription::Stopped(Halt::Memory)),
     }
 }
@@ -225,14 +231,6 @@ fn named_description<F: NamedFiles>(
     }
 }
 
-// Reports that a description is refused.
-fn report_refused<E: Sink>(faults: &mut E, fault: DescFault)
-    ensures { Reports (writes E.Sink faults.old faults.new) (spec.refused_line fault) }
-{
-    let numbers = [fault.code() as u128, fault.item() as u128];
-    report_line(faults, "description", &numbers);
-}
-
 // Reports why no description is had, and returns the status.
 #[tactic(auto, unfolding(crate::specs::StreamedUnits::none_outcome))]
 fn report_none<E: Sink>(faults: &mut E, why: NoDescription) -> u8
@@ -245,8 +243,8 @@ fn report_none<E: Sink>(faults: &mut E, why: NoDescription) -> u8
             3
         }
         NoDescription::Stopped(halt) => report_halt(faults, halt),
-        NoDescription::Refused(fault) => {
-            report_refused(faults, fault);
+        NoDescription::Refused(line) => {
+            report_text(faults, line.as_str());
             1
         }
     }
