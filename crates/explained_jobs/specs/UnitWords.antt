@@ -1,39 +1,55 @@
 -- Why a unit is refused, in words: the unit, its stream, the limit that it breaks and what it would need.
-use Rattle.std.specs.Prelude.{ℕ, ◌+◌, ◌-◌, List, [], ◌++◌, length, Option, Some, None, codes, decimal, nat_lt, slice_get, if◌then◌else◌}
+use Rattle.std.specs.Prelude.{ℕ, ◌-◌, List, [], ◌++◌, Option, Some, None, codes, decimal, nat_lt, option_map, slice_get, if◌then◌else◌}
 use Rattle.description_parts.specs.Described.{Described, DescribedStream}
 use Rattle.pes_packet.specs.AccessUnits.{AccessUnit}
-use Rattle.pes_packet.specs.Marks.{marks_size}
 use Rattle.unit_timing.specs.declared.allowance.Allowance.{Allowance}
 use Rattle.unit_timing.specs.declared.allowance.Allowance.TheVariants as allowed
+use Rattle.unit_queue.specs.Codes.{feed_code}
 use Rattle.unit_queue.specs.declared.refusal.FeedError.{FeedError}
 use Rattle.unit_queue.specs.declared.refusal.FeedError.TheVariants.{UnknownStream, Empty, TooLarge, TooSoon, BadPts, Late, TooFar, Full, Group, Pace}
+use Rattle.on_air.specs.Airing.{refused_unit}
+use Rattle.on_air.specs.declared.refusals.AirRefusal.{AirRefusal}
+use Rattle.on_air.specs.declared.refusals.AirRefusal.TheVariants.{Feed, Ahead, Followed}
+use Rattle.on_air.specs.declared.refusals.FarRecord.{FarRecord}
+use Rattle.on_air.specs.declared.refusals.RefusedUnit.{RefusedUnit}
+use Rattle.explained_jobs.specs.declared.unit_limits.UnitLimits.{UnitLimits}
 
 -- 1. The limit
+
+-- what a stream declares of its units
+abbrev pub limits_of : DescribedStream → UnitLimits
+limits_of s = record { pid = s.pid; size = s.size; interval = s.interval; lead = s.lead; pts_limit = s.pts_limit; allowance = s.allowance }
 
 -- the value of a key, and the value that the unit needs
 unfoldable pub less_words : List ℕ → ℕ → ℕ → List ℕ
 less_words key limit needed = key ++ codes " " ++ decimal limit ++ codes " is less than " ++ decimal needed ++ codes "\n"
 
--- the unit's bytes, with the bytes that its marks take in a header
-abbrev pub size_words : DescribedStream → AccessUnit → List ℕ
-size_words s u = less_words (codes "size") s.size (length u.bytes + marks_size u.marks)
+abbrev pub size_words : UnitLimits → RefusedUnit → List ℕ
+size_words l u = less_words (codes "size") l.size u.size
 
 -- the words for a PTS that is before its DTS
 unfoldable pub early_words : ℕ → List ℕ
 early_words pts = codes "PTS " ++ decimal pts ++ codes " is before its DTS\n"
 
-abbrev pub far_words : DescribedStream → AccessUnit → List ℕ
-far_words s u = less_words (codes "pts_limit") s.pts_limit (u.pts - u.dts)
+abbrev pub far_words : UnitLimits → RefusedUnit → List ℕ
+far_words l u = less_words (codes "pts_limit") l.pts_limit (u.pts - u.dts)
 
-unfoldable pub pts_words : DescribedStream → AccessUnit → List ℕ
-pts_words s u = if nat_lt u.pts u.dts then early_words u.pts else far_words s u
+unfoldable pub pts_words : UnitLimits → RefusedUnit → List ℕ
+pts_words l u = if nat_lt u.pts u.dts then early_words u.pts else far_words l u
 
 -- the words for a unit that comes too soon
-unfoldable pub soon_words : DescribedStream → List ℕ
-soon_words s = codes "less than interval " ++ decimal s.interval ++ codes " after the unit before it\n"
+unfoldable pub soon_words : UnitLimits → List ℕ
+soon_words l = codes "less than interval " ++ decimal l.interval ++ codes " after the unit before it\n"
 
-unfoldable pub late_words : ℕ → ℕ → List ℕ
-late_words lead dts = codes "lead " ++ decimal lead ++ codes " is greater than DTS " ++ decimal dts ++ codes "\n"
+-- the words for a unit whose lead begins before the run, and for one that comes when its slots may be written
+unfoldable pub begun_words : ℕ → ℕ → List ℕ
+begun_words lead dts = codes "lead " ++ decimal lead ++ codes " is greater than DTS " ++ decimal dts ++ codes "\n"
+
+unfoldable pub written_words : ℕ → List ℕ
+written_words lead = codes "slots of its lead " ++ decimal lead ++ codes " are already written: it comes too late for --wait\n"
+
+unfoldable pub late_words : UnitLimits → RefusedUnit → List ℕ
+late_words l u = if nat_lt u.dts l.lead then begun_words l.lead u.dts else written_words l.lead
 
 -- the unit's packets, with the packets of the units before it
 unfoldable pub packets_words : Allowance → List ℕ
@@ -43,37 +59,62 @@ packets_words (allowed.Pace burst pace) =
     codes "burst_packets " ++ decimal burst ++ codes " and pace " ++ decimal pace ++ codes " are less than the packets of units in a row\n"
 
 -- the fault of a unit of a stream
-unfoldable pub cause_words : FeedError → DescribedStream → AccessUnit → List ℕ
-cause_words UnknownStream s u = codes "no stream has this number\n"
-cause_words Empty s u = codes "no bytes\n"
-cause_words TooLarge s u = size_words s u
-cause_words TooSoon s u = soon_words s
-cause_words BadPts s u = pts_words s u
-cause_words Late s u = late_words s.lead u.dts
-cause_words TooFar s u = codes "DTS over 4503599627370496\n"
-cause_words Full s u = codes "more than 1048576 units of its stream\n"
-cause_words Group s u = packets_words s.allowance
-cause_words Pace s u = packets_words s.allowance
+unfoldable pub cause_words : FeedError → UnitLimits → RefusedUnit → List ℕ
+cause_words UnknownStream l u = codes "no stream has this number\n"
+cause_words Empty l u = codes "no bytes\n"
+cause_words TooLarge l u = size_words l u
+cause_words TooSoon l u = soon_words l
+cause_words BadPts l u = pts_words l u
+cause_words Late l u = late_words l u
+cause_words TooFar l u = codes "DTS over 4503599627370496\n"
+cause_words Full l u = codes "no room for one more waiting unit of its stream: --room, at most 1048576\n"
+cause_words Group l u = packets_words l.allowance
+cause_words Pace l u = packets_words l.allowance
 
 -- 2. The unit
 
--- its index among all records, the number of its stream, the stream's PID, and its DTS
-unfoldable pub unit_head : ℕ → ℕ → ℕ → ℕ → List ℕ
-unit_head index k pid dts =
-    codes "unit " ++ decimal index ++ codes " (stream " ++ decimal k ++ codes ", pid " ++ decimal pid ++ codes ", DTS " ++ decimal dts ++ codes "): "
+-- its index among all records, the number of its refusal, the PID and the number of its stream, and its DTS
+unfoldable pub unit_head : ℕ → ℕ → ℕ → ℕ → ℕ → List ℕ
+unit_head index code pid k dts =
+    codes "unit " ++ decimal index ++ codes " (code " ++ decimal code ++ codes "): pid " ++ decimal pid ++ codes ", stream " ++ decimal k
+    ++ codes ", DTS " ++ decimal dts ++ codes ": "
 
-unfoldable pub unknown_words : ℕ → ℕ → List ℕ
-unknown_words index k = codes "unit " ++ decimal index ++ codes ": the description has no stream " ++ decimal k ++ codes "\n"
+unfoldable pub unknown_words : ℕ → ℕ → ℕ → List ℕ
+unknown_words index code k = codes "unit " ++ decimal index ++ codes " (code " ++ decimal code ++ codes "): the description has no stream " ++ decimal k ++ codes "\n"
 
 -- the words for a unit of the stream with its number, if that stream exists
-unfoldable pub stream_words : ℕ → FeedError → ℕ × AccessUnit → Option DescribedStream → List ℕ
-stream_words index cause entry None = unknown_words index entry.0
-stream_words index cause entry (Some s) = unit_head index entry.0 s.pid entry.1.dts ++ cause_words cause s entry.1
+unfoldable pub stream_words : ℕ → RefusedUnit → Option UnitLimits → List ℕ
+stream_words index u None = unknown_words index (feed_code u.cause) u.stream
+stream_words index u (Some l) = unit_head index (feed_code u.cause) l.pid u.stream u.dts ++ cause_words u.cause l u
 
 unfoldable pub entry_words : Described → ℕ → FeedError → Option (ℕ × AccessUnit) → List ℕ
 entry_words d index cause None = []
-entry_words d index cause (Some entry) = stream_words index cause entry (slice_get d.streams entry.0)
+entry_words d index cause (Some entry) = stream_words index (refused_unit entry cause) (option_map limits_of (slice_get d.streams entry.0))
 
 -- the unit of an index is refused for this cause
 abbrev pub refused_words : Described → List (ℕ × AccessUnit) → ℕ → FeedError → List ℕ
 refused_words d units index cause = entry_words d index cause (slice_get units index)
+
+-- 3. On air
+
+-- a record that is too far ahead, of a stream, or of none, as a tick
+unfoldable pub tick_head : ℕ → ℕ → ℕ → List ℕ
+tick_head index k dts = codes "unit " ++ decimal index ++ codes " (code 11): stream " ++ decimal k ++ codes ", DTS " ++ decimal dts ++ codes ": "
+
+unfoldable pub far_head : ℕ → FarRecord → Option UnitLimits → List ℕ
+far_head index far None = tick_head index far.stream far.to
+far_head index far (Some l) = unit_head index 11 l.pid far.stream far.to
+
+unfoldable pub ahead_words : ℕ → ℕ → List ℕ
+ahead_words ahead from = codes "more than --ahead " ++ decimal ahead ++ codes " after DTS " ++ decimal from ++ codes ", the greatest before it\n"
+
+-- a record that the run follows in spite of a leap: its index, the number of packets before it, and the DTS before and after the leap
+unfoldable pub leap_line : ℕ → ℕ → ℕ → ℕ → List ℕ
+leap_line index packet from to =
+    codes "leap " ++ decimal index ++ codes " " ++ decimal packet ++ codes " " ++ decimal from ++ codes " " ++ decimal to ++ codes "\n"
+
+-- the line for a refused record, by what the streams declare
+unfoldable pub air_line : List UnitLimits → ℕ → AirRefusal → List ℕ
+air_line streams index (Feed u) = stream_words index u (slice_get streams u.stream)
+air_line streams index (Ahead far) = far_head index far (slice_get streams far.stream) ++ ahead_words far.ahead far.from
+air_line streams index (Followed packet from to) = leap_line index packet from to

@@ -2,15 +2,20 @@
 //!
 //! `explaining` reports the first fault (`specs/JobWords`): the crate `diagnosis` has the words for a description and a
 //! plan; `fault_words` for a second plan that may not follow the first, and for bytes that are no record; `unit_words`
-//! for a refused unit (`specs/UnitWords`). `whole_jobs` reads a job in memory, and finds the first refused unit by the
-//! multiplexer. `fault_lines` has the line of a fault that a program has found (`specs/FaultLines`).
+//! for a refused unit or record on air (`specs/UnitWords`), by what its stream declares (`unit_limits`). `whole_jobs`
+//! reads a job in memory, and finds the first refused unit by the multiplexer. `fault_lines` has the line of a fault
+//! that a program has found (`specs/FaultLines`).
 #![tactic(auto)]
 
 mod explaining;
 mod fault_lines;
 mod fault_words;
+mod unit_limits;
 mod unit_words;
 mod whole_jobs;
 
 pub use explaining::explain_job;
 pub use fault_lines::fault_line;
+pub use unit_limits::{UnitLimits, stream_limits};
+pub use unit_words::write_air;
+pub use whole_jobs::description_of;

@@ -1,10 +1,11 @@
 //! Why a unit is refused, in words.
 
-ghost use Rattle.std.specs.Prelude.{◌≡◌, ◌≤◌, ◌++◌, OnOk, option_map, string_bytes};
+ghost use Rattle.std.specs.Prelude.{◌≡◌, ◌≤◌, ◌++◌, OnOk, string_bytes};
 ghost use Rattle.explained_jobs.specs.UnitWords as spec;
 
+use crate::unit_limits::{UnitLimits, declared_limits, limits_at};
 use description::Description;
-use description_parts::StreamDescription;
+use on_air::{AirRefusal, FarRecord, RefusedUnit, refused_unit};
 use pes_packet::Unit;
 use std::alloc::AllocError;
 use std::fmt::Write;
@@ -19,11 +20,10 @@ fn write_less(key: &str, limit: u64, needed: u64, text: &mut String) -> Result<(
 }
 
 // Appends the size that a unit needs.
-fn write_size(stream: &StreamDescription, unit: &Unit, text: &mut String) -> Result<(), AllocError>
-    ensures { OnOk result (string_bytes text.new ≡ string_bytes text.old ++ spec.size_words stream.now unit.now) }
+fn write_size(limits: UnitLimits, unit: RefusedUnit, text: &mut String) -> Result<(), AllocError>
+    ensures { OnOk result (string_bytes text.new ≡ string_bytes text.old ++ spec.size_words limits unit) }
 {
-    let needed = unit.bytes.len() + unit.marks.size();
-    write_less("size", u64::from(stream.size), needed as u64, text)
+    write_less("size", u64::from(limits.size), unit.size, text)
 }
 
 // Appends a PTS before the DTS.
@@ -34,31 +34,31 @@ fn write_early(pts: u64, text: &mut String) -> Result<(), AllocError>
 }
 
 // Appends the limit that a PTS needs.
-fn write_far(stream: &StreamDescription, unit: &Unit, text: &mut String) -> Result<(), AllocError>
-    requires { unit.now.dts ≤ unit.now.pts }
-    ensures { OnOk result (string_bytes text.new ≡ string_bytes text.old ++ spec.far_words stream.now unit.now) }
+fn write_far(limits: UnitLimits, unit: RefusedUnit, text: &mut String) -> Result<(), AllocError>
+    requires { unit.dts ≤ unit.pts }
+    ensures { OnOk result (string_bytes text.new ≡ string_bytes text.old ++ spec.far_words limits unit) }
 {
     let needed = unit.pts - unit.dts;
-    write_less("pts_limit", u64::from(stream.pts_limit), needed, text)
+    write_less("pts_limit", u64::from(limits.pts_limit), needed, text)
 }
 
 // Appends why a PTS is refused.
 #[tactic(auto, unfolding(crate::specs::UnitWords::pts_words))]
-fn write_pts(stream: &StreamDescription, unit: &Unit, text: &mut String) -> Result<(), AllocError>
-    ensures { OnOk result (string_bytes text.new ≡ string_bytes text.old ++ spec.pts_words stream.now unit.now) }
+fn write_pts(limits: UnitLimits, unit: RefusedUnit, text: &mut String) -> Result<(), AllocError>
+    ensures { OnOk result (string_bytes text.new ≡ string_bytes text.old ++ spec.pts_words limits unit) }
 {
     if unit.pts < unit.dts {
         write_early(unit.pts, text)
     } else {
-        write_far(stream, unit, text)
+        write_far(limits, unit, text)
     }
 }
 
 // Appends the interval that a unit does not keep.
-fn write_soon(stream: &StreamDescription, text: &mut String) -> Result<(), AllocError>
-    ensures { OnOk result (string_bytes text.new ≡ string_bytes text.old ++ spec.soon_words stream.now) }
+fn write_soon(limits: UnitLimits, text: &mut String) -> Result<(), AllocError>
+    ensures { OnOk result (string_bytes text.new ≡ string_bytes text.old ++ spec.soon_words limits) }
 {
-    let interval = stream.interval;
+    let interval = limits.interval;
     write!(
         text,
         "less than interval {interval} after the unit before it\n"
@@ -66,10 +66,32 @@ fn write_soon(stream: &StreamDescription, text: &mut String) -> Result<(), Alloc
 }
 
 // Appends the lead that begins before the run.
-fn write_late(lead: u32, dts: u64, text: &mut String) -> Result<(), AllocError>
-    ensures { OnOk result (string_bytes text.new ≡ string_bytes text.old ++ spec.late_words lead dts) }
+fn write_begun(lead: u32, dts: u64, text: &mut String) -> Result<(), AllocError>
+    ensures { OnOk result (string_bytes text.new ≡ string_bytes text.old ++ spec.begun_words lead dts) }
 {
     write!(text, "lead {lead} is greater than DTS {dts}\n")
+}
+
+// Appends that slots of a unit are written.
+fn write_written(lead: u32, text: &mut String) -> Result<(), AllocError>
+    ensures { OnOk result (string_bytes text.new ≡ string_bytes text.old ++ spec.written_words lead) }
+{
+    write!(
+        text,
+        "slots of its lead {lead} are already written: it comes too late for --wait\n"
+    )
+}
+
+// Appends why a unit is late.
+#[tactic(auto, unfolding(crate::specs::UnitWords::late_words))]
+fn write_late(limits: UnitLimits, unit: RefusedUnit, text: &mut String) -> Result<(), AllocError>
+    ensures { OnOk result (string_bytes text.new ≡ string_bytes text.old ++ spec.late_words limits unit) }
+{
+    if unit.dts < u64::from(limits.lead) {
+        write_begun(limits.lead, unit.dts, text)
+    } else {
+        write_written(limits.lead, text)
+    }
 }
 
 // Appends how many packets units in a row may have.
@@ -93,49 +115,51 @@ fn write_packets(allowance: Allowance, text: &mut String) -> Result<(), AllocErr
 #[tactic(auto, unfolding(crate::specs::UnitWords::cause_words))]
 fn write_cause(
     cause: FeedError,
-    stream: &StreamDescription,
-    unit: &Unit,
+    limits: UnitLimits,
+    unit: RefusedUnit,
     text: &mut String,
 ) -> Result<(), AllocError>
-    ensures { OnOk result (string_bytes text.new
-        ≡ string_bytes text.old ++ spec.cause_words cause stream.now unit.now) }
+    ensures { OnOk result (string_bytes text.new ≡ string_bytes text.old ++ spec.cause_words cause limits unit) }
 {
     match cause {
         FeedError::UnknownStream => text.push_str("no stream has this number\n"),
         FeedError::Empty => text.push_str("no bytes\n"),
-        FeedError::TooLarge => write_size(stream, unit, text),
-        FeedError::TooSoon => write_soon(stream, text),
-        FeedError::BadPts => write_pts(stream, unit, text),
-        FeedError::Late => write_late(stream.lead, unit.dts, text),
+        FeedError::TooLarge => write_size(limits, unit, text),
+        FeedError::TooSoon => write_soon(limits, text),
+        FeedError::BadPts => write_pts(limits, unit, text),
+        FeedError::Late => write_late(limits, unit, text),
         FeedError::TooFar => text.push_str("DTS over 4503599627370496\n"),
-        FeedError::Full => text.push_str("more than 1048576 units of its stream\n"),
-        FeedError::Group | FeedError::Pace => write_packets(stream.allowance, text),
+        FeedError::Full => text.push_str(
+            "no room for one more waiting unit of its stream: --room, at most 1048576\n",
+        ),
+        FeedError::Group | FeedError::Pace => write_packets(limits.allowance, text),
     }
 }
 
-// Appends which unit it is.
+// Appends which unit it is, and the number of its refusal.
 fn write_head(
     index: u64,
-    number: u8,
+    code: u8,
     pid: u16,
+    number: u8,
     dts: u64,
     text: &mut String,
 ) -> Result<(), AllocError>
-    ensures { OnOk result (string_bytes text.new ≡ string_bytes text.old ++ spec.unit_head index number pid dts) }
+    ensures { OnOk result (string_bytes text.new ≡ string_bytes text.old ++ spec.unit_head index code pid number dts) }
 {
     write!(
         text,
-        "unit {index} (stream {number}, pid {pid}, DTS {dts}): "
+        "unit {index} (code {code}): pid {pid}, stream {number}, DTS {dts}: "
     )
 }
 
 // Appends that a unit is of no stream.
-fn write_unknown(index: u64, number: u8, text: &mut String) -> Result<(), AllocError>
-    ensures { OnOk result (string_bytes text.new ≡ string_bytes text.old ++ spec.unknown_words index number) }
+fn write_unknown(index: u64, code: u8, number: u8, text: &mut String) -> Result<(), AllocError>
+    ensures { OnOk result (string_bytes text.new ≡ string_bytes text.old ++ spec.unknown_words index code number) }
 {
     write!(
         text,
-        "unit {index}: the description has no stream {number}\n"
+        "unit {index} (code {code}): the description has no stream {number}\n"
     )
 }
 
@@ -143,20 +167,18 @@ fn write_unknown(index: u64, number: u8, text: &mut String) -> Result<(), AllocE
 #[tactic(auto, unfolding(crate::specs::UnitWords::stream_words))]
 fn write_unit(
     index: u64,
-    cause: FeedError,
-    number: u8,
-    unit: &Unit,
-    stream: Option<&StreamDescription>,
+    unit: RefusedUnit,
+    limits: Option<UnitLimits>,
     text: &mut String,
 ) -> Result<(), AllocError>
-    ensures { OnOk result (string_bytes text.new ≡ string_bytes text.old
-        ++ spec.stream_words index cause (number, unit.now) (option_map (λ s. s.now) stream.entry)) }
+    ensures { OnOk result (string_bytes text.new ≡ string_bytes text.old ++ spec.stream_words index unit limits) }
 {
-    match stream {
-        None => write_unknown(index, number, text),
-        Some(stream) => {
-            write_head(index, number, stream.pid, unit.dts, text)?;
-            write_cause(cause, stream, unit, text)
+    let code = unit.cause.code();
+    match limits {
+        None => write_unknown(index, code, unit.stream, text),
+        Some(limits) => {
+            write_head(index, code, limits.pid, unit.stream, unit.dts, text)?;
+            write_cause(unit.cause, limits, unit, text)
         }
     }
 }
@@ -176,8 +198,79 @@ pub fn write_refused(
     match units.get(index as usize) {
         None => Ok(()),
         Some((number, unit)) => {
-            let stream = description.streams().get(*number as usize);
-            write_unit(index, cause, *number, unit, stream, text)
+            let limits = declared_limits(description.streams(), *number);
+            write_unit(index, refused_unit(*number, unit, cause), limits, text)
         }
+    }
+}
+
+// Appends which record is too far ahead, if it is of no stream.
+fn write_tick_head(index: u64, number: u8, dts: u64, text: &mut String) -> Result<(), AllocError>
+    ensures { OnOk result (string_bytes text.new ≡ string_bytes text.old ++ spec.tick_head index number dts) }
+{
+    write!(text, "unit {index} (code 11): stream {number}, DTS {dts}: ")
+}
+
+// Appends which record is too far ahead.
+#[tactic(auto, unfolding(crate::specs::UnitWords::far_head))]
+fn write_far_head(
+    index: u64,
+    far: FarRecord,
+    limits: Option<UnitLimits>,
+    text: &mut String,
+) -> Result<(), AllocError>
+    ensures { OnOk result (string_bytes text.new ≡ string_bytes text.old ++ spec.far_head index far limits) }
+{
+    match limits {
+        None => write_tick_head(index, far.stream, far.to, text),
+        Some(limits) => write_head(index, 11, limits.pid, far.stream, far.to, text),
+    }
+}
+
+// Appends how far ahead a record may be.
+fn write_ahead(ahead: u64, from: u64, text: &mut String) -> Result<(), AllocError>
+    ensures { OnOk result (string_bytes text.new ≡ string_bytes text.old ++ spec.ahead_words ahead from) }
+{
+    write!(
+        text,
+        "more than --ahead {ahead} after DTS {from}, the greatest before it\n"
+    )
+}
+
+// Appends that a run follows a record in spite of a leap.
+fn write_leap(
+    index: u64,
+    packet: u64,
+    from: u64,
+    to: u64,
+    text: &mut String,
+) -> Result<(), AllocError>
+    ensures { OnOk result (string_bytes text.new ≡ string_bytes text.old ++ spec.leap_line index packet from to) }
+{
+    write!(text, "leap {index} {packet} {from} {to}\n")
+}
+
+/// Appends why a record is refused on air, by the limits of the streams.
+#[tactic(auto, unfolding(crate::specs::UnitWords::air_line))]
+pub fn write_air(
+    index: u64,
+    refusal: AirRefusal,
+    streams: &[UnitLimits],
+    text: &mut String,
+) -> Result<(), AllocError>
+    ensures { OnOk result (string_bytes text.new
+        ≡ string_bytes text.old ++ spec.air_line streams.now index refusal) }
+{
+    match refusal {
+        AirRefusal::Feed(unit) => {
+            let limits = limits_at(streams, unit.stream);
+            write_unit(index, unit, limits, text)
+        }
+        AirRefusal::Ahead(far) => {
+            let limits = limits_at(streams, far.stream);
+            write_far_head(index, far, limits, text)?;
+            write_ahead(far.ahead, far.from, text)
+        }
+        AirRefusal::Followed { packet, from, to } => write_leap(index, packet, from, to, text),
     }
 }

@@ -2,7 +2,6 @@
 use Rattle.std.proofs.Common.{◌≡◌, ℕ, ◌+◌, max, Bool, true, false, List, [], Option, Some, None, Result, refl, sym, ap, ◌∙◌, subst}
 use Rattle.std.specs.Prelude.{IfErr, OnOk}
 use Rattle.packet_output.specs.declared.output.OutputFault.{OutputFault}
-use Rattle.unit_queue.specs.declared.refusal.FeedError.{FeedError}
 use Rattle.description_parts.specs.Ranges.{IsInRange}
 use Rattle.plan_timing.specs.Promised.{Promised}
 use Rattle.pes_packet.specs.AccessUnits.{AccessUnit}
@@ -20,8 +19,10 @@ use Rattle.on_air.specs.declared.leap.Leap.{Leap}
 use Rattle.on_air.specs.declared.options.Terms.{Terms}
 use Rattle.on_air.specs.declared.refusals.AirRefusal.{AirRefusal}
 use Rattle.on_air.specs.declared.refusals.AirRefusal.TheVariants.{Feed, Ahead, Followed}
+use Rattle.on_air.specs.declared.refusals.FarRecord.{FarRecord}
+use Rattle.on_air.specs.declared.refusals.RefusedUnit.{RefusedUnit}
 use Rattle.on_air.specs.Airing.{Run, Air, silence, job_of, air_output, lead_of, limit_of, settled, settled_at, last_of, last_at, on_to, air_cause, accepted_by}
-use Rattle.on_air.specs.Airing.{greatest_by, is_far_from, caught_up, judged, judged_by, leap_by, leap_left, slots_followed, with_count}
+use Rattle.on_air.specs.Airing.{far_record, greatest_by, is_far_from, caught_up, judged, judged_by, leap_by, leap_left, slots_followed, with_count}
 use Rattle.on_air.specs.Leaps.{is_far, is_followed, leap_with, no_leap}
 use Rattle.on_air.specs.AirStates.{AirState, Carries, with_slots, WroteOn, Promises, Admits, IsOnAir, run_with}
 use Rattle.on_air.specs.Hearing.{Fails}
@@ -62,34 +63,42 @@ refused_by run a entry cause start now old new h moves packets greatest leap rec
 }
 
 -- The state after the multiplexer refuses a record
-pub refused_on : (run : Run) (a : Air) (entry : ℕ × AccessUnit) (cause : FeedError) (start now : Option (List ℕ)) (old new : AirState) →
+pub refused_on : (run : Run) (a : Air) (entry : ℕ × AccessUnit) (unit : RefusedUnit) (start now : Option (List ℕ)) (old new : AirState) →
     IsOnAir run a start now old → Moves old new →
     new.packets ≡ old.packets → new.greatest ≡ old.greatest → new.leap ≡ old.leap → new.records ≡ old.records + 1 →
-    Admits run a entry (Some (Feed cause)) new.mux →
-    (air_cause run a entry ≡ Some (Feed cause)) × IsOnAir run (judged run a entry) start now new
+    Admits run a entry (Some (Feed unit)) new.mux →
+    (air_cause run a entry ≡ Some (Feed unit)) × IsOnAir run (judged run a entry) start now new
 unfolding accepted_by greatest_by leap_left
-refused_on run a entry cause start now old new h moves packets greatest leap records admits = (
+refused_on run a entry unit start now old new h moves packets greatest leap records admits = (
   sym admits.cause,
   subst (λ (o : Option AirRefusal). IsOnAir run (judged_by run a entry o) start now new) admits.cause
-      (refused_by run a entry (Feed cause) start now old new h moves packets (greatest ∙ h.greatest) (leap ∙ h.leap) records admits.mux),
+      (refused_by run a entry (Feed unit) start now old new h moves packets (greatest ∙ h.greatest) (leap ∙ h.leap) records admits.mux),
 )
 
 -- A record that is too far ahead is refused as `Ahead`; the multiplexer does not change.
 not_followed : (run : Run) (a : Air) (entry : ℕ × AccessUnit) → is_far_from run a entry ≡ true → is_followed (leap_by run a entry) ≡ false →
-    air_cause run a entry ≡ Some Ahead
+    air_cause run a entry ≡ Some (Ahead (far_record run a entry))
 not_followed run a entry far few = rw (far, few) refl
 
-pub passed_over : (run : Run) (a : Air) (entry : ℕ × AccessUnit) (start now : Option (List ℕ)) (old new : AirState) → IsOnAir run a start now old →
+far_same_record : (run : Run) (a : Air) (entry : ℕ × AccessUnit) (stream from to ahead : ℕ) → stream ≡ entry.0 → from ≡ a.greatest → to ≡ entry.1.dts →
+    ahead ≡ run.terms.ahead → far_record run a entry ≡ record { stream = stream; from = from; to = to; ahead = ahead }
+far_same_record run a entry stream from to ahead s f t l = rw (s, f, t, l) refl
+
+pub passed_over : (run : Run) (a : Air) (entry : ℕ × AccessUnit) (stream from to ahead : ℕ) (start now : Option (List ℕ)) (old new : AirState) →
+    IsOnAir run a start now old →
     Moves old new →
-    is_far_from run a entry ≡ true → is_followed (leap_by run a entry) ≡ false → new.mux ≡ old.mux →
+    is_far_from run a entry ≡ true → is_followed (leap_by run a entry) ≡ false → stream ≡ entry.0 → from ≡ old.greatest → to ≡ entry.1.dts →
+    ahead ≡ old.terms.ahead → new.mux ≡ old.mux →
     new.packets ≡ old.packets → new.greatest ≡ old.greatest → new.leap ≡ leap_by run a entry → new.records ≡ old.records + 1 →
-    (air_cause run a entry ≡ Some Ahead) × IsOnAir run (judged run a entry) start now new
+    (air_cause run a entry ≡ Some (Ahead (record { stream = stream; from = from; to = to; ahead = ahead }))) × IsOnAir run (judged run a entry) start now new
 unfolding greatest_by leap_left
-passed_over run a entry start now old new h moves far few mux packets greatest leap records =
-    let cause = not_followed run a entry far few in (
+passed_over run a entry stream from to ahead start now old new h moves far few s f t l mux packets greatest leap records =
+    let same = far_same_record run a entry stream from to ahead s (f ∙ h.greatest) t (l ∙ ap (λ (x : Terms). x.ahead) h.terms) in
+    let cause = not_followed run a entry far few ∙ ap (λ (r : FarRecord). Some (Ahead r)) same in (
       cause,
       subst (λ (o : Option AirRefusal). IsOnAir run (judged_by run a entry o) start now new) (sym cause)
-          (refused_by run a entry Ahead start now old new h moves packets (greatest ∙ h.greatest) leap records
+          (refused_by run a entry (Ahead (record { stream = stream; from = from; to = to; ahead = ahead })) start now old new h moves packets
+          (greatest ∙ h.greatest) leap records
           (subst (λ (m : MuxState). Carries run (job_of a) m) (sym mux) h.mux)),
     )
 
@@ -261,16 +270,17 @@ unfolding slots_followed
 follow_fails run a refusal packet from to start later result is fails =
     subst (λ (r : AirRefusal). IfErr result (λ fault. Fails run (caught_up run a (Some r)) start later fault.sent)) (sym is) fails
 
-pub stays_ahead : (run : Run) (a : Air) (refusal : AirRefusal) (start now : Option (List ℕ)) (s : AirState) → refusal ≡ Ahead → IsOnAir run a start now s →
-    IsOnAir run (caught_up run a (Some refusal)) start now s
-unfolding slots_followed
-stays_ahead run a refusal start now s is on = subst (λ (r : AirRefusal). IsOnAir run (caught_up run a (Some r)) start now s) (sym is) on
-
-pub stays_fed : (run : Run) (a : Air) (refusal : AirRefusal) (cause : FeedError) (start now : Option (List ℕ)) (s : AirState) → refusal ≡ Feed cause →
+pub stays_ahead : (run : Run) (a : Air) (refusal : AirRefusal) (far : FarRecord) (start now : Option (List ℕ)) (s : AirState) → refusal ≡ Ahead far →
     IsOnAir run a start now s →
     IsOnAir run (caught_up run a (Some refusal)) start now s
 unfolding slots_followed
-stays_fed run a refusal cause start now s is on = subst (λ (r : AirRefusal). IsOnAir run (caught_up run a (Some r)) start now s) (sym is) on
+stays_ahead run a refusal far start now s is on = subst (λ (r : AirRefusal). IsOnAir run (caught_up run a (Some r)) start now s) (sym is) on
+
+pub stays_fed : (run : Run) (a : Air) (refusal : AirRefusal) (unit : RefusedUnit) (start now : Option (List ℕ)) (s : AirState) → refusal ≡ Feed unit →
+    IsOnAir run a start now s →
+    IsOnAir run (caught_up run a (Some refusal)) start now s
+unfolding slots_followed
+stays_fed run a refusal unit start now s is on = subst (λ (r : AirRefusal). IsOnAir run (caught_up run a (Some r)) start now s) (sym is) on
 
 -- ---- The numbers that the calls count with
 

@@ -88,7 +88,7 @@ taken_stays : (run : Run) (a : Air) (entry : ℕ × AccessUnit) (tick : Bool) �
 unfolding accepted_by
 taken_stays run a entry true is ranges none kept = rw is (refl, begins_same a.accepted a.accepted refl)
 taken_stays run a entry false is ranges none kept =
-    let fed = fed_none (is_far_from run a entry) (is_tick entry) (far_cause run a entry) (unit_refusal run a entry) none is in
+    let fed = fed_none (is_far_from run a entry) (is_tick entry) (far_cause run a entry) entry (unit_refusal run a entry) none is in
     rw is (unit_stays run a entry ranges kept fed, record { more = entry ∷ []; is = refl })
 
 stays_by : (run : Run) (a : Air) (entry : ℕ × AccessUnit) (cause : Option AirRefusal) → IsInRange run.scheduled.description → air_cause run a entry ≡ cause →
@@ -106,16 +106,16 @@ stays_by run a entry None ranges is kept =
       refused = begins_same a.refused a.refused refl;
       slots = on_later a.slots (settled_at run entry.1.dts);
     }
-stays_by run a entry (Some (Feed cause)) ranges is kept = record {
+stays_by run a entry (Some (Feed unit)) ranges is kept = record {
   output = begins_same (air_output run a) (air_output run a) refl;
   accepted = begins_same a.accepted a.accepted refl;
-  refused = record { more = (a.records, Feed cause) ∷ []; is = refl };
+  refused = record { more = (a.records, Feed unit) ∷ []; is = refl };
   slots = omega arith;
 }
-stays_by run a entry (Some Ahead) ranges is kept = record {
+stays_by run a entry (Some (Ahead far)) ranges is kept = record {
   output = begins_same (air_output run a) (air_output run a) refl;
   accepted = begins_same a.accepted a.accepted refl;
-  refused = record { more = (a.records, Ahead) ∷ []; is = refl };
+  refused = record { more = (a.records, Ahead far) ∷ []; is = refl };
   slots = omega arith;
 }
 stays_by run a entry (Some (Followed packet from to)) ranges is kept = record {

@@ -17,7 +17,7 @@ use Rattle.mux_core.proofs.Accepted.{units_kept}
 use Rattle.mux_core.proofs.JobFeeding.{history_more}
 use Rattle.mux_core.proofs.Whole.{contents_fit}
 use Rattle.on_air.specs.declared.refusals.AirRefusal.TheVariants.{Feed}
-use Rattle.on_air.specs.Airing.{Run, Air, job_of, is_tick, is_far_from, unit_refusal, air_cause, accepted_by}
+use Rattle.on_air.specs.Airing.{Run, Air, job_of, is_tick, is_far_from, unit_refusal, fed_refusal, refused_unit, air_cause, accepted_by}
 use Rattle.on_air.specs.AirStates.{Carries, Promises, Admits}
 
 -- Contents with the same bytes have the same output.
@@ -63,8 +63,8 @@ cause_is run a old entry c =
     ∙ ap (λ (n : ℕ). feed_cause run.scheduled n (job_of a) entry.0 entry.1 (slice_get run.scheduled.description.streams entry.0)) c.capacity
 
 fed_cause : (run : Run) (a : Air) (entry : ℕ × AccessUnit) (refused : Option FeedError) → is_far_from run a entry ≡ false → is_tick entry ≡ false →
-    refused ≡ unit_refusal run a entry → option_map Feed refused ≡ air_cause run a entry
-fed_cause run a entry refused near unit is = rw (near, unit) (ap (option_map Feed) is)
+    refused ≡ unit_refusal run a entry → option_map (fed_refusal entry) refused ≡ air_cause run a entry
+fed_cause run a entry refused near unit is = rw (near, unit) (ap (option_map (fed_refusal entry)) is)
 
 -- ---- The state after a call
 
@@ -75,7 +75,7 @@ ticked run a m entry c near tick = record { cause = rw (near, tick) refl; mux = 
 
 pub unfed : (run : Run) (a : Air) (old new : MuxState) (entry : ℕ × AccessUnit) (cause : FeedError) → Carries run (job_of a) old →
     is_far_from run a entry ≡ false → is_tick entry ≡ false →
-    Takes (job_of a) old entry.0 entry.1 (Some cause) new → new ≡ old → Admits run a entry (Some (Feed cause)) new
+    Takes (job_of a) old entry.0 entry.1 (Some cause) new → new ≡ old → Admits run a entry (Some (Feed (refused_unit entry cause))) new
 unfolding accepted_by
 unfed run a old new entry cause c near unit takes same = record {
   cause = fed_cause run a entry (Some cause) near unit (takes.first ∙ cause_is run a old entry c);

@@ -6,10 +6,11 @@ use Rattle.pes_packet.specs.AccessUnits.{AccessUnit}
 use Rattle.unit_queue.specs.declared.refusal.FeedError.{FeedError}
 use Rattle.on_air.specs.declared.leap.Leap.{Leap}
 use Rattle.on_air.specs.declared.refusals.AirRefusal.{AirRefusal}
-use Rattle.on_air.specs.declared.refusals.AirRefusal.TheVariants.{Feed, Ahead, Followed}
+use Rattle.on_air.specs.declared.refusals.AirRefusal.TheVariants.{Ahead, Followed}
+use Rattle.on_air.specs.declared.refusals.FarRecord.{FarRecord}
 use Rattle.on_air.specs.Leaps.{is_followed, is_near, leap_with, leap_records}
 use Rattle.on_air.specs.Airing.{Run, Air, is_tick, is_far_from, leap_by, leap_left, unit_refusal, air_cause, greatest_by, judged_by, aired, caught_up, on_to}
-use Rattle.on_air.specs.Airing.{settled_at, slots_followed}
+use Rattle.on_air.specs.Airing.{far_record, fed_refusal, settled_at, slots_followed}
 use Rattle.on_air.specs.Laws.{NearEach, AllFar, LeapFollowed, LeapMovesOn}
 
 -- ---- One record that is too far ahead
@@ -19,7 +20,7 @@ counted : (run : Run) (a : Air) (entry : ℕ × AccessUnit) → is_far_from run 
     (aired run a entry).leap ≡ leap_by run a entry
 unfolding judged_by leap_left
 counted run a entry far few =
-    let cause : air_cause run a entry ≡ Some Ahead = rw (far, few) refl in
+    let cause : air_cause run a entry ≡ Some (Ahead (far_record run a entry)) = rw (far, few) refl in
     ap (λ (o : Option AirRefusal). (caught_up run (judged_by run a entry o) o).leap) cause
 
 -- If enough records leap with the record, the run follows them.
@@ -107,19 +108,19 @@ pub record ReportsLeap (far many : Bool) (slots greatest due packet from to : �
   pub from_is : from ≡ greatest
   pub to_is : to ≡ due
 
-reported_by : (far many tick : Bool) (refused : Option FeedError) (slots greatest due packet from to : ℕ) →
-    cond far (Some (cond many (Followed slots greatest due) Ahead)) (cond tick None (option_map Feed refused)) ≡ Some (Followed packet from to) →
+reported_by : (far many tick : Bool) (other : FarRecord) (entry : ℕ × AccessUnit) (refused : Option FeedError) (slots greatest due packet from to : ℕ) →
+    cond far (Some (cond many (Followed slots greatest due) (Ahead other))) (cond tick None (option_map (fed_refusal entry) refused)) ≡ Some (Followed packet from to) →
     ReportsLeap far many slots greatest due packet from to
-reported_by true true tick refused slots greatest due packet from to e = record { is_far = refl; is_many = refl; packet_is = cc; from_is = cc; to_is = cc }
-reported_by true false tick refused slots greatest due packet from to e = absurd cc
-reported_by false many true refused slots greatest due packet from to e = absurd cc
-reported_by false many false None slots greatest due packet from to e = absurd cc
-reported_by false many false (Some cause) slots greatest due packet from to e = absurd cc
+reported_by true true tick other entry refused slots greatest due packet from to e = record { is_far = refl; is_many = refl; packet_is = cc; from_is = cc; to_is = cc }
+reported_by true false tick other entry refused slots greatest due packet from to e = absurd cc
+reported_by false many true other entry refused slots greatest due packet from to e = absurd cc
+reported_by false many false other entry None slots greatest due packet from to e = absurd cc
+reported_by false many false other entry (Some cause) slots greatest due packet from to e = absurd cc
 
 pub leap_reported : (run : Run) (a : Air) (entry : ℕ × AccessUnit) (packet from to : ℕ) → air_cause run a entry ≡ Some (Followed packet from to) →
     ReportsLeap (is_far_from run a entry) (is_followed (leap_by run a entry)) a.slots a.greatest entry.1.dts packet from to
 leap_reported run a entry packet from to e =
-    reported_by (is_far_from run a entry) (is_followed (leap_by run a entry)) (is_tick entry) (unit_refusal run a entry) a.slots a.greatest entry.1.dts packet
+    reported_by (is_far_from run a entry) (is_followed (leap_by run a entry)) (is_tick entry) (far_record run a entry) entry (unit_refusal run a entry) a.slots a.greatest entry.1.dts packet
     from
     to e
 

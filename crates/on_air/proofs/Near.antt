@@ -27,6 +27,7 @@ use Rattle.mux_core.specs.WholeJobs.{job_history}
 use Rattle.on_air.specs.declared.refusals.AirRefusal.{AirRefusal}
 use Rattle.on_air.specs.declared.refusals.AirRefusal.TheVariants.{Feed, Ahead, Followed}
 use Rattle.on_air.specs.Airing.{Run, Air, silence, lead_of, needed_room, settled_at, is_tick, is_far_from, far_cause, unit_refusal, air_cause, accepted_by}
+use Rattle.on_air.specs.Airing.{fed_refusal}
 use Rattle.on_air.specs.Airing.{greatest_by, judged_by, caught_up, slots_followed, with_record, heard}
 use Rattle.on_air.specs.AirStates.{Promises}
 use Rattle.on_air.specs.Laws.{ComesNear, IsJudgedAlone, IsOwnCause, NearIsJudgedAlone}
@@ -48,12 +49,13 @@ later : (g h : ℕ) (units : List (ℕ × AccessUnit)) → g ≤ h → All (λ e
 later g h units le all = All-weaker (λ e. e.1.dts ≤ g) (λ e. e.1.dts ≤ h) (λ e few. omega (arith, le, few)) units all
 
 -- An accepted unit has no cause of refusal.
-pub fed_none : (far tick : Bool) (cause : AirRefusal) (refused : Option FeedError) → cond far (Some cause) (cond tick None (option_map Feed refused)) ≡ None →
+pub fed_none : (far tick : Bool) (cause : AirRefusal) (entry : ℕ × AccessUnit) (refused : Option FeedError) →
+    cond far (Some cause) (cond tick None (option_map (fed_refusal entry) refused)) ≡ None →
     tick ≡ false → refused ≡ None
-fed_none true tick cause refused e unit = absurd cc
-fed_none false true cause refused e unit = absurd cc
-fed_none false false cause None e unit = refl
-fed_none false false cause (Some c) e unit = absurd cc
+fed_none true tick cause entry refused e unit = absurd cc
+fed_none false true cause entry refused e unit = absurd cc
+fed_none false false cause entry None e unit = refl
+fed_none false false cause entry (Some c) e unit = absurd cc
 
 taken_units : (run : Run) (a : Air) (entry : ℕ × AccessUnit) (tick : Bool) → is_tick entry ≡ tick → IsInRange run.scheduled.description →
     air_cause run a entry ≡ None → Steady run a →
@@ -61,7 +63,7 @@ taken_units : (run : Run) (a : Air) (entry : ℕ × AccessUnit) (tick : Bool) �
 unfolding accepted_by
 taken_units run a entry true is ranges none so = rw is (later a.greatest (max a.greatest entry.1.dts) a.accepted (omega arith) so.within, so.kept)
 taken_units run a entry false is ranges none so =
-    let fed = fed_none (is_far_from run a entry) (is_tick entry) (far_cause run a entry) (unit_refusal run a entry) none is in
+    let fed = fed_none (is_far_from run a entry) (is_tick entry) (far_cause run a entry) entry (unit_refusal run a entry) none is in
     rw is (
       All-append (λ e. e.1.dts ≤ max a.greatest entry.1.dts) a.accepted (entry ∷ [])
           (later a.greatest (max a.greatest entry.1.dts) a.accepted (omega arith) so.within)
@@ -80,8 +82,8 @@ steady_by run a entry None ranges is so =
       within = units.0;
       kept = units.1;
     }
-steady_by run a entry (Some (Feed cause)) ranges is so = record { slots = so.slots; within = so.within; kept = so.kept }
-steady_by run a entry (Some Ahead) ranges is so = record { slots = so.slots; within = so.within; kept = so.kept }
+steady_by run a entry (Some (Feed unit)) ranges is so = record { slots = so.slots; within = so.within; kept = so.kept }
+steady_by run a entry (Some (Ahead far)) ranges is so = record { slots = so.slots; within = so.within; kept = so.kept }
 steady_by run a entry (Some (Followed packet from to)) ranges is so =
     let reported = leap_reported run a entry packet from to is in
     let far = ltb-true run.terms.ahead (entry.1.dts - a.greatest) reported.is_far in
@@ -180,17 +182,17 @@ own_stream run a entry (Some s) is promises room comes so =
     let full = has_room run entry.0 a.slots a.greatest a.accepted s promises room is so.kept written so.within in
     own_unit (owned_stream run.scheduled entry.0 s) a.slots run.capacity (units_of entry.0 a.accepted) entry.1 late full
 
-alone_by : (far tick : Bool) (cause : AirRefusal) (refused : Option FeedError) → far ≡ false → IsOwn refused →
-    IsJudgedAlone (cond far (Some cause) (cond tick None (option_map Feed refused)))
-alone_by true tick cause refused near own = absurd cc
-alone_by false true cause refused near own = tt
-alone_by false false cause None near own = tt
-alone_by false false cause (Some c) near own = own
+alone_by : (far tick : Bool) (cause : AirRefusal) (entry : ℕ × AccessUnit) (refused : Option FeedError) → far ≡ false → IsOwn refused →
+    IsJudgedAlone (cond far (Some cause) (cond tick None (option_map (fed_refusal entry) refused)))
+alone_by true tick cause entry refused near own = absurd cc
+alone_by false true cause entry refused near own = tt
+alone_by false false cause entry None near own = tt
+alone_by false false cause entry (Some c) near own = own
 
 pub near_is_judged_alone : NearIsJudgedAlone
 near_is_judged_alone run n xs entry promises room comes =
     let a = heard run n xs in
     let so = steady run n xs promises.ranges in
     let near : is_far_from run (heard run n xs) entry ≡ false = le-ltb run.terms.ahead (entry.1.dts - (heard run n xs).greatest) (omega (arith, comes.near)) in
-    alone_by (is_far_from run a entry) (is_tick entry) (far_cause run a entry) (unit_refusal run a entry) near
+    alone_by (is_far_from run a entry) (is_tick entry) (far_cause run a entry) entry (unit_refusal run a entry) near
     (own_stream run (heard run n xs) entry (slice_get run.scheduled.description.streams entry.0) refl promises room comes so)

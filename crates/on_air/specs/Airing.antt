@@ -4,6 +4,7 @@ use Rattle.std.specs.Prelude.{Option, Some, None, option_map, Result, Ok, Err}
 use Rattle.std.specs.Int.{div_ceil}
 use Rattle.clock27.specs.Release.{release}
 use Rattle.pes_packet.specs.AccessUnits.{AccessUnit}
+use Rattle.pes_packet.specs.Marks.{marks_size}
 use Rattle.description_parts.specs.Described.{DescribedStream}
 use Rattle.unit_queue.specs.Codes.{feed_code}
 use Rattle.unit_queue.specs.declared.refusal.FeedError.{FeedError}
@@ -17,6 +18,8 @@ use Rattle.mux_core.specs.WholeJobs.{job_history, output_of}
 use Rattle.on_air.specs.declared.leap.Leap.{Leap}
 use Rattle.on_air.specs.declared.options.Terms.{Terms}
 use Rattle.on_air.specs.declared.refusals.AirRefusal.{AirRefusal}
+use Rattle.on_air.specs.declared.refusals.FarRecord.{FarRecord}
+use Rattle.on_air.specs.declared.refusals.RefusedUnit.{RefusedUnit}
 use Rattle.on_air.specs.declared.refusals.AirRefusal.TheVariants.{Feed, Ahead, Followed}
 use Rattle.on_air.specs.Leaps.{is_far, is_followed, leap_with, no_leap}
 
@@ -104,19 +107,31 @@ is_far_from run a entry = is_far run.terms.ahead a.greatest entry.1.dts
 abbrev pub leap_by : Run → Air → ℕ × AccessUnit → Leap
 leap_by run a entry = leap_with run.terms.ahead a.leap entry.1.dts
 
+-- a record too far ahead: the number of its stream, the greatest DTS before it, its own DTS, and how far the terms allow it to be ahead
+abbrev pub far_record : Run → Air → ℕ × AccessUnit → FarRecord
+far_record run a entry = record { stream = entry.0; from = a.greatest; to = entry.1.dts; ahead = run.terms.ahead }
+
 -- why a record too far ahead is refused: it is the last of enough records that leap, so that the run follows them, after these slots, from this DTS to the
 -- DTS of the record; or it is not
 abbrev pub far_cause : Run → Air → ℕ × AccessUnit → AirRefusal
-far_cause run a entry = if is_followed (leap_by run a entry) then Followed a.slots a.greatest entry.1.dts else Ahead
+far_cause run a entry = if is_followed (leap_by run a entry) then Followed a.slots a.greatest entry.1.dts else Ahead (far_record run a entry)
 
 -- why the multiplexer refuses the unit of the record
 abbrev pub unit_refusal : Run → Air → ℕ × AccessUnit → Option FeedError
 unit_refusal run a entry = feed_cause run.scheduled run.capacity (job_of a) entry.0 entry.1 (slice_get run.scheduled.description.streams entry.0)
 
+-- a refused unit: the number of its stream, its bytes with the bytes of its marks, its stamps, and the cause
+abbrev pub refused_unit : ℕ × AccessUnit → FeedError → RefusedUnit
+refused_unit entry cause =
+    record { stream = entry.0; size = length entry.1.bytes + marks_size entry.1.marks; dts = entry.1.dts; pts = entry.1.pts; cause = cause }
+
+abbrev pub fed_refusal : ℕ × AccessUnit → FeedError → AirRefusal
+fed_refusal entry cause = Feed (refused_unit entry cause)
+
 -- why the record is refused; a tick is not fed
 abbrev pub air_cause : Run → Air → ℕ × AccessUnit → Option AirRefusal
 air_cause run a entry =
-    if is_far_from run a entry then Some (far_cause run a entry) else (if is_tick entry then None else option_map Feed (unit_refusal run a entry))
+    if is_far_from run a entry then Some (far_cause run a entry) else (if is_tick entry then None else option_map (fed_refusal entry) (unit_refusal run a entry))
 
 -- the accepted units after this record
 unfoldable pub accepted_by : Air → ℕ × AccessUnit → Option AirRefusal → List (ℕ × AccessUnit)
@@ -125,14 +140,14 @@ accepted_by a entry None = cond (is_tick entry) a.accepted (a.accepted ++ entry 
 
 -- the greatest DTS after a refused record, which later records are judged by: it changes only to the DTS of a record that the run follows
 unfoldable pub greatest_by : Air → AirRefusal → ℕ
-greatest_by a (Feed cause) = a.greatest
-greatest_by a Ahead = a.greatest
+greatest_by a (Feed unit) = a.greatest
+greatest_by a (Ahead far) = a.greatest
 greatest_by a (Followed packet from to) = to
 
 -- the records that leap after a refused record: unchanged if the record is not too far ahead, none if the run follows the record, otherwise with the record
 unfoldable pub leap_left : Run → Air → ℕ × AccessUnit → AirRefusal → Leap
-leap_left run a entry (Feed cause) = a.leap
-leap_left run a entry Ahead = leap_by run a entry
+leap_left run a entry (Feed unit) = a.leap
+leap_left run a entry (Ahead far) = leap_by run a entry
 leap_left run a entry (Followed packet from to) = no_leap
 
 -- a refused record writes no slot; after a record that is taken the slots that its DTS settles are written
@@ -171,8 +186,8 @@ with_count a slots = record {
 -- the slots after a record that the run follows: the slots that its DTS settles are written, as after a record that is taken
 unfoldable pub slots_followed : Run → Air → Option AirRefusal → ℕ
 slots_followed run a None = a.slots
-slots_followed run a (Some (Feed cause)) = a.slots
-slots_followed run a (Some Ahead) = a.slots
+slots_followed run a (Some (Feed unit)) = a.slots
+slots_followed run a (Some (Ahead far)) = a.slots
 slots_followed run a (Some (Followed packet from to)) = on_to a.slots (settled_at run to)
 
 abbrev pub caught_up : Run → Air → Option AirRefusal → Air
@@ -202,8 +217,8 @@ ended run a = with_count a (on_to a.slots (last_at run a.greatest))
 -- ---- the number of a refusal, and the room for units
 
 abbrev pub air_code : AirRefusal → ℕ
-air_code (Feed cause) = feed_code cause
-air_code Ahead = 11
+air_code (Feed unit) = feed_code unit.cause
+air_code (Ahead far) = 11
 air_code (Followed packet from to) = 11
 
 -- the number of units of a stream that may wait: the units due within a lead, plus the next unit; at most 1,048,576

@@ -136,8 +136,8 @@ IsOwnCause Pace = ⊤
 
 abbrev pub IsJudgedAlone : Option AirRefusal → Type 0
 IsJudgedAlone None = ⊤
-IsJudgedAlone (Some (Feed cause)) = IsOwnCause cause
-IsJudgedAlone (Some Ahead) = ⊥
+IsJudgedAlone (Some (Feed unit)) = IsOwnCause unit.cause
+IsJudgedAlone (Some (Ahead far)) = ⊥
 IsJudgedAlone (Some (Followed packet from to)) = ⊥
 
 -- after any input, however damaged, such a record is refused for no other cause: neither for its time nor for the room, if the run has the room that its

@@ -12,7 +12,7 @@ use crate::admission::admit;
 use crate::answers::{Ending, Heard};
 use crate::leap::{Leap, is_far};
 use crate::options::Terms;
-use crate::refusals::AirRefusal;
+use crate::refusals::{AirRefusal, FarRecord};
 use crate::slots::{last_slot, settled, write_on};
 use crate::waiting::holds_record;
 use clock27::Rate;
@@ -168,7 +168,7 @@ impl<A: Allocator + Copy> OnAir<A> {
     {
         match refusal {
             AirRefusal::Followed { to: due, .. } => self.write_until(due, to),
-            AirRefusal::Ahead => Ok(()),
+            AirRefusal::Ahead(_) => Ok(()),
             AirRefusal::Feed(_) => Ok(()),
         }
     }
@@ -237,11 +237,11 @@ impl<A: Allocator + Copy> OnAir<A> {
     }
 
     // Refuses a record that is too far ahead, and counts it among the records that leap.
-    fn pass_over(&mut self, due: u64) -> AirRefusal
+    fn pass_over(&mut self, stream: u8, due: u64) -> AirRefusal
         requires { self.old.records < 2 ^ 64 - 1 }
         ensures passes { (run : Run) (a : Air) (entry : ℕ × AccessUnit) (start now : Option (List ℕ)) →
             IsOnAir run a start now self.old →
-            due ≡ entry.1.dts → is_far_from run a entry ≡ true →
+            stream ≡ entry.0 → due ≡ entry.1.dts → is_far_from run a entry ≡ true →
             (air_cause run a entry ≡ Some result) × IsOnAir run (judged run a entry) start now self.new }
         ensures records { self.new.records ≡ self.old.records + 1 }
     {
@@ -249,7 +249,12 @@ impl<A: Allocator + Copy> OnAir<A> {
         let leap = self.leap.with(self.terms.ahead, due);
         if !leap.is_followed() {
             self.leap = leap;
-            return AirRefusal::Ahead;
+            return AirRefusal::Ahead(FarRecord {
+                stream,
+                from: self.greatest,
+                to: due,
+                ahead: self.terms.ahead,
+            });
         }
         let packet = self.mux.now();
         let from = self.greatest;
@@ -280,12 +285,12 @@ impl<A: Allocator + Copy> OnAir<A> {
         let due = unit.dts;
         if is_far(self.terms.ahead, self.greatest, due) {
             drop(unit);
-            return Ok(Some(self.pass_over(due)));
+            return Ok(Some(self.pass_over(stream, due)));
         }
         self.records += 1;
         match admit(&mut self.mux, stream, unit) {
             None => {}
-            Some(cause) => return Ok(Some(AirRefusal::Feed(cause))),
+            Some(unit) => return Ok(Some(AirRefusal::Feed(unit))),
         }
         self.leap = Leap::none();
         let greatest = self.greatest.max(due);

@@ -29,4 +29,4 @@ pub use leap::Leap;
 pub use mux_core::NewError;
 pub use options::Terms;
 pub use packet_output::OutputFault;
-pub use refusals::AirRefusal;
+pub use refusals::{AirRefusal, FarRecord, RefusedUnit, refused_unit};

@@ -1,17 +1,59 @@
 //! Why a record is refused.
 
 ghost use Rattle.std.specs.Prelude.{◌≡◌};
-ghost use Rattle.on_air.specs.Airing.{air_code};
+ghost use Rattle.on_air.specs.Airing as spec;
 
+use pes_packet::Unit;
+use std::alloc::Allocator;
 use unit_queue::FeedError;
+
+/// A unit that the multiplexer refuses.
+#[derive(Clone, Copy)]
+pub struct RefusedUnit {
+    /// The number of its stream.
+    pub stream: u8,
+    /// Its bytes, with the bytes of its marks.
+    pub size: u64,
+    /// Its stamps, in units of 90 kHz.
+    pub dts: u64,
+    pub pts: u64,
+    pub cause: FeedError,
+}
+
+/// Returns a unit that the multiplexer refuses for a cause, by its numbers.
+pub fn refused_unit<A: Allocator>(stream: u8, unit: &Unit<A>, cause: FeedError) -> RefusedUnit
+    ensures { result ≡ spec.refused_unit (stream, unit.now) cause }
+{
+    let size = unit.bytes.len() + unit.marks.size();
+    RefusedUnit {
+        stream,
+        size: size as u64,
+        dts: unit.dts,
+        pts: unit.pts,
+        cause,
+    }
+}
+
+/// A record that is too far ahead, with times in units of 90 kHz.
+#[derive(Clone, Copy)]
+pub struct FarRecord {
+    /// The number of its stream; 255 for a tick.
+    pub stream: u8,
+    /// The greatest DTS before it.
+    pub from: u64,
+    /// Its own DTS.
+    pub to: u64,
+    /// How far after `from` its DTS may be.
+    pub ahead: u64,
+}
 
 /// Why a record is refused. It moves nothing, except if the run follows it.
 #[derive(Clone, Copy)]
 pub enum AirRefusal {
     /// The multiplexer refuses its unit.
-    Feed(FeedError),
+    Feed(RefusedUnit),
     /// Its DTS is further after the greatest DTS so far than the terms allow.
-    Ahead,
+    Ahead(FarRecord),
     /// The same, and seven records before it in a row were refused for it, each near the record before it: the run
     /// follows them. `packet` slots were written before it, and time jumps from the DTS `from` to the DTS of the
     /// record, `to`.
@@ -21,11 +63,11 @@ pub enum AirRefusal {
 impl AirRefusal {
     /// Returns the number of this refusal in fault lines.
     pub fn code(self) -> u8
-        ensures { result ≡ air_code self }
+        ensures { result ≡ spec.air_code self }
     {
         match self {
-            AirRefusal::Feed(cause) => cause.code(),
-            AirRefusal::Ahead => 11,
+            AirRefusal::Feed(unit) => unit.cause.code(),
+            AirRefusal::Ahead(_) => 11,
             AirRefusal::Followed { .. } => 11,
         }
     }

@@ -1,5 +1,5 @@
 -- What the records and the end of a run leave
-use Rattle.std.proofs.Common.{◌≡◌, ◌⊎◌, ℕ, Bool, List, [], ◌++◌, Option, Some, None, Ok, refl, sym, ap, ◌∙◌, subst, inl, inr, append-nil}
+use Rattle.std.proofs.Common.{◌≡◌, ◌⊎◌, ℕ, Bool, List, [], ◌++◌, map, Option, Some, None, Ok, refl, sym, ap, ◌∙◌, subst, inl, inr, append-nil}
 use Rattle.std.specs.Prelude.{is_some}
 use Rattle.std.specs.Io.KnownBytes.{Appends}
 use Rattle.counted_io.specs.Device.{Failed}
@@ -7,7 +7,7 @@ use Rattle.packet_output.specs.Buffer.{waiting_of, Buffered, IsOutput}
 use Rattle.devices.specs.Devices.{Device, IsUntouched, Port, between}
 use Rattle.devices.specs.Lines.{Reports}
 use Rattle.devices.specs.Outcomes.{halt_line}
-use Rattle.devices.specs.declared.halt.Halt.TheVariants.{Write}
+use Rattle.devices.specs.declared.halt.Halt.TheVariants.{Write, Memory as NoMemory}
 use Rattle.checked_jobs.specs.Jobs.{JobView, job_of}
 use Rattle.mux_core.specs.NewMux.{Judges}
 use Rattle.mux_core.specs.declared.done.NewError.{NewError}
@@ -20,10 +20,12 @@ use Rattle.on_air.specs.AirStates.{AirState, IsOnAir}
 use Rattle.on_air.specs.Hearing.{Fails}
 use Rattle.tsair_cli.specs.declared.arguments.AirOptions.{AirOptions}
 use Rattle.tsair_cli.specs.declared.hearing.RecordsEnd.{RecordsEnd}
-use Rattle.tsair_cli.specs.AirRuns.{AirsJob, AirsRecords, Begins, begin_cause, begin_outcome}
+use Rattle.explained_jobs.specs.UnitWords.{limits_of}
+use Rattle.explained_jobs.specs.declared.unit_limits.UnitLimits.{UnitLimits}
+use Rattle.tsair_cli.specs.AirRuns.{AirsJob, AirsRecords, Begins, begin_cause, begin_outcome, run_of}
 use Rattle.tsair_cli.specs.Endings.{end_outcome}
 use Rattle.tsair_cli.specs.Fronts.{ReadsPlans}
-use Rattle.tsair_cli.specs.HeardRecords.{EndsRecords, FailsRecords}
+use Rattle.tsair_cli.specs.HeardRecords.{EndsRecords, FailsRecords, limits_in}
 use Rattle.tsair_cli.proofs.HeardRecords.{stopped_at_most}
 
 -- If no packet waits, all packets are written.
@@ -106,6 +108,18 @@ begun o before left plans switch is r = record {
   job_is = r.plans_are ∙ ap (λ (b : Bool). job_of b r.front) is;
   no_rest = no_rest plans;
 }
+
+-- What the streams of the plans declare is what the streams of the run declare.
+pub limits_of_plans : (o : AirOptions) (plans : JobPlans) (streams : List UnitLimits) → streams ≡ map limits_of (plans_view plans []).description.streams →
+    streams ≡ limits_in (run_of o (plans_view plans []))
+limits_of_plans o (One c) streams is = is
+limits_of_plans o (Two c) streams is = is
+
+-- A front was read, and there is no memory for what its streams declare.
+pub no_limits : (o : AirOptions) (input output faults : Device) (status : ℕ) (plans : JobPlans) (switch : Bool) → ReadsPlans switch input plans →
+    IsUntouched output → Reports faults (halt_line NoMemory) → status ≡ 3 → AirsJob o input output faults status
+no_limits o input output faults status plans switch r u t s =
+    inr (inr (inr (record { clean = r.has_read.clean; unwritten = u; reports = t; status_is = s })))
 
 -- If the answer is `Periods`, the cause is too many periods.
 periods_judged : (wanted : Option NewError) → Judges wanted (Some Periods) → wanted ≡ Some Periods

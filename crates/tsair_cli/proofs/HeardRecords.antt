@@ -1,11 +1,8 @@
 -- Records that arrive one after another, and the lines for refused records
 use Rattle.std.proofs.Common.{◌≡◌, ◌≤◌, ◌<◌, ◌+◌, ℕ, Bool, true, false, nat_lt, List, [], ◌∷◌, ◌++◌, length, map, Option, Some, None, Result, Ok, Err, refl}
 use Rattle.std.proofs.Common.{sym, ap, ◌∙◌, subst, arith, below_none, length-append}
-use Rattle.std.proofs.lemmas.List.{map-append}
 use Rattle.std.proofs.lemmas.Bool.{false≢true, lt-ltb}
 use Rattle.devices.specs.Devices.{Device, Port, HasFailed, IsClean, between}
-use Rattle.devices.specs.Lines.{Reports, ReportsAll}
-use Rattle.devices.proofs.ReportedTexts.{reported_more, reported_none}
 use Rattle.packet_output.specs.declared.output.OutputFault.{OutputFault}
 use Rattle.unit_records.specs.declared.reading.UnitFileError.TheVariants.{Cut, Size, Device as AtReader, Memory}
 use Rattle.carry.specs.RecordRuns.{after_records}
@@ -17,17 +14,27 @@ use Rattle.on_air.specs.Airing.{Run, Air, caught_up, heard, silence, limit_of}
 use Rattle.on_air.specs.AirStates.{AirState, IsOnAir}
 use Rattle.on_air.specs.Hearing.{Fails, HasHeard, HeardOn, HearsOn, NamesDevice}
 use Rattle.tsair_cli.specs.declared.hearing.RecordsEnd.{RecordsEnd}
-use Rattle.tsair_cli.specs.HeardRecords.{Airs, EndsRecords, FailsRecords, HearsAll, NamesReader, StopsAtFirst, has_refused, refusal_line}
+use Rattle.explained_jobs.specs.declared.unit_limits.UnitLimits.{UnitLimits}
+use Rattle.tsair_cli.specs.HeardRecords.{Airs, EndsRecords, FailsRecords, HearsAll, NamesReader, ReportsRefusal, ReportsRefusals, StopsAtFirst}
+use Rattle.tsair_cli.specs.HeardRecords.{has_refused, limits_in}
 
 -- 1. The lines about refused records
 
-reported_refused : (before mid after : Port) (old new : List (ℕ × AirRefusal)) (refused : ℕ × AirRefusal) → new ≡ old ++ (refused ∷ []) →
-    ReportsAll before mid (map refusal_line old) →
-    Reports (between mid after) (refusal_line refused) → ReportsAll before after (map refusal_line new)
-reported_refused before mid after old new refused is t r =
-    subst (λ (lines : List (List ℕ)). ReportsAll before after lines)
-    (sym (ap (λ (l : List (ℕ × AirRefusal)). map refusal_line l) is ∙ map-append refusal_line old (refused ∷ [])))
-    (reported_more before mid after (map refusal_line old) (refusal_line refused) t r)
+reported_more : (streams : List UnitLimits) (before mid after : Port) (old : List (ℕ × AirRefusal)) (refused : ℕ × AirRefusal) →
+    ReportsRefusals streams before mid old → ReportsRefusal streams refused (between mid after) → ReportsRefusals streams before after (old ++ (refused ∷ []))
+unfolding ReportsRefusals
+reported_more streams before mid after [] refused t r = (after, subst (λ (p : Port). ReportsRefusal streams refused (between p after)) t r, refl)
+reported_more streams before mid after (first ∷ old) refused t r = (t.0, t.1, reported_more streams t.0 mid after old refused t.2 r)
+
+reported_none : (streams : List UnitLimits) (port : Port) → ReportsRefusals streams port port []
+unfolding ReportsRefusals
+reported_none streams port = refl
+
+reported_refused : (streams : List UnitLimits) (before mid after : Port) (old new : List (ℕ × AirRefusal)) (refused : ℕ × AirRefusal) →
+    new ≡ old ++ (refused ∷ []) → ReportsRefusals streams before mid old → ReportsRefusal streams refused (between mid after) →
+    ReportsRefusals streams before after new
+reported_refused streams before mid after old new refused is t r =
+    subst (λ (l : List (ℕ × AirRefusal)). ReportsRefusals streams before after l) (sym is) (reported_more streams before mid after old refused t r)
 
 some_refused : (old new : List (ℕ × AirRefusal)) (refused : ℕ × AirRefusal) → new ≡ old ++ (refused ∷ []) → nat_lt 0 (length new) ≡ true
 some_refused old new refused is =
@@ -79,7 +86,7 @@ first run origin start now port s h = record {
         };
       };
     };
-    so_far = reported_none port;
+    so_far = reported_none (limits_in run) port;
   };
   refused_is = refl;
   state = h;
@@ -91,12 +98,12 @@ pub next : (run : Run) (origin mid left start now later last : Option (List ℕ)
     (m : Midway run origin mid start now (between before so_far) refused s) →
     HearsOn run m.airs.came origin left start later (Ok (Refused index cause)) heard_to →
     ((a : Air) → IsOnAir run a start later heard_to → IsOnAir run (caught_up run a (Some cause)) start last new) →
-    Reports (between so_far after) (refusal_line (index, cause)) → Midway run origin left start last (between before after) true new
+    ReportsRefusal (limits_in run) (index, cause) (between so_far after) → Midway run origin left start last (between before after) true new
 next run origin mid left start now later last before so_far after refused s heard_to new index cause m (b, heard_on, adds, state) follows r = record {
   airs = record {
     came = caught_up run b (Some cause);
     heard_is = heard_on;
-    so_far = reported_refused before so_far after m.airs.came.refused b.refused (index, cause) adds m.airs.so_far r;
+    so_far = reported_refused (limits_in run) before so_far after m.airs.came.refused b.refused (index, cause) adds m.airs.so_far r;
   };
   refused_is = sym (some_refused m.airs.came.refused b.refused (index, cause) adds);
   state = follows b state;
@@ -108,7 +115,7 @@ pub follow_fails : (run : Run) (stop : Bool) (mid start now later : Option (List
     (cause : AirRefusal) (sent : ℕ) (m : Midway run input.before.bytes mid start now (between before so_far) refused s) →
     HearsOn run m.airs.came input.before.bytes input.after.bytes start later (Ok (Refused index cause)) heard_to →
     ((a : Air) → IsOnAir run a start later heard_to → Fails run (caught_up run a (Some cause)) start output.after.bytes sent) →
-    Reports (between so_far after) (refusal_line (index, cause)) → (stop ≡ true → refused ≡ false) → IsClean input → HasFailed output →
+    ReportsRefusal (limits_in run) (index, cause) (between so_far after) → (stop ≡ true → refused ≡ false) → IsClean input → HasFailed output →
     FailsRecords run stop start input output (between before after) sent
 follow_fails run stop mid start now later input output before so_far after refused s heard_to index cause sent m (b, heard_on, adds, state) failing r first_one
     clean failed =
@@ -116,7 +123,7 @@ follow_fails run stop mid start now later input output before so_far after refus
       airs = record {
         came = caught_up run b (Some cause);
         heard_is = heard_on;
-        so_far = reported_refused before so_far after m.airs.came.refused b.refused (index, cause) adds m.airs.so_far r;
+        so_far = reported_refused (limits_in run) before so_far after m.airs.came.refused b.refused (index, cause) adds m.airs.so_far r;
       };
       stops = λ on. at_most_one b.refused
           (one_refused m.airs.came.refused b.refused (index, cause) adds (none_refused refused m.airs.came.refused m.refused_is (first_one on)));
@@ -127,9 +134,14 @@ follow_fails run stop mid start now later input output before so_far after refus
 
 -- 3. The end of a run
 
-reported_same : (before after : Port) (old new : List (ℕ × AirRefusal)) → new ≡ old → ReportsAll before after (map refusal_line old) →
-    ReportsAll before after (map refusal_line new)
-reported_same before after old new is t = subst (λ (l : List (ℕ × AirRefusal)). ReportsAll before after (map refusal_line l)) (sym is) t
+reported_same : (streams : List UnitLimits) (before after : Port) (old new : List (ℕ × AirRefusal)) → new ≡ old → ReportsRefusals streams before after old →
+    ReportsRefusals streams before after new
+reported_same streams before after old new is t = subst (λ (l : List (ℕ × AirRefusal)). ReportsRefusals streams before after l) (sym is) t
+
+-- The line is by what the streams of the run declare.
+pub by_limits : (run : Run) (streams : List UnitLimits) (refused : ℕ × AirRefusal) (faults : Device) → streams ≡ limits_in run →
+    ReportsRefusal streams refused faults → ReportsRefusal (limits_in run) refused faults
+by_limits run streams refused faults is r = subst (λ (l : List UnitLimits). ReportsRefusal l refused faults) is r
 
 reader_named : (input : Device) (why : Ending) (w0 w1 : ℕ) → NamesDevice (Ok (Ended why)) input.before.failed input.after.failed w0 w1 →
     NamesReader input (Some why)
@@ -157,7 +169,7 @@ pub ends : (run : Run) (stop : Bool) (mid start now : Option (List ℕ)) (input 
     (stop ≡ true → refused ≡ false) → EndsRecords run stop start input output faults (record { has_refused = refused; why = Some why }) new
 ends run stop mid start now input output faults refused s new why m (b, (rest, heard_on, ends_at), same, state) n first_one = record {
   rest = rest;
-  airs = record { came = b; heard_is = heard_on; so_far = reported_same faults.before faults.after m.airs.came.refused b.refused same m.airs.so_far };
+  airs = record { came = b; heard_is = heard_on; so_far = reported_same (limits_in run) faults.before faults.after m.airs.came.refused b.refused same m.airs.so_far };
   ends = ends_at;
   stops = λ on. same ∙ none_refused refused m.airs.came.refused m.refused_is (first_one on);
   refused = m.refused_is ∙ ap (λ (l : List (ℕ × AirRefusal)). nat_lt 0 (length l)) (sym same);
@@ -172,7 +184,7 @@ pub stops : (run : Run) (stop : Bool) (mid start now later : Option (List ℕ)) 
     (m : Midway run input.before.bytes mid start now (between before so_far) refused s) →
     HearsOn run m.airs.came input.before.bytes input.after.bytes start later (Ok (Refused index cause)) heard_to →
     ((a : Air) → IsOnAir run a start later heard_to → IsOnAir run (caught_up run a (Some cause)) start output.after.bytes new) →
-    Reports (between so_far after) (refusal_line (index, cause)) → stop ≡ true → (stop ≡ true → refused ≡ false) → IsClean input → IsClean output →
+    ReportsRefusal (limits_in run) (index, cause) (between so_far after) → stop ≡ true → (stop ≡ true → refused ≡ false) → IsClean input → IsClean output →
     EndsRecords run stop start input output (between before after) (record { has_refused = true; why = None }) new
 stops run stop mid start now later input output before so_far after refused s heard_to new index cause m (b, heard_on, adds, state) follows r on first_one clean
     written =
@@ -182,7 +194,7 @@ stops run stop mid start now later input output before so_far after refused s he
       airs = record {
         came = caught_up run b (Some cause);
         heard_is = heard_on;
-        so_far = reported_refused before so_far after m.airs.came.refused b.refused (index, cause) adds m.airs.so_far r;
+        so_far = reported_refused (limits_in run) before so_far after m.airs.came.refused b.refused (index, cause) adds m.airs.so_far r;
       };
       ends = (on, (some, refl));
       stops = λ asked. one_refused m.airs.came.refused b.refused (index, cause) adds
@@ -199,7 +211,7 @@ pub fails : (run : Run) (stop : Bool) (mid start now : Option (List ℕ)) (input
     NamesDevice (Err fault) input.before.failed input.after.failed output.before.failed output.after.failed →
     (stop ≡ true → refused ≡ false) → FailsRecords run stop start input output faults fault.sent
 fails run stop mid start now input output faults refused s new fault m (b, heard_on, same, failing) n first_one = record {
-  airs = record { came = b; heard_is = heard_on; so_far = reported_same faults.before faults.after m.airs.came.refused b.refused same m.airs.so_far };
+  airs = record { came = b; heard_is = heard_on; so_far = reported_same (limits_in run) faults.before faults.after m.airs.came.refused b.refused same m.airs.so_far };
   stops = λ on. at_most_none b.refused (same ∙ none_refused refused m.airs.came.refused m.refused_is (first_one on));
   fails = failing;
   clean = n.0;

@@ -1,7 +1,7 @@
 -- The records of a run, taken one after another, and a line for each refused record.
-use Rattle.std.specs.Prelude.{◌≡◌, ◌≤◌, ◌<◌, ℕ, Bool, true, nat_lt, List, [], ◌∷◌, length, map, Option, Some, None, Result, Ok, Err, codes}
+use Rattle.std.specs.Prelude.{◌≡◌, ◌⊎◌, ◌≤◌, ◌<◌, ℕ, Bool, true, nat_lt, List, [], ◌∷◌, length, map, Option, Some, None, Result, Ok, Err, codes}
 use Rattle.devices.specs.Devices.{Device, Port, HasFailed, IsClean, between}
-use Rattle.devices.specs.Lines.{ReportsAll, line_text}
+use Rattle.devices.specs.Lines.{Reports, line_text}
 use Rattle.packet_output.specs.declared.output.OutputFault.{OutputFault}
 use Rattle.unit_records.specs.declared.reading.UnitFileError.TheVariants.{Cut, Size, Device as AtReader, Memory}
 use Rattle.on_air.specs.declared.refusals.AirRefusal.{AirRefusal}
@@ -11,19 +11,35 @@ use Rattle.on_air.specs.declared.answers.Ending.TheVariants.{Input, Unread, Slot
 use Rattle.on_air.specs.Airing.{Run, Air, air_code}
 use Rattle.on_air.specs.AirStates.{AirState, IsOnAir}
 use Rattle.on_air.specs.Hearing.{EndsAt, Fails, HeardOn}
+use Rattle.explained_jobs.specs.UnitWords.{air_line, limits_of}
+use Rattle.explained_jobs.specs.declared.unit_limits.UnitLimits.{UnitLimits}
 use Rattle.tsair_cli.specs.declared.hearing.RecordsEnd.{RecordsEnd}
 
 -- 1. The lines of records that are refused
 
+-- what the streams of a run declare
+abbrev pub limits_in : Run → List UnitLimits
+limits_in run = map limits_of run.scheduled.description.streams
+
 -- the record's number, and why; for a record that the run follows in spite of a leap: its number, the number of packets before it, and the DTS before and after
 -- the leap
-unfoldable pub refusal_by : ℕ → AirRefusal → List ℕ
-refusal_by index (Feed cause) = line_text (codes "unit") (index ∷ air_code (Feed cause) ∷ [])
-refusal_by index Ahead = line_text (codes "unit") (index ∷ air_code Ahead ∷ [])
-refusal_by index (Followed packet from to) = line_text (codes "leap") (index ∷ packet ∷ from ∷ to ∷ [])
+unfoldable pub numbers_by : ℕ → AirRefusal → List ℕ
+numbers_by index (Feed unit) = line_text (codes "unit") (index ∷ air_code (Feed unit) ∷ [])
+numbers_by index (Ahead far) = line_text (codes "unit") (index ∷ air_code (Ahead far) ∷ [])
+numbers_by index (Followed packet from to) = line_text (codes "leap") (index ∷ packet ∷ from ∷ to ∷ [])
 
-abbrev pub refusal_line : ℕ × AirRefusal → List ℕ
-refusal_line refused = refusal_by refused.0 refused.1
+abbrev pub numbers_line : ℕ × AirRefusal → List ℕ
+numbers_line refused = numbers_by refused.0 refused.1
+
+-- a refused record is reported in words, by what the streams declare; by its numbers alone if there is no memory for words
+abbrev pub ReportsRefusal : List UnitLimits → ℕ × AirRefusal → Device → Type 0
+ReportsRefusal streams refused faults = Reports faults (air_line streams refused.0 refused.1) ⊎ Reports faults (numbers_line refused)
+
+-- refused records were reported one after another
+unfoldable pub ReportsRefusals : List UnitLimits → Port → Port → List (ℕ × AirRefusal) → Type 0
+ReportsRefusals streams before after [] = after ≡ before
+ReportsRefusals streams before after (refused ∷ more) =
+    (mid : Port) × ReportsRefusal streams refused (between before mid) × ReportsRefusals streams mid after more
 
 abbrev pub has_refused : Air → Bool
 has_refused a = nat_lt 0 (length a.refused)
@@ -34,7 +50,7 @@ has_refused a = nat_lt 0 (length a.refused)
 pub record Airs (run : Run) (origin left : Option (List ℕ)) (faults : Device) : Type 0 where
   pub came : Air
   pub heard_is : HeardOn run origin left came
-  pub so_far : ReportsAll faults.before faults.after (map refusal_line came.refused)
+  pub so_far : ReportsRefusals (limits_in run) faults.before faults.after came.refused
 
 -- why the run takes no further record: a record was refused, if that ends a run; or the end of the input, of the slots or of the records
 abbrev pub EndsBy : Run → Air → Bool → Option (List ℕ) → Option (List ℕ) → Option Ending → Type 0

@@ -1,17 +1,19 @@
 //! The records of a run, taken in turn.
 
-ghost use Rattle.std.specs.Prelude.{◌≡◌, List, ℕ, Option};
+ghost use Rattle.std.specs.Prelude.{◌≡◌, List, ℕ, Option, IfOk, string_bytes};
 ghost use Rattle.devices.specs.Devices.{reads, writes};
 ghost use Rattle.devices.specs.Lines.{Reports};
 ghost use Rattle.on_air.specs.Airing.{Run, silence};
 ghost use Rattle.on_air.specs.AirStates.{IsOnAir};
-ghost use Rattle.tsair_cli.specs.HeardRecords.{HearsAll, refusal_line};
+ghost use Rattle.explained_jobs.specs.UnitWords.{air_line};
+ghost use Rattle.tsair_cli.specs.HeardRecords.{HearsAll, ReportsRefusal, limits_in, numbers_line};
 
 use counted_io::Sink;
-use devices::report_line;
+use devices::{report_line, report_text};
+use explained_jobs::{UnitLimits, write_air};
 use held_input::HeldInput;
 use on_air::{AirRefusal, Ending, Heard, OnAir, OutputFault};
-use std::alloc::Global;
+use std::alloc::{AllocError, Global};
 
 /// How the records of a run ended.
 #[derive(Clone, Copy)]
@@ -22,10 +24,24 @@ pub struct RecordsEnd {
     pub why: Option<Ending>,
 }
 
-/// Reports that a record is refused, or that the run follows it.
-#[tactic(auto, unfolding(crate::specs::HeardRecords::refusal_by))]
-fn report_refused<E: Sink>(faults: &mut E, index: u64, cause: AirRefusal)
-    ensures { Reports (writes E.Sink faults.old faults.new) (refusal_line (index, cause)) }
+/// Returns the line for a record that is refused, or that the run follows.
+fn refused_line(
+    alloc: Global,
+    streams: &[UnitLimits],
+    index: u64,
+    cause: AirRefusal,
+) -> Result<String, AllocError>
+    ensures { IfOk result (λ line. string_bytes line ≡ air_line streams.now index cause) }
+{
+    let mut line = String::new(alloc);
+    write_air(index, cause, streams, &mut line)?;
+    Ok(line)
+}
+
+/// Reports the numbers of a record that is refused, or that the run follows.
+#[tactic(auto, unfolding(crate::specs::HeardRecords::numbers_by))]
+fn report_numbers<E: Sink>(faults: &mut E, index: u64, cause: AirRefusal)
+    ensures { Reports (writes E.Sink faults.old faults.new) (numbers_line (index, cause)) }
 {
     let index = u128::from(index);
     let code = u128::from(cause.code());
@@ -36,21 +52,40 @@ fn report_refused<E: Sink>(faults: &mut E, index: u64, cause: AirRefusal)
             &[index, u128::from(packet), u128::from(from), u128::from(to)],
         ),
         AirRefusal::Feed(_) => report_line(faults, "unit", &[index, code]),
-        AirRefusal::Ahead => report_line(faults, "unit", &[index, code]),
+        AirRefusal::Ahead(_) => report_line(faults, "unit", &[index, code]),
+    }
+}
+
+/// Reports that a record is refused, or that the run follows it; by its numbers alone if there is no memory for words.
+fn report_refused<E: Sink>(
+    alloc: Global,
+    streams: &[UnitLimits],
+    faults: &mut E,
+    index: u64,
+    cause: AirRefusal,
+)
+    ensures { ReportsRefusal streams.now (index, cause) (writes E.Sink faults.old faults.new) }
+{
+    match refused_line(alloc, streams, index, cause) {
+        Ok(line) => report_text(faults, line.as_str()),
+        Err(_) => report_numbers(faults, index, cause),
     }
 }
 
 /// Takes all records of a run, and reports each refused record before the next is read, and before the slots up to it
-/// are written if the run follows it. If `stop`, the first refused record ends the run, after those slots.
+/// are written if the run follows it, by what its streams declare. If `stop`, the first refused record ends the run, after
+/// those slots.
 pub fn hear_all<R: HeldInput, W: Sink, E: Sink>(
     alloc: Global,
     stop: bool,
+    streams: &[UnitLimits],
     on_air: &mut OnAir,
     input: &mut R,
     output: &mut W,
     faults: &mut E,
 ) -> Result<RecordsEnd, OutputFault>
-    ensures { (run : Run) (start : Option (List ℕ)) → IsOnAir run silence start (W.contents output.old) on_air.old →
+    ensures { (run : Run) (start : Option (List ℕ)) → streams.now ≡ limits_in run →
+        IsOnAir run silence start (W.contents output.old) on_air.old →
         HearsAll run stop start (reads R.Source input.old input.new) (writes W.Sink output.old output.new)
         (writes E.Sink faults.old faults.new) result on_air.new }
 {
@@ -58,7 +93,7 @@ pub fn hear_all<R: HeldInput, W: Sink, E: Sink>(
     'records: loop {
         match on_air.hear_on(alloc, input, output) {
             Ok(Heard::Refused { index, cause }) => {
-                report_refused(faults, index, cause);
+                report_refused(alloc, streams, faults, index, cause);
                 has_refused = true;
                 match on_air.follow(cause, output) {
                     Ok(()) => {}

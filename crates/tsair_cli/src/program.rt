@@ -8,8 +8,10 @@ ghost use Rattle.mux_core.specs.NewMux.{Judges};
 ghost use Rattle.on_air.specs.Airing.{Run, silence};
 ghost use Rattle.on_air.specs.AirStates.{IsOnAir, begin_refusal};
 ghost use Rattle.checked_jobs.specs.JobFaults.{plans_view};
+ghost use Rattle.explained_jobs.specs.UnitWords.{limits_of};
 ghost use Rattle.tsair_cli.specs.AirRuns as spec;
 ghost use Rattle.tsair_cli.specs.Arguments.{asked};
+ghost use Rattle.tsair_cli.specs.HeardRecords.{limits_in};
 ghost use Rattle.tsair_cli.specs.Options.{known_words, usage_text};
 ghost use Rattle.word_faults.specs.UsageReport.{AnswersWords};
 ghost use Rattle.tsair_cli.specs.declared.arguments.AirOptions.{AirOptions};
@@ -22,10 +24,11 @@ use crate::options::{known_words, usage};
 use checked_jobs::{JobPlans, report_refusal};
 use counted_io::Sink;
 use devices::{Halt, report_halt, report_text};
+use explained_jobs::{UnitLimits, description_of, stream_limits};
 use held_input::HeldInput;
 use on_air::{NewError, OnAir};
 use record_frames::pass_frames;
-use std::alloc::Global;
+use std::alloc::{AllocError, Global};
 use word_faults::answer_words;
 
 /// Writes the usage, and returns the status.
@@ -66,20 +69,29 @@ fn report_begin<E: Sink>(faults: &mut E, cause: NewError) -> u8
     }
 }
 
+/// Returns what the streams of a job declare of their units.
+fn declared_limits(alloc: Global, plans: &JobPlans) -> Result<Vec<UnitLimits>, AllocError>
+    ensures { IfOk result (λ limits. limits.items ≡ map limits_of (plans_view plans.now []).description.streams) }
+{
+    stream_limits(alloc, description_of(plans).streams())
+}
+
 /// Takes the records of a run, writes all its slots, and returns the status.
 fn air<R: HeldInput, W: Sink, E: Sink>(
     alloc: Global,
     options: AirOptions,
+    streams: &[UnitLimits],
     on_air: &mut OnAir,
     input: &mut R,
     output: &mut W,
     faults: &mut E,
 ) -> u8
-    ensures { (run : Run) → IsOnAir run silence (W.contents output.old) (W.contents output.old) on_air.old →
+    ensures { (run : Run) → streams.now ≡ limits_in run →
+        IsOnAir run silence (W.contents output.old) (W.contents output.old) on_air.old →
         spec.AirsRecords options run (reads R.Source input.old input.new) (writes W.Sink output.old output.new)
         (writes E.Sink faults.old faults.new) result }
 {
-    let end = match hear_all(alloc, options.stop, on_air, input, output, faults) {
+    let end = match hear_all(alloc, options.stop, streams, on_air, input, output, faults) {
         Ok(end) => end,
         Err(_) => return report_halt(faults, Halt::Write),
     };
@@ -104,11 +116,16 @@ fn air_job<R: HeldInput, W: Sink, E: Sink>(
         Ok(plans) => plans,
         Err(error) => return report_front(faults, error),
     };
+    let Ok(limits) = declared_limits(alloc, &plans) else {
+        // By a call: at the end of a function the drop of each part would be a step of its proof.
+        drop(plans);
+        return report_halt(faults, Halt::Memory);
+    };
     let mut on_air = match begin(alloc, options, plans) {
         Ok(on_air) => on_air,
         Err(cause) => return report_begin(faults, cause),
     };
-    let status = air(alloc, options, &mut on_air, input, output, faults);
+    let status = air(alloc, options, &limits, &mut on_air, input, output, faults);
     // By a call: at the end of a function the drop of each part would be a step of its proof.
     drop(on_air);
     status

@@ -3,7 +3,7 @@ use Rattle.counted_io.specs.Device.{Failed}
 use Rattle.devices.specs.Devices.{Device, Port, between}
 use Rattle.on_air.specs.declared.answers.Heard.TheVariants.{Ended}
 use Rattle.on_air.proofs.HeardRecords.{names_same}
-use Rattle.tsair_cli.proofs.HeardRecords.{ends, fails, first, follow_fails, next, stops}
+use Rattle.tsair_cli.proofs.HeardRecords.{by_limits, ends, fails, first, follow_fails, next, stops}
 use Rattle.tsair_cli.proofs.hearing.hear_all.Goals as goal
 
 pub records-init : goal.records-init
@@ -11,7 +11,7 @@ records-init g c = record {
   reads = refl;
   writes = refl;
   stops = λ on. refl;
-  known = λ run start h.
+  known = λ run start limits h.
       first run (g.R.Read.remaining c.args.input.now) start (g.W.Write.contents c.args.output.now)
       (record { bytes = g.E.Write.contents c.args.faults.now; failed = g.E.Sink.fault_count c.args.faults.now }) c.args.on_air.now h;
 }
@@ -23,8 +23,8 @@ records-preserved-else-stop g c =
       reads = clean.0 ∙ c.records.invariant.reads;
       writes = c.in-Ok.ensures.clean ∙ clean.1 ∙ c.records.invariant.writes;
       stops = λ on. sym on ∙ c.if-stop.false;
-      known = λ run start h.
-          let m = c.records.invariant.known run start h in
+      known = λ run start limits h.
+          let m = c.records.invariant.known run start limits h in
           next run (g.R.Read.remaining c.args.input.now) (g.R.Read.remaining c.records.input) (g.R.Read.remaining c.hear_on.new.input) start
           (g.W.Write.contents c.records.output) (g.W.Write.contents c.hear_on.new.to) (g.W.Write.contents c.follow.new.to)
           (record { bytes = g.E.Write.contents c.args.faults.now; failed = g.E.Sink.fault_count c.args.faults.now })
@@ -35,13 +35,13 @@ records-preserved-else-stop g c =
           (c.in-Ok-Refused.ensures.heard run m.airs.heard_is.count m.airs.came (g.R.Read.remaining c.args.input.now) start m.state
           m.airs.heard_is.heard_is))
           (λ a on. c.in-Ok.ensures.ok run a start on)
-          c.report_refused.ensures;
+          (by_limits run c.args.streams.now (c.in-Ok-Refused.index, c.in-Ok-Refused.cause) _ limits c.report_refused.ensures);
     }
 
 pub returns-then-stop : goal.returns-then-stop
-returns-then-stop g c = λ run start h.
+returns-then-stop g c = λ run start limits h.
     let clean = rw c.in-Ok-Refused.field-0-is at c.in-Ok-Refused.ensures.fault in
-    let m = c.records.invariant.known run start h in
+    let m = c.records.invariant.known run start limits h in
     let input : Device = between (record { bytes = g.R.Read.remaining c.args.input.now; failed = g.R.Source.fault_count c.args.input.now })
     (record { bytes = g.R.Read.remaining c.hear_on.new.input; failed = g.R.Source.fault_count c.hear_on.new.input }) in
     let output : Device = between (record { bytes = g.W.Write.contents c.args.output.now; failed = g.W.Sink.fault_count c.args.output.now })
@@ -55,13 +55,14 @@ returns-then-stop g c = λ run start h.
     (rw c.in-Ok-Refused.field-0-is at
     (c.in-Ok-Refused.ensures.heard run m.airs.heard_is.count m.airs.came (g.R.Read.remaining c.args.input.now) start m.state m.airs.heard_is.heard_is))
     (λ a on. c.in-Ok.ensures.ok run a start on)
-    c.report_refused.ensures c.if-stop.true c.records.invariant.stops
+    (by_limits run c.args.streams.now (c.in-Ok-Refused.index, c.in-Ok-Refused.cause) _ limits c.report_refused.ensures) c.if-stop.true
+    c.records.invariant.stops
     (clean.0 ∙ c.records.invariant.reads) (c.in-Ok.ensures.clean ∙ clean.1 ∙ c.records.invariant.writes)
 
 pub returns-in-Err-follow : goal.returns-in-Err-follow
-returns-in-Err-follow g c = λ run start h.
+returns-in-Err-follow g c = λ run start limits h.
     let clean = rw c.in-Ok-Refused.field-0-is at c.in-Ok-Refused.ensures.fault in
-    let m = c.records.invariant.known run start h in
+    let m = c.records.invariant.known run start limits h in
     let input : Device = between (record { bytes = g.R.Read.remaining c.args.input.now; failed = g.R.Source.fault_count c.args.input.now })
     (record { bytes = g.R.Read.remaining c.hear_on.new.input; failed = g.R.Source.fault_count c.hear_on.new.input }) in
     let output : Device = between (record { bytes = g.W.Write.contents c.args.output.now; failed = g.W.Sink.fault_count c.args.output.now })
@@ -75,13 +76,13 @@ returns-in-Err-follow g c = λ run start h.
     (rw c.in-Ok-Refused.field-0-is at
     (c.in-Ok-Refused.ensures.heard run m.airs.heard_is.count m.airs.came (g.R.Read.remaining c.args.input.now) start m.state m.airs.heard_is.heard_is))
     (λ a on. c.in-Err-follow.ensures.err run a start on)
-    c.report_refused.ensures c.records.invariant.stops
+    (by_limits run c.args.streams.now (c.in-Ok-Refused.index, c.in-Ok-Refused.cause) _ limits c.report_refused.ensures) c.records.invariant.stops
     (clean.0 ∙ c.records.invariant.reads)
     (subst (λ (n : ℕ). Failed n (g.W.Sink.fault_count c.follow.new.to)) (clean.1 ∙ c.records.invariant.writes) c.in-Err-follow.ensures.fault)
 
 pub returns-in-Ok-Ended : goal.returns-in-Ok-Ended
-returns-in-Ok-Ended g c = λ run start h.
-    let m = c.records.invariant.known run start h in
+returns-in-Ok-Ended g c = λ run start limits h.
+    let m = c.records.invariant.known run start limits h in
     let input : Device = between (record { bytes = g.R.Read.remaining c.args.input.now; failed = g.R.Source.fault_count c.args.input.now })
     (record { bytes = g.R.Read.remaining c.hear_on.new.input; failed = g.R.Source.fault_count c.hear_on.new.input }) in
     let output : Device = between (record { bytes = g.W.Write.contents c.args.output.now; failed = g.W.Sink.fault_count c.args.output.now })
@@ -98,8 +99,8 @@ returns-in-Ok-Ended g c = λ run start h.
     c.records.invariant.stops
 
 pub returns-in-Err : goal.returns-in-Err
-returns-in-Err g c = λ run start h.
-    let m = c.records.invariant.known run start h in
+returns-in-Err g c = λ run start limits h.
+    let m = c.records.invariant.known run start limits h in
     let input : Device = between (record { bytes = g.R.Read.remaining c.args.input.now; failed = g.R.Source.fault_count c.args.input.now })
     (record { bytes = g.R.Read.remaining c.hear_on.new.input; failed = g.R.Source.fault_count c.hear_on.new.input }) in
     let output : Device = between (record { bytes = g.W.Write.contents c.args.output.now; failed = g.W.Sink.fault_count c.args.output.now })

@@ -10,7 +10,7 @@ returns-in-Followed-clause-err g c = λ run a start h.
     follow_fails run a c.args.refusal _ _ c.in-Followed.due start _ c.write_until.result c.in-Followed.is (c.write_until.ensures.err run a start h)
 
 pub returns-in-Ahead-clause-ok : goal.returns-in-Ahead-clause-ok
-returns-in-Ahead-clause-ok g c = λ run a start h. stays_ahead run a c.args.refusal start _ _ c.in-Ahead.is h
+returns-in-Ahead-clause-ok g c = λ run a start h. stays_ahead run a c.args.refusal c.in-Ahead.field-0 start _ _ c.in-Ahead.is h
 
 pub returns-in-Feed-clause-ok : goal.returns-in-Feed-clause-ok
 returns-in-Feed-clause-ok g c = λ run a start h. stays_fed run a c.args.refusal c.in-Feed.field-0 start _ _ c.in-Feed.is h

@@ -1,4 +1,4 @@
-use Rattle.std.proofs.Common.{◌≡◌, ◌+◌, ℕ, max, true, false, sym, ap, ◌∙◌, subst}
+use Rattle.std.proofs.Common.{◌≡◌, ◌+◌, ℕ, max, true, false, refl, sym, ap, ◌∙◌, subst}
 use Rattle.pes_packet.specs.AccessUnits.{AccessUnit}
 use Rattle.mux_core.specs.MuxStates.{MuxState}
 use Rattle.on_air.specs.declared.options.Terms.{Terms}
@@ -16,7 +16,7 @@ returns-then-is_far-clause-takes g c = λ run a start h.
     sym (far_same run a (c.args.stream, c.args.unit) start _ c.args.self.now c.self.inside.terms.ahead c.self.inside.greatest c.unit.inside.dts h
     (ap (λ (t : Terms). t.ahead) terms) greatest due)
     ∙ sym c.is_far.ensures ∙ c.if-is_far.true in
-    c.pass_over.ensures.passes run a (c.args.stream, c.args.unit) start _ h due far
+    c.pass_over.ensures.passes run a (c.args.stream, c.args.unit) start _ h refl due far
 
 pub returns-in-Some-clause-takes : goal.returns-in-Some-clause-takes
 returns-in-Some-clause-takes g c = λ run a start h.
@@ -32,7 +32,7 @@ returns-in-Some-clause-takes g c = λ run a start h.
     sym (far_same run a (c.args.stream, c.args.unit) start _ c.args.self.now c.self.inside.terms.ahead c.self.inside.greatest c.unit.inside.dts h
     (ap (λ (t : Terms). t.ahead) terms) greatest due)
     ∙ sym c.is_far.ensures ∙ c.if-is_far.false in
-    refused_on run a (c.args.stream, c.args.unit) c.in-Some.cause start _ c.args.self.now _ h (record { terms = terms; rate = rate; lead = lead }) packets
+    refused_on run a (c.args.stream, c.args.unit) c.in-Some.unit start _ c.args.self.now _ h (record { terms = terms; rate = rate; lead = lead }) packets
     greatest (ap (λ (x : AirState). x.leap) c.self.view_is) records
     (rw c.in-Some.is at (c.admit.ensures run a carries h.promises near))
 

@@ -1,7 +1,0 @@
-use Rattle.std.proofs.Common.{append_assoc}
-use Rattle.explained_jobs.specs.UnitWords.{late_words}
-use Rattle.explained_jobs.proofs.unit_words.write_late.Goals as goal
-
-pub returns : goal.returns
-unfolding late_words
-returns c = simp append_assoc c.write.ensures.bytes
