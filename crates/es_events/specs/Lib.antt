@@ -7,3 +7,5 @@ pub mod VideoFigures
 pub mod VideoEvents
 pub mod TraceEvents
 pub mod EntryStays
+pub mod Rings
+pub mod Traces

@@ -4,8 +4,8 @@ use Rattle.tstd_rows.specs.Entering.{EnteredView}
 use Rattle.tstd_rows.specs.Lows.{least_of_both}
 use Rattle.tstd_rows.specs.declared.unit_seen.UnitSeen.{UnitSeen}
 use Rattle.es_events.specs.declared.tally.Tally.{Tally}
-use Rattle.fault_traces.specs.Traces.{no_traces, traces_after}
-use Rattle.fault_traces.specs.declared.row.TraceRow.{TraceRow}
+use Rattle.es_events.specs.Traces.{no_traces, traces_after}
+use Rattle.es_events.specs.declared.row.TraceRow.{TraceRow}
 use Rattle.tstd_rows.specs.Held.{Held}
 use Rattle.tstd_rows.specs.History.{last_of}
 use Rattle.tstd_rows.specs.Limits.{tb_size}

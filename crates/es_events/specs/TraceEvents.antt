@@ -2,12 +2,12 @@
 use Rattle.std.specs.Prelude.{ℕ, if◌then◌else◌, List, [], ◌++◌, flat_map, ◌==◌, Option, Some, None}
 use Rattle.std.specs.Option.{option_to_list}
 use Rattle.tstd_rows.specs.Limits.{tb_size}
-use Rattle.fault_traces.specs.declared.ring.Ring.{Ring}
-use Rattle.fault_traces.specs.declared.row.TraceRow.{TraceRow}
-use Rattle.fault_traces.specs.declared.traces.Trace.{Trace}
-use Rattle.fault_traces.specs.declared.traces.Traces.{Traces}
-use Rattle.fault_traces.specs.Rings.{rows_of}
-use Rattle.fault_traces.specs.Traces.{ring_of}
+use Rattle.es_events.specs.declared.ring.Ring.{Ring}
+use Rattle.es_events.specs.declared.row.TraceRow.{TraceRow}
+use Rattle.es_events.specs.declared.traces.Trace.{Trace}
+use Rattle.es_events.specs.declared.traces.Traces.{Traces}
+use Rattle.es_events.specs.Rings.{rows_of}
+use Rattle.es_events.specs.Traces.{ring_of}
 use Rattle.events.specs.declared.event.Event.{Event}
 use Rattle.events.specs.declared.event.Event.TheVariants as found
 use Rattle.events.specs.declared.rule_event.BufferKind.{BufferKind}

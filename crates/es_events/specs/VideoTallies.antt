@@ -1,7 +1,7 @@
 -- Counts of the two buffers of video: excesses of both, late units, and the rows around the greatest excess of each.
 use Rattle.std.specs.Prelude.{ℕ, is_some, if◌then◌else◌, length, Option, Some, None}
-use Rattle.fault_traces.specs.Traces.{no_traces, traces_after}
-use Rattle.fault_traces.specs.declared.row.TraceRow.{TraceRow}
+use Rattle.es_events.specs.Traces.{no_traces, traces_after}
+use Rattle.es_events.specs.declared.row.TraceRow.{TraceRow}
 use Rattle.tstd_rows.specs.Held.{Held}
 use Rattle.tstd_rows.specs.History.{last_of}
 use Rattle.tstd_rows.specs.HeldVideo.{VideoEnteredView}

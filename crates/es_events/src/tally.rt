@@ -4,7 +4,7 @@ ghost use Rattle.tstd_rows.specs.Entering.{entered_view};
 ghost use Rattle.tstd_rows.specs.Lows.{least_of_both};
 ghost use Rattle.es_events.specs.Tallies as spec;
 
-use fault_traces::{TraceRow, Traces};
+use crate::{TraceRow, Traces};
 use tstd_rows::{Entered, TRANSPORT_BYTES, UnitSeen};
 
 /// The counts of a stream. Numbers stop at 2^64 - 1. It is changed in place, so that it is not moved.

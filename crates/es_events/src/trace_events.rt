@@ -9,8 +9,8 @@ use crate::entry_events::{Place, moment_of};
 use crate::video_events::with_size;
 use crate::video_tally::VideoLimits;
 use crate::view_options::ViewOptions;
+use crate::{Ring, Trace, TraceRow, Traces};
 use events::{BufferKind, Event, RuleEvent, TracePoint};
-use fault_traces::{Ring, Trace, TraceRow, Traces};
 use std::alloc::AllocError;
 use tstd_rows::TRANSPORT_BYTES;
 

@@ -1,10 +1,10 @@
 //! Counts of MB and EB, the two buffers of video.
 ghost use Rattle.std.specs.Prelude.{◌≡◌};
-ghost use Rattle.fault_traces.specs.Traces.{traces_after};
+ghost use Rattle.es_events.specs.Traces.{traces_after};
 ghost use Rattle.tstd_rows.specs.HeldVideo.{video_view};
 ghost use Rattle.es_events.specs.VideoTallies as spec;
 
-use fault_traces::{TraceRow, Traces};
+use crate::{TraceRow, Traces};
 use tstd_rows::{VideoEntered, VideoUnit};
 
 /// The sizes of both buffers.

@@ -27,7 +27,7 @@ use Rattle.es_feed.proofs.FedPackets.{marked_both, packet_marking, packets_marki
 use Rattle.es_feed.proofs.FedRises.{rise_on}
 use Rattle.fed_streams.proofs.ListedStreams.{AreKeys, Key, key, keys}
 use Rattle.es_feed.proofs.OwnUnits.{AreAlone, alone_first, come_carried, to_come}
-use Rattle.given_marks.specs.Marking.{MarkingView, all_marked}
+use Rattle.es_units.specs.Marking.{MarkingView, all_marked}
 use Rattle.es_moments.specs.WireUnits.{CarriedUnit}
 
 -- 1. Packets as findings and clock references

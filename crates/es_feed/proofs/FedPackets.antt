@@ -26,7 +26,7 @@ use Rattle.fed_streams.specs.Ticks.{after_end_at, after_late, after_own, after_p
 use Rattle.fed_streams.specs.Ticks.{fed_packet}
 use Rattle.fed_streams.specs.Ticks.{fed_packets, fed_pcr, is_tick, late_after, passed_from, with_shown, with_tick}
 use Rattle.fed_streams.proofs.FedUnits.{in_turn}
-use Rattle.given_marks.specs.Marking.{MarkingView, all_marked, marked}
+use Rattle.es_units.specs.Marking.{MarkingView, all_marked, marked}
 
 -- 1. Packets after earlier packets
 

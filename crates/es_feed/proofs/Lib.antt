@@ -21,3 +21,7 @@ pub mod WatchedStreams
 pub mod ContinuedClocks
 pub mod DamagedReferences
 pub mod ClockSteps
+pub mod PendingOutput
+pub mod ReportedLines
+pub mod PassedStreams
+pub mod EndedStreams

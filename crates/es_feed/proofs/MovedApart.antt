@@ -10,7 +10,7 @@ use Rattle.fed_streams.specs.Feeding.{Fed, FedStreamView, feed_first}
 use Rattle.es_feed.specs.MovedApart.{AreApart, AreWhole, BeginNear, FedApart, after_time}
 use Rattle.es_feed.specs.StreamFeeding.{fed_of}
 use Rattle.es_feed.proofs.EachStream.{by_one_constant, first_stream}
-use Rattle.given_marks.specs.Marking.{all_marked}
+use Rattle.es_units.specs.Marking.{all_marked}
 use Rattle.es_feed.proofs.FedSteps.{own_unit}
 use Rattle.es_units.specs.CarriedUnits.{apart_wire_units}
 

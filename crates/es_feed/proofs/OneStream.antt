@@ -40,7 +40,7 @@ use Rattle.es_feed.specs.Laws.{FedAsCarried, beside_packets, has_loss, is_loss, 
 use Rattle.es_feed.proofs.ApartOnes.{not_apart}
 use Rattle.es_feed.proofs.OwnUnits.{to_come, to_come_more}
 use Rattle.es_feed.proofs.Restarts.{fault_split, no_fall, no_restart}
-use Rattle.given_marks.specs.Marking.{no_marking}
+use Rattle.es_units.specs.Marking.{no_marking}
 use Rattle.fed_streams.proofs.UncutUnits.{Uncut, no_unit, past_here, uncut_step, under_cut}
 use Rattle.es_moments.specs.WireUnits.{CarriedUnit}
 

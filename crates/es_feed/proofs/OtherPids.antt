@@ -16,8 +16,8 @@ use Rattle.pid_findings.specs.Views.{FindingView}
 use Rattle.pid_findings.specs.declared.finding.Kind.{Kind}
 use Rattle.pid_findings.specs.declared.finding.Kind.TheVariants as kinds
 use Rattle.demux.proofs.EachPid.{turned_test}
-use Rattle.given_marks.specs.Marking.{MarkingView, all_marked, is_begin, marked, with_access, with_alignment}
-use Rattle.given_marks.specs.Marking as given
+use Rattle.es_units.specs.Marking.{MarkingView, all_marked, is_begin, marked, with_access, with_alignment}
+use Rattle.es_units.specs.Marking as given
 use Rattle.fed_streams.specs.declared.fed_map.CurrentMap.{CurrentMap}
 use Rattle.fed_streams.specs.declared.feed_fault.NewMap.{NewMap}
 use Rattle.fed_streams.specs.declared.feed_fault.OtherStream.{OtherStream}

@@ -13,7 +13,7 @@ use Rattle.demux.proofs.PushedBytes.{pushed_less}
 use Rattle.demux.proofs.StreamEnd.{ended_next}
 use Rattle.fed_streams.specs.Feeding.{Fed, FeedView, after_all, fed_all, fed_ends}
 use Rattle.fed_streams.proofs.FedUnits.{in_turn}
-use Rattle.given_marks.specs.Marking.{MarkingView, all_marked}
+use Rattle.es_units.specs.Marking.{MarkingView, all_marked}
 use Rattle.es_feed.specs.StreamFeeding.{after_marked, fed_marked, fed_rest}
 use Rattle.es_feed.proofs.FedPackets.{all_marking, findings_more, marked_both, rest_fed}
 

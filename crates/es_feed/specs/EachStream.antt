@@ -11,7 +11,7 @@ use Rattle.es_units.specs.CarriedUnits.{RoleView, Ignored, Start, Continuation, 
 use Rattle.es_moments.specs.Stamps.{moved}
 use Rattle.es_units.specs.UnitSteps.{none_so_far}
 use Rattle.fed_streams.specs.Feeding.{Fed, FedStreamView, feed_first}
-use Rattle.given_marks.specs.Marking.{MarkingView, all_marked}
+use Rattle.es_units.specs.Marking.{MarkingView, all_marked}
 use Rattle.es_feed.specs.StreamFeeding.{fed_of}
 use Rattle.fed_streams.specs.Maps.{MapView}
 

@@ -14,7 +14,7 @@ use Rattle.fed_streams.specs.Ticks.{after_packets, fed_packets}
 use Rattle.fed_streams.specs.declared.feed_fault.FeedFault.{FeedFault}
 use Rattle.fed_streams.specs.declared.feed_fault.FeedFault.TheVariants.{Packet, Stray}
 use Rattle.fed_streams.specs.declared.feed_fault.Loss.{Loss}
-use Rattle.given_marks.specs.Marking.{all_marked, no_marking}
+use Rattle.es_units.specs.Marking.{all_marked, no_marking}
 
 -- one stream of a PID and no map, before its first unit
 abbrev pub one_stream : ℕ → ℕ → ℕ → FeedView

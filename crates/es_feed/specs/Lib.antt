@@ -5,3 +5,6 @@ pub mod StreamFeeding
 pub mod Watching
 pub mod FedLines
 pub mod DamagedReferences
+pub mod Records
+pub mod StreamLines
+pub mod Passing

@@ -7,7 +7,7 @@ use Rattle.es_feed.specs.EachStream.{AreFirst, found_of_all, have_fault, one_by_
 use Rattle.fed_streams.specs.Feeding.{Fed, FedStreamView, feed_first}
 use Rattle.es_feed.specs.StreamFeeding.{fed_of}
 use Rattle.fed_streams.specs.Maps.{MapView}
-use Rattle.given_marks.specs.Marking.{MarkingView, all_marked}
+use Rattle.es_units.specs.Marking.{MarkingView, all_marked}
 use Rattle.es_units.specs.CarriedUnits.{apart_wire_units}
 
 -- a unit that is due so much later

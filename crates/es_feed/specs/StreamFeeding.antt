@@ -8,7 +8,7 @@ use Rattle.demux.specs.KeptBodies.{bodies_left_out_but}
 use Rattle.packet_sync.specs.Slips.{carried}
 use Rattle.pid_findings.specs.Views.{FindingView}
 use Rattle.fed_streams.specs.Feeding.{Fed, FedStreamView, FeedView, after_all, fed_all, fed_to_end}
-use Rattle.given_marks.specs.Marking.{all_marked}
+use Rattle.es_units.specs.Marking.{all_marked}
 use Rattle.packet_pcr.specs.PacketPcr.{pcr_at}
 use Rattle.fed_streams.specs.Ticks.{after_packet, after_packets, fed_packet, fed_packets}
 

@@ -7,14 +7,24 @@
 //! takes the bytes of a stream in pieces of any size, the packets in step (`specs/StreamFeeding`): at its end it has
 //! fed what the whole stream feeds, and at each moment a beginning of it. A `WatchedFeed` finds where packets are out
 //! of step, too (`specs/Watching`). `specs/FedLines` says which records the feed writes.
+//!
+//! Records of units are written on an output in large pieces: [`write_job`] writes a job's texts and the records of units
+//! that are given (`specs/Records`); [`pass_stream`] reads a stream as it arrives, and writes all units that a read makes
+//! whole before the next read, with a report on each unit that has no moment. `specs/Passing` says what has gone out of a
+//! stream at each end.
 #![tactic(auto)]
 
 mod clock_feed;
+mod fed_records;
 mod laws;
 mod packet_ends;
 mod packet_feed;
+mod passing;
+mod pending;
+mod records;
 mod slip_watch;
 mod stream_feed;
+mod stream_lines;
 mod unit_feed;
 pub mod watched_feed;
 
@@ -22,5 +32,7 @@ pub use laws::{
     damage_moves_nothing, fed_apart, fed_as_carried, fed_by_one_constant, fed_in_order,
     fed_in_turn, fed_so_far, fed_without_clock, ticks_are_past,
 };
+pub use passing::pass_stream;
+pub use records::write_job;
 pub use stream_feed::StreamFeed;
 pub use unit_feed::UnitFeed;

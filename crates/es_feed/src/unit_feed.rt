@@ -3,10 +3,11 @@
 ghost use Rattle.std.specs.Prelude.{◌≡◌, ◌≤◌, ◌++◌, ◌^◌, IfOk, IfSome, OnOk, map};
 ghost use Rattle.pid_findings.specs.Shown.{finding_view};
 ghost use Rattle.std.specs.Option.{option_to_list};
-ghost use Rattle.given_marks.specs.Marking.{all_marked};
+ghost use Rattle.es_units.specs.Marking.{all_marked};
 ghost use Rattle.fed_streams.specs.Feeding as spec;
 ghost use Rattle.es_feed.specs.StreamFeeding.{stream_pids};
 
+use es_units::Marking;
 use fed_streams::due::Due;
 use fed_streams::fed_map::{other_stream, watch};
 use fed_streams::fed_streams::{greatest_of, pids_of, place_of, take_at};
@@ -14,7 +15,6 @@ use fed_streams::feed_fault::OtherStream;
 use fed_streams::origin::Origin;
 use fed_streams::restart::{Seen, fallen_after, origin_by, restart_of, seen_of};
 use fed_streams::{FedMap, FedStream, FeedFault, NewMap, PacketFault, Restart};
-use given_marks::Marking;
 use pes_packet::Unit;
 use pid_findings::{Finding, What};
 use std::alloc::{AllocError, Global};

@@ -8,3 +8,5 @@ pub mod ApartSteps
 pub mod UnitSteps
 pub mod TakenUnits
 pub mod PidPlaces
+mod TypedPids
+pub mod MarkedFindings

@@ -7,3 +7,5 @@ pub mod UnitSteps
 pub mod ApartSteps
 pub mod TakenUnits
 pub mod PidPlaces
+pub mod Marking
+pub mod MarkLaws

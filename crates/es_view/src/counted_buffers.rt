@@ -10,6 +10,7 @@ ghost use Rattle.es_view.specs.EntryFrames.{AreCounted, Counted};
 ghost use Rattle.es_events.specs.Tallies.{excess_counts, more, row_of, tally_with};
 ghost use Rattle.tstd_rows.specs.History.{last_of};
 
+use es_events::TraceRow;
 use es_events::clocks::LONGEST_STAY;
 use es_events::entry_events::{Place, push_ended};
 use es_events::entry_stays::{overstay_of, push_delayed_if};
@@ -19,7 +20,6 @@ use es_events::video_figures::video_limits;
 use es_events::video_tally::{VideoLimits, VideoTally};
 use es_events::view_options::ViewOptions;
 use events::{BufferKind, Event};
-use fault_traces::TraceRow;
 use sound_frames::FramePart;
 use std::alloc::AllocError;
 use tstd_rows::{

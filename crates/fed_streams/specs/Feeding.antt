@@ -31,7 +31,7 @@ use Rattle.fed_streams.specs.declared.restart.Seen.TheVariants.{NoUnit, Good, Fa
 use Rattle.fed_streams.specs.Origins.{base_for, no_origin, origin_with}
 use Rattle.fed_streams.specs.Maps.{MapView, maps_after, new_map, other_stream}
 use Rattle.fed_streams.specs.Restarts.{fallen_after, is_fall, origin_by, restart_of}
-use Rattle.given_marks.specs.Marking.{MarkingView}
+use Rattle.es_units.specs.Marking.{MarkingView}
 use Rattle.es_moments.specs.WireUnits.{CarriedUnit}
 
 -- 1. A stream

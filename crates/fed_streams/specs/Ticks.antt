@@ -22,7 +22,7 @@ use Rattle.fed_streams.specs.Clocks.{earlier_after, origin_stepped, report_of, s
 use Rattle.fed_streams.specs.declared.clock_jump.ClockStep.{ClockStep}
 use Rattle.fed_streams.specs.Feeding.{Fed, FedStreamView, FeedView, after_all, due_of, fed_all, fed_by, feed_with, greatest_from, greatest_of}
 use Rattle.fed_streams.specs.Maps.{clock_pid}
-use Rattle.given_marks.specs.Marking.{all_marked}
+use Rattle.es_units.specs.Marking.{all_marked}
 use Rattle.fed_streams.specs.Origins.{base_for}
 use Rattle.es_moments.specs.WireUnits.{CarriedUnit}
 

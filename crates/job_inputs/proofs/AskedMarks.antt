@@ -1,8 +1,8 @@
 -- Options that ask for no marks mark no finding.
 use Rattle.std.proofs.Common.{◌≡◌, ◌∙◌, false, List, [], refl, ap}
 use Rattle.pid_findings.specs.Views.{FindingView}
-use Rattle.given_marks.specs.Marking.{MarkingView, all_marked, no_marking}
-use Rattle.given_marks.proofs.MarkedFindings.{nothing_marked}
+use Rattle.es_units.specs.Marking.{MarkingView, all_marked, no_marking}
+use Rattle.es_units.proofs.MarkedFindings.{nothing_marked}
 use Rattle.job_inputs.specs.AskedMarks.{NoneIsAsked, marking_of}
 use Rattle.job_programs.specs.JobOptions.{JobOptionsView}
 

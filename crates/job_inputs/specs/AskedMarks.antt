@@ -4,8 +4,8 @@ use Rattle.pid_findings.specs.Views.{FindingView}
 use Rattle.program_tables.specs.Association.{AssociationView, association}
 use Rattle.stream_programs.specs.Programs.{programs_of}
 use Rattle.stream_programs.specs.Streams.{FoundStreamView}
-use Rattle.given_marks.specs.Marking.{MarkingView, all_marked}
-use Rattle.given_marks.specs.declared.marking.TypedPid.{TypedPid}
+use Rattle.es_units.specs.Marking.{MarkingView, all_marked}
+use Rattle.es_units.specs.declared.marking.TypedPid.{TypedPid}
 use Rattle.job_inputs.specs.JobInput.{named_of}
 use Rattle.job_programs.specs.JobOptions.{JobOptionsView}
 

@@ -5,7 +5,7 @@ ghost use Rattle.pid_findings.specs.Shown.{finding_view};
 ghost use Rattle.job_inputs.specs.AskedMarks as spec;
 
 use crate::input_draft::selected_programs;
-use given_marks::{Marking, TypedPid};
+use es_units::{Marking, TypedPid};
 use job_programs::JobOptions;
 use pid_findings::Finding;
 use program_tables::{Association, named_programs};

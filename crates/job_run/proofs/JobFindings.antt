@@ -1,9 +1,9 @@
 -- The findings of a job, from those of its parts
 use Rattle.std.proofs.Common.{◌≡◌, ◌∙◌, ℕ, Bool, List, refl}
 use Rattle.pid_findings.specs.Views.{FindingView}
-use Rattle.data_times.specs.DataTimes.{timed}
+use Rattle.stamp_repair.specs.DataTimes.{timed}
 use Rattle.packet_pcr.specs.declared.pcr_reading.FoundPcr.{FoundPcr}
-use Rattle.lone_stamps.specs.LoneStamps.{lone_damaged}
+use Rattle.stamp_repair.specs.LoneStamps.{lone_damaged}
 use Rattle.job_run.specs.Streams.{falling_by, findings_by, parts_by, references_by}
 
 pub made_findings : (joined : Bool) (references own : List FoundPcr) (findings parts made : List FindingView) (falling : List ℕ) →

@@ -10,7 +10,7 @@ use Rattle.slot_plan.specs.Conditions.{IsServing}
 use Rattle.slot_plan.specs.Planned.{Planned, plan_error}
 use Rattle.slot_plan.specs.Text.{plan_text}
 use Rattle.job_programs.specs.Answers.{Answers, Refuses}
-use Rattle.data_times.specs.References.{references_in}
+use Rattle.stamp_repair.specs.References.{references_in}
 use Rattle.packet_pcr.specs.declared.pcr_reading.FoundPcr.{FoundPcr}
 use Rattle.job_inputs.specs.AskedMarks.{as_asked}
 use Rattle.stream_jobs.specs.Jobs.{AllAgree, AreUnits, IsDescription, IsJob}
@@ -38,7 +38,7 @@ use Rattle.job_run.specs.Outcomes.{BytesLead, FindingsLead, Gives, GivesJob, Giv
 use Rattle.job_run.specs.Outcomes.{LeadsWhole, PerformsJob, ReportsRefusal, ReportsWhy, Withholds, found_line}
 use Rattle.std.specs.Int.{bytes_high_first}
 use Rattle.unit_records.specs.Records.{private_bytes, private_size, record_head, word_of}
-use Rattle.es_records.specs.Records.{records_of, written}
+use Rattle.es_feed.specs.Records.{records_of, written}
 use Rattle.job_run.specs.SeveralInputs.{GivesJobIn}
 use Rattle.job_run.specs.Streams.{IsOfStream, IsRead, PacketNotesView, ReadingView, ReadsStream, asked_findings, findings_by, findings_for, notes_by}
 use Rattle.job_run.specs.Streams.{notes_for}

@@ -28,7 +28,7 @@ use Rattle.job_lines.specs.InputLines.{are_lost, input_line, name_of, note_lines
 use Rattle.job_lines.specs.RefusalLine.{refusal_in}
 use Rattle.job_lines.specs.SlipLines.{wrong_line}
 use Rattle.job_programs.specs.Answers.{Answers, Refuses}
-use Rattle.data_times.specs.References.{references_in}
+use Rattle.stamp_repair.specs.References.{references_in}
 use Rattle.packet_pcr.specs.declared.pcr_reading.FoundPcr.{FoundPcr}
 use Rattle.job_inputs.specs.AskedMarks.{as_asked}
 use Rattle.job_programs.specs.JobOptions.{JobOptionsView}

@@ -41,7 +41,7 @@ use Rattle.job_run.specs.declared.job_arguments.Subcommand.{Subcommand}
 use Rattle.job_run.specs.declared.job_arguments.Subcommand.TheVariants.{Whole, Describe, Units, Why}
 use Rattle.job_run.specs.JobArguments.{JobArgumentsView}
 use Rattle.job_lines.specs.FieldLines.{field_lines, reported_fields}
-use Rattle.es_records.specs.Records.{records_of, written}
+use Rattle.es_feed.specs.Records.{records_of, written}
 use Rattle.job_lines.specs.RefusalLine.{refusal_in, refusal_line}
 use Rattle.job_lines.specs.SlipLines.{slip_lines, wrong_line}
 use Rattle.job_run.specs.JumpLines.{any_jump, jump_lines}

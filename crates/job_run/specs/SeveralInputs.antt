@@ -22,7 +22,7 @@ use Rattle.devices.specs.Outcomes.{Outcome, reported}
 use Rattle.job_lines.specs.InputLines.{are_lost, input_line, note_lines}
 use Rattle.job_lines.specs.RefusalLine.{refusal_in, refusal_line}
 use Rattle.job_lines.specs.SlipLines.{wrong_line}
-use Rattle.es_records.specs.Records.{written}
+use Rattle.es_feed.specs.Records.{written}
 use Rattle.job_run.specs.declared.job_arguments.Subcommand.{Subcommand}
 use Rattle.job_run.specs.declared.job_arguments.Subcommand.TheVariants.{Whole, Describe, Units, Why}
 use Rattle.job_run.specs.JobArguments.{JobArgumentsView}

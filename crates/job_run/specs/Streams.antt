@@ -6,8 +6,8 @@ use Rattle.devices.specs.WholeInput.{IsReadAs, ReadsInput, longest_input}
 use Rattle.devices.specs.declared.halt.Halt.{Halt}
 use Rattle.devices.specs.declared.halt.Halt.TheVariants.{Read}
 use Rattle.pid_findings.specs.Views.{FindingView}
-use Rattle.data_times.specs.DataTimes.{TimesView, is_timed, timed, times_of}
-use Rattle.data_times.specs.References.{LogView, logged, no_packet, references_in}
+use Rattle.stamp_repair.specs.DataTimes.{TimesView, is_timed, timed, times_of}
+use Rattle.stamp_repair.specs.References.{LogView, logged, no_packet, references_in}
 use Rattle.packet_pcr.specs.declared.pcr_reading.FoundPcr.{FoundPcr}
 use Rattle.joined_parts.specs.FallingClocks.{falling_pids}
 use Rattle.joined_parts.specs.JumpsAhead.{jumps_ahead}
@@ -15,7 +15,7 @@ use Rattle.joined_parts.specs.Recodings.{recodings_in}
 use Rattle.joined_parts.specs.Recordings.{one_recording, one_references}
 use Rattle.joined_parts.specs.declared.cuts.Cut.{Cut}
 use Rattle.joined_parts.specs.declared.recodings.Recoding.{Recoding}
-use Rattle.lone_stamps.specs.LoneStamps.{lone_damaged}
+use Rattle.stamp_repair.specs.LoneStamps.{lone_damaged}
 use Rattle.demux.specs.Stream.{StreamState, start, pushed, finished}
 use Rattle.packet_sync.specs.FieldsLeftOut.{fields_left_out}
 use Rattle.packet_sync.specs.declared.field.Field.{Field}

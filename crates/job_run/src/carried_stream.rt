@@ -3,11 +3,11 @@ ghost use Rattle.std.specs.Prelude.{◌≡◌, ◌≤◌, ◌++◌, [], IfOk, Li
 ghost use Rattle.demux.specs.Stream.{finished};
 ghost use Rattle.job_run.specs.Streams as spec;
 
-use data_times::ReferenceLog;
 use demux::Demux;
 use joined_parts::{Cut, Recoding};
 use packet_pcr::FoundPcr;
 use packet_sync::{FieldLeftOut, Slip, StreamNotes};
+use stamp_repair::ReferenceLog;
 use std::alloc::{AllocError, Global};
 use std::marker::Model;
 

@@ -75,7 +75,7 @@ pub struct JobText {
 // A contract sees the bytes that are written.
 impl Model for JobText {
     ghost use Rattle.std.specs.Prelude.{ℕ, List, string_bytes};
-    ghost use Rattle.es_records.specs.Records.{written};
+    ghost use Rattle.es_feed.specs.Records.{written};
 
     ghost Value = { List ℕ };
 

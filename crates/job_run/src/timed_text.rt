@@ -2,19 +2,18 @@
 //! teletext PES packet without a PTS has a moment. A PES packet whose stamps are alone out of order is damaged.
 
 ghost use Rattle.std.specs.Prelude.{◌≡◌, IfOk, filter, map};
-ghost use Rattle.data_times.specs.DataTimes as text;
-ghost use Rattle.lone_stamps.specs.LoneStamps.{lone_damaged};
+ghost use Rattle.stamp_repair.specs.DataTimes as text;
+ghost use Rattle.stamp_repair.specs.LoneStamps.{lone_damaged};
 ghost use Rattle.pid_findings.specs.Shown.{finding_view};
 ghost use Rattle.job_run.specs.Streams as spec;
 
 use crate::carried_stream::PacketNotes;
-use data_times::{TextTimes, text_times};
 use job_programs::JobOptions;
 use joined_parts::{Cut, Recoding, falling_pids, jumps_ahead, one_recording, recodings_in};
-use lone_stamps::damage_lone_stamps;
 use packet_pcr::FoundPcr;
 use packet_sync::{Field, FieldLeftOut};
 use pid_findings::Finding;
+use stamp_repair::{TextTimes, damage_lone_stamps, text_times};
 use std::alloc::{AllocError, Global};
 
 // Returns whether a field is of the PES headers that every unit has.

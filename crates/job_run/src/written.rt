@@ -8,7 +8,7 @@ use crate::outcome::{JobOutcome, JobText, stream_outcome};
 use crate::reading::read_stream;
 use counted_io::{Sink, Source};
 use devices::{Halt, report_halt, report_text};
-use es_records::write_job;
+use es_feed::write_job;
 use std::alloc::Global;
 /// Writes an outcome, and returns the status.
 pub fn write_outcome<W: Sink, E: Sink>(outcome: &JobOutcome, output: &mut W, faults: &mut E) -> u8

@@ -4,7 +4,7 @@ use Rattle.pid_findings.specs.Views.{FindingView, WhatView, IsDuplicate, BreaksC
 use Rattle.pid_findings.specs.Views.{IsBadPacket, IsErrored, IsStray}
 use Rattle.program_tables.specs.Association.{association}
 use Rattle.stream_programs.specs.Programs.{FoundProgramsView}
-use Rattle.data_times.specs.DataTimes.{programs_by}
+use Rattle.stamp_repair.specs.DataTimes.{programs_by}
 use Rattle.packet_pcr.specs.declared.pcr_reading.FoundPcr.{FoundPcr}
 use Rattle.joined_parts.specs.Cuts.{cuts_in}
 use Rattle.joined_parts.specs.Joined.{JoinsView, all_moved, joins_for, moved, moved_by, moved_reference, moved_what, reference_by, shift_with}

@@ -5,7 +5,7 @@ use Rattle.pid_findings.specs.Views.{FindingView}
 use Rattle.program_tables.specs.Association.{association}
 use Rattle.stream_programs.specs.Programs.{FoundProgramsView}
 use Rattle.stream_programs.specs.Streams.{FoundStreamView}
-use Rattle.data_times.specs.DataTimes.{programs_by}
+use Rattle.stamp_repair.specs.DataTimes.{programs_by}
 use Rattle.packet_pcr.specs.declared.pcr_reading.FoundPcr.{FoundPcr}
 use Rattle.joined_parts.specs.Cuts.{cuts_in}
 use Rattle.joined_parts.specs.JumpsAhead.{is_forward}

@@ -6,7 +6,7 @@ use Rattle.pes_packet.specs.declared.time_stamps.Stamps.{Stamps}
 use Rattle.pes_packet.specs.declared.time_stamps.Stamps.TheVariants.{Absent, Pts, PtsDts}
 use Rattle.program_tables.specs.Association.{association}
 use Rattle.stream_programs.specs.Programs.{FoundProgramsView}
-use Rattle.data_times.specs.DataTimes.{programs_by}
+use Rattle.stamp_repair.specs.DataTimes.{programs_by}
 use Rattle.packet_pcr.specs.declared.pcr_reading.FoundPcr.{FoundPcr}
 use Rattle.joined_parts.specs.Cuts.{cuts_in}
 use Rattle.joined_parts.specs.Joins.{is_after, joins_of, later}

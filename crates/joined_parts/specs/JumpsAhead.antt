@@ -4,7 +4,7 @@ use Rattle.std.specs.List.{list_any}
 use Rattle.pid_findings.specs.Views.{FindingView}
 use Rattle.es_moments.specs.Stamps.{distance}
 use Rattle.program_tables.specs.Association.{association}
-use Rattle.data_times.specs.DataTimes.{programs_by}
+use Rattle.stamp_repair.specs.DataTimes.{programs_by}
 use Rattle.packet_pcr.specs.declared.pcr_reading.FoundPcr.{FoundPcr}
 use Rattle.joined_parts.specs.Cuts.{cuts_in}
 use Rattle.joined_parts.specs.Joins.{is_between, nearest, next_cut}

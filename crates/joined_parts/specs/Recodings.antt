@@ -14,7 +14,7 @@ use Rattle.stream_programs.specs.FreePids.{is_taken, least_free}
 use Rattle.program_tables.specs.MapPlaces.{program_found}
 use Rattle.program_tables.specs.ProgramMaps.{any_map}
 use Rattle.joined_parts.specs.MapStreams.{with_stream}
-use Rattle.lone_stamps.specs.PesStamps.{begin_of}
+use Rattle.stamp_repair.specs.PesStamps.{begin_of}
 use Rattle.joined_parts.specs.WholeMaps.{section_with, with_section}
 use Rattle.joined_parts.specs.declared.recodings.Recoding.{Recoding}
 

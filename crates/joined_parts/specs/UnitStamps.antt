@@ -3,9 +3,9 @@ use Rattle.std.specs.Prelude.{ℕ, ◌==◌, find, Option, Some, None, List, [],
 use Rattle.pid_findings.specs.Views.{FindingView}
 use Rattle.stream_programs.specs.Programs.{FoundProgramsView}
 use Rattle.stream_programs.specs.Streams.{FoundStreamView}
-use Rattle.data_times.specs.DataTimes.{pcr_if}
-use Rattle.lone_stamps.specs.PesStamps.{stamp_at}
-use Rattle.lone_stamps.specs.declared.pes_stamps.PesStamp.{PesStamp}
+use Rattle.stamp_repair.specs.DataTimes.{pcr_if}
+use Rattle.stamp_repair.specs.PesStamps.{stamp_at}
+use Rattle.stamp_repair.specs.declared.pes_stamps.PesStamp.{PesStamp}
 use Rattle.joined_parts.specs.declared.stamps.UnitStamp.{UnitStamp}
 
 -- the PID of the references of the clock of a stream's program

@@ -8,10 +8,10 @@ ghost use Rattle.joined_parts.specs.Recodings as spec;
 use crate::map_streams::add_stream;
 use crate::recodings::Recoding;
 use crate::whole_maps::{put_section, section_with};
-use lone_stamps::begin_of;
 use pid_findings::Finding;
 use program_tables::any_map;
 use psi_tables::{Pmt, Stream, StreamLoop, Streams};
+use stamp_repair::begin_of;
 use std::alloc::{AllocError, Global};
 
 // Whether a change of the coding of a PID comes after a packet.

@@ -8,9 +8,9 @@ ghost use Rattle.joined_parts.specs.FallingClocks as spec;
 use crate::cuts::{Cut, cuts_in};
 use crate::jumps::is_forward;
 use crate::stamps::clock_of;
-use data_times::programs_in;
 use packet_pcr::FoundPcr;
 use pid_findings::Finding;
+use stamp_repair::programs_in;
 use std::alloc::{AllocError, Global};
 use stream_programs::{FoundPrograms, FoundStream};
 

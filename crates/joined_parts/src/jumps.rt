@@ -7,10 +7,10 @@ ghost use Rattle.joined_parts.specs.JumpsAhead as spec;
 use crate::cuts::{Cut, cuts_in};
 use crate::joins::{NEAREST, is_between, next_cut};
 use crate::stamps::{UnitStamp, stamps_in};
-use data_times::programs_in;
 use es_moments::distance;
 use packet_pcr::FoundPcr;
 use pid_findings::Finding;
+use stamp_repair::programs_in;
 use std::alloc::{AllocError, Global};
 
 // Half the number of stamps: a clock that jumps by less jumps ahead.

@@ -4,9 +4,8 @@ ghost use Rattle.std.specs.Prelude.{◌≡◌, IfOk, OnOk, map};
 ghost use Rattle.pid_findings.specs.Shown.{finding_view};
 ghost use Rattle.joined_parts.specs.UnitStamps as spec;
 
-use data_times::{pcr_of, stream_on};
-use lone_stamps::{PesStamp, stamp_at};
 use pid_findings::Finding;
+use stamp_repair::{PesStamp, pcr_of, stamp_at, stream_on};
 use std::alloc::{AllocError, Global};
 use stream_programs::{FoundPrograms, FoundStream};
 

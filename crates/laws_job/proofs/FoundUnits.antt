@@ -6,13 +6,13 @@ use Rattle.pes_packet.specs.AccessUnits.{AccessUnit}
 use Rattle.pes_packet.specs.Units.{units_of}
 use Rattle.description_parts.specs.Described.{DescribedStream}
 use Rattle.unit_timing.specs.Plans.{KeepsDeclaration}
-use Rattle.plan_timing.specs.Promised.{declaration, Promised}
+use Rattle.slot_plan.specs.Promised.{declaration, Promised}
 use Rattle.unit_queue.specs.OwnedStreams.{timed}
 use Rattle.unit_queue.specs.Queues.{IsUnit, Kept}
 use Rattle.unit_queue.specs.declared.parameters.StreamParameters.{StreamParameters}
 use Rattle.mux_core.specs.Scheduled.{Scheduled}
 use Rattle.mux_core.specs.Histories.{owned_stream}
-use Rattle.laws_pid.specs.Laws.{all_found}
+use Rattle.laws_run.specs.PidLaws.{all_found}
 use Rattle.laws_run.specs.GivenBack.{GivenBack}
 use Rattle.laws_run.specs.Placed.{sent_units}
 use Rattle.es_units.specs.CarriedUnits.{wire_units}

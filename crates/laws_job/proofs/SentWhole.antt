@@ -15,7 +15,7 @@ use Rattle.unit_timing.specs.Arrived.{AllLeft}
 use Rattle.unit_timing.specs.Schedule.{Packet, cut, packets_in_slots}
 use Rattle.unit_timing.specs.Transport.{slots_of, of_payloads, pes_left}
 use Rattle.unit_queue.specs.OwnedStreams.{OwnedStream, timed, packet_count, first_slot, end_slot}
-use Rattle.laws_pid.specs.Sent.{Sending}
+use Rattle.laws_run.specs.Sent.{Sending}
 use Rattle.laws_run.specs.Placed.{units_placed, sent_units}
 use Rattle.laws_job.specs.Laws.{AllDue}
 

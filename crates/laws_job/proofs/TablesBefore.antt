@@ -2,7 +2,7 @@
 use Rattle.std.proofs.Common.{◌≡◌, ℕ, ◌*◌, false, List, take, slice_get, Some, sym, subst}
 use Rattle.pes_packet.specs.Units.{units_of}
 use Rattle.ts_packet.specs.PidList.{pid_list}
-use Rattle.plan_timing.specs.Promised.{PlanLaw}
+use Rattle.slot_plan.specs.Promised.{PlanLaw}
 use Rattle.mux_core.specs.Histories.{content_at}
 use Rattle.mux_core.proofs.JobWriting.{output_bytes}
 use Rattle.laws_run.specs.FollowedTables.{IsFollowed}

@@ -15,8 +15,8 @@ use Rattle.pes_packet.proofs.Written.{header_sizes}
 use Rattle.pid_findings.specs.Views.{FindingView}
 use Rattle.demux.specs.Laws.{with_pid_at}
 use Rattle.unit_queue.specs.OwnedStreams.{OwnedStream, first_slot, end_slot, has_access, packet_count}
-use Rattle.laws_pid.specs.Sent.{Sending, Ending, next_of, if_sent, each_found}
-use Rattle.laws_pid.specs.Units.{carried_in, unit_header, unit_packets, unit_found}
+use Rattle.laws_run.specs.Sent.{Sending, Ending, next_of, if_sent, each_found}
+use Rattle.laws_run.specs.Units.{carried_in, unit_header, unit_packets, unit_found}
 use Rattle.laws_run.specs.Placed.{units_placed}
 use Rattle.es_units.specs.CarriedUnits.{Start, pes_role, role_of_what, is_access_point, is_unstamped, first_packet, role_of, more_bytes}
 use Rattle.es_units.specs.CarriedUnits.{continued_by, continuation, end_of, is_cut, is_split, units_from, units_in, wire_units}

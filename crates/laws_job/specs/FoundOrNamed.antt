@@ -12,7 +12,7 @@ use Rattle.demux.specs.Laws.{has_pid}
 use Rattle.mux_core.specs.WholeJobs.{job_history, output_of}
 use Rattle.es_moments.specs.WireUnits.{CarriedUnit}
 use Rattle.es_units.specs.CarriedUnits.{wire_units, apart_wire_units}
-use Rattle.laws_pid.specs.Laws.{all_found}
+use Rattle.laws_run.specs.PidLaws.{all_found}
 use Rattle.job_inputs.specs.JoinedInputs.{AreUnitsIn}
 use Rattle.job_inputs.specs.declared.joined_inputs.Origin.{Origin}
 use Rattle.job_programs.specs.FoundUnits.{AreMoved}

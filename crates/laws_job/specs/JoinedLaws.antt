@@ -10,7 +10,7 @@ use Rattle.pid_findings.specs.Views.{FindingView}
 use Rattle.mux_core.specs.Scheduled.{Scheduled}
 use Rattle.mux_core.specs.WholeJobs.{first_refused, capacity_for, job_history, output_of}
 use Rattle.es_units.specs.CarriedUnits.{wire_units}
-use Rattle.laws_pid.specs.Laws.{all_found}
+use Rattle.laws_run.specs.PidLaws.{all_found}
 use Rattle.job_programs.specs.FoundUnits.{AreMoved}
 use Rattle.job_inputs.specs.JoinedInputs.{AreUnitsIn}
 use Rattle.job_inputs.specs.declared.joined_inputs.Origin.{Origin}

@@ -18,7 +18,7 @@ use Rattle.laws_run.specs.GivenBack.{GivenBack}
 use Rattle.laws_run.specs.Clean.{IsClean}
 use Rattle.es_units.specs.CarriedUnits.{wire_units, apart_wire_units}
 use Rattle.clock27.specs.Units.{slot_units_at_1bps}
-use Rattle.laws_pid.specs.Laws.{all_found}
+use Rattle.laws_run.specs.PidLaws.{all_found}
 use Rattle.job_programs.specs.FoundUnits.{AreMoved, KeepDts}
 use Rattle.stream_jobs.specs.Jobs.{AreUnits}
 

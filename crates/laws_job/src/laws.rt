@@ -28,7 +28,7 @@ pub fn carried()
 {
     accepted();
     laws_run::laws::jobs();
-    plan_timing::laws::accepted_plan();
+    slot_plan::timing_laws::accepted_plan();
     mux_core::laws::headline();
 }
 
@@ -54,7 +54,7 @@ pub fn found_again()
     ensures same { SameAgainLaw }
 {
     carried();
-    plan_timing::laws::accepted_plan();
+    slot_plan::timing_laws::accepted_plan();
 }
 
 /// States that no unit of a job made of several inputs is refused either.
@@ -73,7 +73,7 @@ pub fn joined_again()
 {
     joined_accepted();
     laws_run::laws::jobs();
-    plan_timing::laws::accepted_plan();
+    slot_plan::timing_laws::accepted_plan();
 }
 
 /// States that PAT and PMT precede the units of a job, if the streams on a clock begin near one another: a decoder that
@@ -84,7 +84,7 @@ pub fn tables_first()
     ensures units { FirstUnitsLaw }
     ensures tables { TablesFirstLaw }
 {
-    plan_timing::laws::accepted_plan();
+    slot_plan::timing_laws::accepted_plan();
     laws_run::laws::tables_first();
 }
 

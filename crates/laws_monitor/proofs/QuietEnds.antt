@@ -40,17 +40,17 @@ use Rattle.es_view.specs.Entries.{EntryState, closed_seen, place_at, seen_held, 
 use Rattle.es_view.specs.Entries as entry_views
 use Rattle.ts_watch.specs.Choices.{ChoiceView, takes}
 use Rattle.ts_watch.specs.ClockEvents.{clock_event, clock_events, inaccuracy_events, variable_events}
-use Rattle.end_faults.specs.AbsentTables.{absent_events, absent_tables, absent_unless, association_events, has_own_map, map_events, maps_events}
-use Rattle.end_faults.specs.ReferenceEvents.{events_by, missing_events, reference_events, unreferenced_event, unreferenced_events}
+use Rattle.ts_report.specs.AbsentTables.{absent_events, absent_tables, absent_unless, association_events, has_own_map, map_events, maps_events}
+use Rattle.ts_report.specs.ReferenceEvents.{events_by, missing_events, reference_events, unreferenced_event, unreferenced_events}
 use Rattle.ts_watch.specs.RuleEvents.{RuleState, cat_events, ends_varying}
 use Rattle.ts_watch.specs.RuleEvents as rule_views
-use Rattle.end_faults.specs.StoppedClocks.{beyond_events, clock_event as stopped_clock, clocks_by, clocks_events, clocks_in, longest_without, stopped_clocks, stops}
-use Rattle.end_faults.specs.StoppedClocks.{clock_events as stopped_clock_events, time_without}
-use Rattle.end_faults.specs.StoppedEvents.{errors_events, stopped_by, stopped_errors, stopped_events}
-use Rattle.end_faults.specs.StoppedPids.{longest_seconds, stopped_pids_by, stopped_pids}
-use Rattle.pid_gaps.specs.Gaps.{GapState, stopped}
-use Rattle.pid_gaps.specs.GapEvents.{watched_event}
-use Rattle.pid_gaps.specs.Watched.{is_watched}
+use Rattle.ts_report.specs.StoppedClocks.{beyond_events, clock_event as stopped_clock, clocks_by, clocks_events, clocks_in, longest_without, stopped_clocks, stops}
+use Rattle.ts_report.specs.StoppedClocks.{clock_events as stopped_clock_events, time_without}
+use Rattle.ts_report.specs.StoppedEvents.{errors_events, stopped_by, stopped_errors, stopped_events}
+use Rattle.ts_report.specs.StoppedPids.{longest_seconds, stopped_pids_by, stopped_pids}
+use Rattle.pid_times.specs.Gaps.{GapState, stopped}
+use Rattle.pid_times.specs.GapEvents.{watched_event}
+use Rattle.pid_times.specs.Watched.{is_watched}
 use Rattle.ts_watch.specs.SystemEvents.{event_if, system_event, system_events, under_way}
 use Rattle.ts_watch.specs.SystemEvents as systems
 use Rattle.stream_programs.specs.FreePids.{is_taken}

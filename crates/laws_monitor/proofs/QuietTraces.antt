@@ -2,15 +2,15 @@
 use Rattle.std.proofs.Common.{ℕ, ◌==◌, Bool, true, false, List, [], cond, Option, Some, None, refl}
 use Rattle.std.specs.Prelude.{if◌then◌else◌}
 use Rattle.std.specs.Option.{option_to_list}
-use Rattle.fault_traces.specs.Rings.{rows_of}
-use Rattle.fault_traces.specs.Traces.{ring_of}
-use Rattle.fault_traces.specs.declared.ring.Ring.{Ring}
-use Rattle.fault_traces.specs.declared.row.TraceRow.{TraceRow}
-use Rattle.fault_traces.specs.declared.traces.Trace.{Trace}
+use Rattle.es_events.specs.Rings.{rows_of}
+use Rattle.es_events.specs.Traces.{ring_of}
+use Rattle.es_events.specs.declared.ring.Ring.{Ring}
+use Rattle.es_events.specs.declared.row.TraceRow.{TraceRow}
+use Rattle.es_events.specs.declared.traces.Trace.{Trace}
 use Rattle.events.specs.declared.event.Event.{Event}
 use Rattle.events.specs.declared.rule_event.BufferKind.{BufferKind}
 use Rattle.events.specs.declared.rule_event.BufferKind.TheVariants as kinds
-use Rattle.fault_traces.specs.declared.traces.Traces.{Traces}
+use Rattle.es_events.specs.declared.traces.Traces.{Traces}
 use Rattle.es_events.specs.declared.entry_events.Place.{Place}
 use Rattle.es_events.specs.declared.video_tally.VideoLimits.{VideoLimits}
 use Rattle.es_events.specs.EntryEvents.{with_size}

@@ -8,7 +8,7 @@ use Rattle.events.specs.declared.fault_kind.FaultKind.TheVariants as kinds
 use Rattle.events.specs.declared.packet_fault.RefusalCause.{RefusalCause}
 use Rattle.events.specs.declared.packet_fault.RefusalCause.TheVariants as causes
 use Rattle.ts_watch.specs.Choices.{RequestView}
-use Rattle.end_faults.specs.StoppedClocks.{stops}
+use Rattle.ts_report.specs.StoppedClocks.{stops}
 use Rattle.ts_report.specs.Views.{ViewState}
 use Rattle.ts_report.specs.Views as views
 use Rattle.ts_report.specs.ClockedViews.{ClockedState, after_all, end_events, events_all, start}

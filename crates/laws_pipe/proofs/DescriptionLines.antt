@@ -256,7 +256,7 @@ stream_passes s =
     let pids = numbers_pass (place_numbers s) ((λ rest. refl), (refl, ((λ rest. refl), (refl, tt)))) in
     let place = both_pass (number_lines (place_numbers s)) _ pids limit in
     let last = both_pass (number_lines (last_numbers s)) (type_line s) (numbers_pass (last_numbers s) ((λ rest. refl), (refl, tt))) (type_passes s) in
-    let shared = both_pass (list_line (codes "shared_with") s.shared_with) (number_lines (last_numbers s) ++ type_line s) 
+    let shared = both_pass (list_line (codes "shared_with") s.shared_with) (number_lines (last_numbers s) ++ type_line s)
     (list_passes (codes "shared_with") s.shared_with (λ rest. refl) refl) last in
     let back = both_pass (stream_place s) (stream_end s) place shared in
     both_pass (stream_front s) (stream_times s ++ (stream_place s ++ stream_end s)) front

@@ -13,3 +13,5 @@ pub mod JoinedUnitsAgain
 pub mod JoinedRuns
 pub mod MarkedUnits
 pub mod StreamedUnits
+pub mod WholeJobs
+pub mod AiredJobs

@@ -3,19 +3,19 @@ use Rattle.std.proofs.Common.{◌≡◌, ◌∙◌, ◌&&◌, ℕ, Bool, true, f
 use Rattle.std.specs.List.{list_any}
 use Rattle.demux.specs.Laws.{found_of, has_pid}
 use Rattle.pid_findings.specs.Views.{FindingView}
-use Rattle.data_times.specs.DataTimes.{is_unstamped, seen_in, timed}
+use Rattle.stamp_repair.specs.DataTimes.{is_unstamped, seen_in, timed}
 use Rattle.packet_pcr.specs.declared.pcr_reading.FoundPcr.{FoundPcr}
-use Rattle.data_times.proofs.OtherPids.{others_stay}
-use Rattle.lone_stamps.specs.LoneStamps.{damaged, is_on}
-use Rattle.lone_stamps.specs.declared.search.LonePes.{LonePes}
-use Rattle.lone_stamps.proofs.DamagedFindings.{unfound_stay}
+use Rattle.stamp_repair.proofs.OtherPids.{others_stay}
+use Rattle.stamp_repair.specs.LoneStamps.{damaged, is_on}
+use Rattle.stamp_repair.specs.declared.search.LonePes.{LonePes}
+use Rattle.stamp_repair.proofs.DamagedFindings.{unfound_stay}
 use Rattle.packet_sync.specs.Slips.{carried}
 use Rattle.es_moments.specs.ApartUnits.{apart_units}
 use Rattle.es_units.specs.CarriedUnits.{Ignored, carried_units, role_of, apart_wire_units}
 use Rattle.es_units.proofs.CarriedUnits.{same_units}
 use Rattle.es_feed.specs.EachStream.{if_start, next_starts, one_by_one, starts_next}
-use Rattle.given_marks.specs.Marking.{MarkingView, all_marked, is_aligned, type_of}
-use Rattle.given_marks.proofs.MarkedFindings.{marked_by_pid}
+use Rattle.es_units.specs.Marking.{MarkingView, all_marked, is_aligned, type_of}
+use Rattle.es_units.proofs.MarkedFindings.{marked_by_pid}
 use Rattle.job_inputs.specs.AskedMarks.{marking_of}
 use Rattle.job_run.specs.Streams.{findings_of}
 use Rattle.tsjob_cli.specs.StreamedUnits.{access_of}

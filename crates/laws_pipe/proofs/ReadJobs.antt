@@ -33,7 +33,7 @@ use Rattle.slot_plan.specs.declared.slot.Slot.TheVariants.{Stream, Pcr, Table, N
 use Rattle.slot_plan.proofs.NamedSlots.{named_law}
 use Rattle.slot_plan.proofs.TextPlans.{plan-complete}
 use Rattle.stream_jobs.specs.Rates.{IsText}
-use Rattle.es_records.specs.Records.{records_of, written}
+use Rattle.es_feed.specs.Records.{records_of, written}
 use Rattle.checked_jobs.specs.Jobs.{Fails, described, fault_of, job, job_of, of_parts, parts_of, plan_offset, planned, unless_failed, with_description}
 use Rattle.checked_jobs.specs.Jobs.{with_plan}
 use Rattle.checked_jobs.specs.MuxJobs.{mux_job_of, served, with_records, with_units}

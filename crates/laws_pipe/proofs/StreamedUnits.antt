@@ -14,9 +14,9 @@ use Rattle.description.proofs.Pids.{pid_positions, pids_apart}
 use Rattle.description_parts.specs.Tables.{table_count}
 use Rattle.pid_findings.specs.Views.{FindingView}
 use Rattle.packet_sync.specs.Slips.{carried}
-use Rattle.data_times.specs.DataTimes.{is_unstamped, seen_in}
-use Rattle.data_times.specs.References.{references_in}
-use Rattle.lone_stamps.specs.LoneStamps.{damaged, is_on, lone_damaged}
+use Rattle.stamp_repair.specs.DataTimes.{is_unstamped, seen_in}
+use Rattle.stamp_repair.specs.References.{references_in}
+use Rattle.stamp_repair.specs.LoneStamps.{damaged, is_on, lone_damaged}
 use Rattle.es_moments.specs.Stamps.{distance, dts_at, moved, unit_at}
 use Rattle.es_feed.specs.EachStream.{AreFirst, fed_stream, have_fault, one_by_one}
 use Rattle.fed_streams.specs.Feeding.{Fed, FedStreamView}
@@ -24,10 +24,10 @@ use Rattle.es_feed.specs.StreamFeeding.{fed_of}
 use Rattle.es_feed.proofs.MovedApart.{fed_apart}
 use Rattle.es_feed.specs.MovedApart.{AreWhole, after_time}
 use Rattle.es_feed.specs.FedLines.{fed_records, have_refusal}
-use Rattle.es_records.specs.Passing.{EndsStream}
+use Rattle.es_feed.specs.Passing.{EndsStream}
 use Rattle.es_feed.proofs.WatchedStreams.{clear_is_fed, refusal_reported}
 use Rattle.es_moments.specs.Merging.{AreMerged}
-use Rattle.given_marks.specs.Marking.{MarkingView, all_marked}
+use Rattle.es_units.specs.Marking.{MarkingView, all_marked}
 use Rattle.job_inputs.specs.AskedMarks.{marking_of}
 use Rattle.job_programs.specs.JobOptions.{JobOptionsView}
 use Rattle.job_inputs.specs.ClockConstants.{HasConstants, IsMovedBy, clock_of}

@@ -10,7 +10,7 @@ use Rattle.description_parts.specs.Ranges.{IsInRange, IsStream}
 use Rattle.description.proofs.Pids.{stream_range}
 use Rattle.unit_records.specs.Laws.{FitsRecord, RecordsAreRead}
 use Rattle.unit_records.specs.Records.{after_record, private_bytes, private_size, record_at, record_bytes, record_head, word_of}
-use Rattle.es_records.specs.Records.{records_of}
+use Rattle.es_feed.specs.Records.{records_of}
 use Rattle.unit_queue.specs.Queues.{IsUnit}
 use Rattle.mux_core.specs.Histories.{owned_stream}
 use Rattle.mux_core.specs.Headline.{UnitsKept}

@@ -1,3 +1,4 @@
 pub mod PipedJobs
 pub mod PipedFiles
 pub mod StreamedUnits
+pub mod AiredAsMuxed

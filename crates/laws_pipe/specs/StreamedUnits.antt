@@ -8,17 +8,17 @@ use Rattle.description_parts.specs.Described.{Described}
 use Rattle.description_parts.specs.Ranges.{IsInRange}
 use Rattle.pid_findings.specs.Views.{FindingView}
 use Rattle.packet_sync.specs.Slips.{carried}
-use Rattle.data_times.specs.DataTimes.{is_unstamped, seen_in, timed}
-use Rattle.data_times.specs.References.{references_in}
-use Rattle.lone_stamps.specs.LoneStamps.{is_on, lone_in}
-use Rattle.lone_stamps.specs.declared.search.LonePes.{LonePes}
+use Rattle.stamp_repair.specs.DataTimes.{is_unstamped, seen_in, timed}
+use Rattle.stamp_repair.specs.References.{references_in}
+use Rattle.stamp_repair.specs.LoneStamps.{is_on, lone_in}
+use Rattle.stamp_repair.specs.declared.search.LonePes.{LonePes}
 use Rattle.es_moments.specs.Merging.{AreMerged}
 use Rattle.es_feed.specs.EachStream.{one_by_one, units_fed}
 use Rattle.fed_streams.specs.Feeding.{Fed}
 use Rattle.es_feed.specs.MovedApart.{after_time}
 use Rattle.es_feed.specs.FedLines.{fed_records}
-use Rattle.es_records.specs.Records.{records_of}
-use Rattle.given_marks.specs.Marking.{MarkingView, is_aligned, type_of}
+use Rattle.es_feed.specs.Records.{records_of}
+use Rattle.es_units.specs.Marking.{MarkingView, is_aligned, type_of}
 use Rattle.job_inputs.specs.AskedMarks.{marking_of}
 use Rattle.job_inputs.specs.ClockConstants.{clock_of}
 use Rattle.job_inputs.specs.JobInput.{JobInputView, job_input}

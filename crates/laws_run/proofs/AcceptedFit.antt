@@ -4,12 +4,12 @@ use Rattle.std.proofs.lemmas.List.Elements.{All-nil, All-cons}
 use Rattle.pes_packet.specs.AccessUnits.{AccessUnit}
 use Rattle.pes_packet.specs.StreamIds.{is_unit_id, greatest_size, fits_packet}
 use Rattle.unit_queue.specs.declared.refusal.FeedError.{FeedError}
-use Rattle.carry.specs.Refusals.{refusal}
+use Rattle.mux_core.specs.Refusals.{refusal}
 use Rattle.unit_records.specs.Records.{record_at, after_record}
-use Rattle.carry.specs.RecordRuns.{Run, judged, run_step, run_from}
-use Rattle.carry.specs.RunSteps.{IsAccepted}
+use Rattle.mux_core.specs.RecordRuns.{Run, judged, run_step, run_from}
+use Rattle.mux_core.specs.RunSteps.{IsAccepted}
 use Rattle.unit_records.specs.declared.reading.UnitFileError.{UnitFileError}
-use Rattle.carry.proofs.AcceptedUnits.{is_accepted}
+use Rattle.mux_core.proofs.AcceptedUnits.{is_accepted}
 use Rattle.laws_run.specs.CarriedBack.{AcceptedUnitsFit}
 
 abbrev FitsId : ℕ → AccessUnit → Type 0

@@ -27,19 +27,19 @@ use Rattle.pid_findings.specs.Views.{FindingView}
 use Rattle.demux.specs.Laws.{with_pid_at, has_pid, found_of}
 use Rattle.unit_queue.specs.OwnedStreams.{has_access}
 use Rattle.unit_queue.specs.Payloads.{marked, piece_in}
-use Rattle.laws_pid.specs.Sent.{Sending, sendings, start_chunks, each_found}
-use Rattle.laws_pid.specs.Units.{unit_packets, unit_start, unit_pieces, unit_found}
-use Rattle.laws_pid.specs.Laws.{IsRun, CarriesPieces, all_found, found_on, packets_on, InOrder}
-use Rattle.laws_pid.proofs.PesPrefixes.{unit_is_pes}
-use Rattle.laws_pid.proofs.TablesAndStreams.{same_chunks}
-use Rattle.laws_pid.proofs.PidPackets.{numbered_payloads}
-use Rattle.laws_pid.proofs.FoundInRun.{units_come_back, nothing_comes_back}
-use Rattle.laws_pid.proofs.OfPids.{found_in_order}
-use Rattle.laws_pid.proofs.CleanPackets.{by_pids}
+use Rattle.laws_run.specs.Sent.{Sending, sendings, start_chunks, each_found}
+use Rattle.laws_run.specs.Units.{unit_packets, unit_start, unit_pieces, unit_found}
+use Rattle.laws_run.specs.PidLaws.{IsRun, CarriesPieces, all_found, found_on, packets_on, InOrder}
+use Rattle.laws_run.proofs.PesPrefixes.{unit_is_pes}
+use Rattle.laws_run.proofs.TablesAndStreams.{same_chunks}
+use Rattle.laws_run.proofs.PidPackets.{numbered_payloads}
+use Rattle.laws_run.proofs.FoundInRun.{units_come_back, nothing_comes_back}
+use Rattle.laws_run.proofs.OfPids.{found_in_order}
+use Rattle.laws_run.proofs.CleanPackets.{by_pids}
 use Rattle.mux_core.proofs.PutTogether.{marked_length}
-use Rattle.carry.specs.PidPackets.{payload_packets, stream_packets}
-use Rattle.packet_output.specs.Formats.{formatted, formatted_all}
-use Rattle.carry.specs.RecordRuns.{carried}
+use Rattle.mux_core.specs.PidPackets.{payload_packets, stream_packets}
+use Rattle.mux_core.specs.Formats.{formatted, formatted_all}
+use Rattle.mux_core.specs.RecordRuns.{carried}
 use Rattle.laws_run.specs.CarriedBack.{packets_from, in_a_row, packet_count, CarriedBackLaw}
 use Rattle.laws_run.proofs.Row.{row, row_content, PieceFits, row_fits, row_bytes, row_pieces, row_indices, row_numbered, row_silent}
 

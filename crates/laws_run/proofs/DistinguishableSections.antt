@@ -19,11 +19,11 @@ use Rattle.description_parts.specs.declared.table_kind.TableKind.{TableKind}
 use Rattle.description_parts.specs.declared.table_kind.TableKind.TheVariants.{Pat, Pmt, Nit, Sdt, Eit, Tdt, Private}
 use Rattle.pid_findings.specs.Roles.{may_begin_pes}
 use Rattle.table_rounds.specs.Tables.{Table, moment_of}
-use Rattle.laws_pid.specs.Sections.{IsRecognized}
-use Rattle.laws_pid.specs.Rounds.{sections_from, round_sections}
-use Rattle.laws_pid.specs.Clean.{IsWhole}
-use Rattle.laws_pid.proofs.SectionPrefixes.{read_fits}
-use Rattle.laws_pid.proofs.WrittenSections.{written_are_given}
+use Rattle.laws_run.specs.Sections.{IsRecognized}
+use Rattle.laws_run.specs.Rounds.{sections_from, round_sections}
+use Rattle.laws_run.specs.CleanPids.{IsWhole}
+use Rattle.laws_run.proofs.SectionPrefixes.{read_fits}
+use Rattle.laws_run.proofs.WrittenSections.{written_are_given}
 use Rattle.laws_run.specs.Distinguishable.{is_mistaken, private_sections, ready_made, IsDistinguishable}
 use Rattle.laws_run.proofs.DescribedSections.{IsWritten}
 use Rattle.laws_run.proofs.TablesWritten.{IsMade, at_most_one, text_written}

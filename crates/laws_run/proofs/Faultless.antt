@@ -17,14 +17,14 @@ use Rattle.pid_findings.specs.Views.{PidFinding, FindingView}
 use Rattle.demux.specs.Laws.{with_pid_at}
 use Rattle.table_rounds.specs.Tables.{round_places}
 use Rattle.unit_queue.specs.OwnedStreams.{has_access}
-use Rattle.laws_pid.specs.Sent.{Sending, Ending, next_of, if_sent, each_found}
-use Rattle.laws_pid.specs.Units.{carried_in, unit_header, unit_found}
-use Rattle.laws_pid.specs.Sections.{section_found}
-use Rattle.laws_pid.specs.Rounds.{sections_of_rounds}
-use Rattle.laws_pid.specs.Laws.{found_on, all_found}
-use Rattle.laws_pid.specs.Clean.{is_fault, IsClean as IsFaultless, IsWhole}
-use Rattle.laws_pid.proofs.TablesAndStreams.{tables_carry, streams_carry}
-use Rattle.laws_pid.proofs.CleanPackets.{units_are_clean, sections_are_clean, by_pids}
+use Rattle.laws_run.specs.Sent.{Sending, Ending, next_of, if_sent, each_found}
+use Rattle.laws_run.specs.Units.{carried_in, unit_header, unit_found}
+use Rattle.laws_run.specs.Sections.{section_found}
+use Rattle.laws_run.specs.Rounds.{sections_of_rounds}
+use Rattle.laws_run.specs.PidLaws.{found_on, all_found}
+use Rattle.laws_run.specs.CleanPids.{is_fault, IsClean as IsFaultless, IsWhole}
+use Rattle.laws_run.proofs.TablesAndStreams.{tables_carry, streams_carry}
+use Rattle.laws_run.proofs.CleanPackets.{units_are_clean, sections_are_clean, by_pids}
 use Rattle.mux_core.specs.Scheduled.{Scheduled}
 use Rattle.mux_core.specs.Histories.{owned_stream, table_of, content_at}
 use Rattle.mux_core.specs.Headline.{UnitsKept}

@@ -30,11 +30,11 @@ use Rattle.table_rounds.specs.Payloads.{TableIsAlone}
 use Rattle.monitor.specs.ProgramMaps.{programs_in_section, programs_by}
 use Rattle.monitor.specs.Begins.{found_on}
 use Rattle.monitor.specs.NamedPids.{program_pids, pids_named_in, namings, named_since}
-use Rattle.laws_pid.specs.Sent.{Ending, next_of, if_sent, each_found, sendings}
-use Rattle.laws_pid.specs.Sections.{section_found, section_packets, IsRecognized}
-use Rattle.laws_pid.specs.Rounds.{sections_of_rounds}
-use Rattle.laws_pid.specs.Laws.{packets_on}
-use Rattle.laws_pid.proofs.TablesAndStreams.{tables_come_back}
+use Rattle.laws_run.specs.Sent.{Ending, next_of, if_sent, each_found, sendings}
+use Rattle.laws_run.specs.Sections.{section_found, section_packets, IsRecognized}
+use Rattle.laws_run.specs.Rounds.{sections_of_rounds}
+use Rattle.laws_run.specs.PidLaws.{packets_on}
+use Rattle.laws_run.proofs.TablesAndStreams.{tables_come_back}
 use Rattle.mux_core.specs.Scheduled.{Scheduled}
 use Rattle.mux_core.specs.Histories.{table_of, content_at}
 use Rattle.mux_core.specs.Headline.{UnitsKept}

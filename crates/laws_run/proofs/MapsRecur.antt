@@ -13,7 +13,7 @@ use Rattle.description_parts.specs.declared.table_kind.TableKind.TheVariants.{Pm
 use Rattle.description.proofs.SectionCounts.{sections_law}
 use Rattle.description_parts.proofs.TableNumbers.{table_kind-pmt}
 use Rattle.slot_plan.specs.TableRounds.{section_starts}
-use Rattle.plan_timing.specs.Promised.{Promised}
+use Rattle.slot_plan.specs.Promised.{Promised}
 use Rattle.monitor.specs.Gaps.{late}
 use Rattle.monitor.specs.Begins.{found_on, table_begins}
 use Rattle.monitor.specs.NamedPids.{named_since}

@@ -18,7 +18,7 @@ use Rattle.demux.specs.Laws.{has_pid, found_of}
 use Rattle.unit_queue.specs.Places.{UnitPlace, place_at, content_of}
 use Rattle.table_rounds.specs.Tables.{payloads_before, part_at}
 use Rattle.table_rounds.specs.Parts.{part_content}
-use Rattle.laws_pid.specs.Laws.{IsOfPid}
+use Rattle.laws_run.specs.PidLaws.{IsOfPid}
 use Rattle.mux_core.specs.Scheduled.{Scheduled}
 use Rattle.mux_core.specs.Histories.{owned_stream, table_of, stream_in, pcr_content, table_in, content_in, content_at}
 use Rattle.laws_run.specs.GivenBack.{IsSentOn, IsOfSent}

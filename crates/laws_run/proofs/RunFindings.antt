@@ -19,14 +19,14 @@ use Rattle.unit_queue.proofs.CauseLemmas.{fits_unit}
 use Rattle.table_rounds.specs.Tables.{round_places}
 use Rattle.table_rounds.specs.Laws.{HasPlaces}
 use Rattle.table_rounds.specs.Payloads.{TableIsAlone}
-use Rattle.laws_pid.specs.Sent.{Sending, each_found}
-use Rattle.laws_pid.specs.Units.{unit_found}
-use Rattle.laws_pid.specs.Sections.{section_found, IsRecognized}
-use Rattle.laws_pid.specs.Rounds.{sections_of_rounds, HasRoom}
-use Rattle.laws_pid.specs.Laws.{IsRun, found_on, all_found}
-use Rattle.laws_pid.proofs.TablesAndStreams.{tables_come_back, streams_come_back}
-use Rattle.laws_pid.proofs.FoundInRun.{nothing_comes_back}
-use Rattle.laws_pid.proofs.OfPids.{all_is_of_pids, found_in_order}
+use Rattle.laws_run.specs.Sent.{Sending, each_found}
+use Rattle.laws_run.specs.Units.{unit_found}
+use Rattle.laws_run.specs.Sections.{section_found, IsRecognized}
+use Rattle.laws_run.specs.Rounds.{sections_of_rounds, HasRoom}
+use Rattle.laws_run.specs.PidLaws.{IsRun, found_on, all_found}
+use Rattle.laws_run.proofs.TablesAndStreams.{tables_come_back, streams_come_back}
+use Rattle.laws_run.proofs.FoundInRun.{nothing_comes_back}
+use Rattle.laws_run.proofs.OfPids.{all_is_of_pids, found_in_order}
 use Rattle.mux_core.specs.Scheduled.{Scheduled}
 use Rattle.mux_core.specs.Histories.{owned_stream, table_of, content_at}
 use Rattle.mux_core.specs.Headline.{UnitsKept}

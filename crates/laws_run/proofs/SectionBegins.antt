@@ -15,13 +15,13 @@ use Rattle.pid_findings.specs.Views.{PidFinding, FindingView}
 use Rattle.demux.specs.Laws.{with_pid_at}
 use Rattle.monitor.specs.Begins.{table_begin, table_begins}
 use Rattle.table_rounds.proofs.SectionStarts.{start_indicated}
-use Rattle.laws_pid.specs.Sent.{cut, Ending, if_sent, each_found, sendings}
-use Rattle.laws_pid.specs.Sections.{filled_section, section_found, section_packets, section_pieces}
-use Rattle.laws_pid.specs.Laws.{packets_on, CarriesPieces}
-use Rattle.laws_pid.proofs.AllSendings.{sent_payloads}
-use Rattle.laws_pid.proofs.SendingPackets.{parted}
-use Rattle.laws_pid.proofs.FoundInRun.{piece_lists, same_length}
-use Rattle.laws_pid.proofs.FoundInRun.{index_lists}
+use Rattle.laws_run.specs.Sent.{cut, Ending, if_sent, each_found, sendings}
+use Rattle.laws_run.specs.Sections.{filled_section, section_found, section_packets, section_pieces}
+use Rattle.laws_run.specs.PidLaws.{packets_on, CarriesPieces}
+use Rattle.laws_run.proofs.AllSendings.{sent_payloads}
+use Rattle.laws_run.proofs.SendingPackets.{parted}
+use Rattle.laws_run.proofs.FoundInRun.{piece_lists, same_length}
+use Rattle.laws_run.proofs.FoundInRun.{index_lists}
 
 -- The same begins, in the findings of the whole stream
 

@@ -10,10 +10,10 @@ use Rattle.slot_contents.specs.Contents.{Content, run_bytes, Payload, payload_at
 use Rattle.table_rounds.specs.Tables.{Table, part_at}
 use Rattle.table_rounds.specs.Payloads.{TableIsAlone}
 use Rattle.table_rounds.proofs.CarriedBytes.{table_carried}
-use Rattle.laws_pid.specs.Sent.{sendings}
-use Rattle.laws_pid.specs.Sections.{section_packets}
-use Rattle.laws_pid.specs.Rounds.{sections_of_rounds}
-use Rattle.laws_pid.specs.Laws.{packets_on}
+use Rattle.laws_run.specs.Sent.{sendings}
+use Rattle.laws_run.specs.Sections.{section_packets}
+use Rattle.laws_run.specs.Rounds.{sections_of_rounds}
+use Rattle.laws_run.specs.PidLaws.{packets_on}
 use Rattle.laws_run.specs.Placed.{section_slots, sent_sections}
 
 indices : List Payload → List ℕ

@@ -14,7 +14,7 @@ use Rattle.description_parts.specs.declared.table_kind.TableKind.{TableKind}
 use Rattle.description_parts.specs.declared.table_kind.TableKind.TheVariants.{Pat, Pmt, Nit, Sdt, Eit, Tdt, Private}
 use Rattle.description.proofs.Pids.{at_place}
 use Rattle.demux.specs.Laws.{with_pid_at}
-use Rattle.plan_timing.specs.Promised.{Promised}
+use Rattle.slot_plan.specs.Promised.{Promised}
 use Rattle.monitor.specs.Gaps.{is_long, late}
 use Rattle.monitor.specs.Begins.{found_on, table_begins}
 use Rattle.monitor.specs.Faults.{table_late}

@@ -24,8 +24,8 @@ use Rattle.monitor.specs.declared.fault.StreamFault.{StreamFault}
 use Rattle.monitor.specs.Rules.{packet_rule, finding_rule, failing}
 use Rattle.monitor.specs.Begins.{found_on}
 use Rattle.monitor.specs.Faults.{packet_faults, cut_faults, finding_faults}
-use Rattle.laws_pid.specs.Clean.{is_fault, IsClean as IsFaultless}
-use Rattle.laws_pid.specs.Laws.{found_on as reported_on}
+use Rattle.laws_run.specs.CleanPids.{is_fault, IsClean as IsFaultless}
+use Rattle.laws_run.specs.PidLaws.{found_on as reported_on}
 use Rattle.mux_core.specs.Histories.{content_at}
 use Rattle.mux_core.proofs.Accepted.{units_kept}
 use Rattle.mux_core.proofs.Whole.{contents_fit}

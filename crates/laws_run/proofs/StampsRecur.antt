@@ -19,7 +19,7 @@ use Rattle.description.proofs.Pids.{stream_range}
 use Rattle.pid_findings.specs.Findings.{findings_to_end}
 use Rattle.slot_plan.specs.declared.slot.Item.TheVariants.{Stream as StreamItem}
 use Rattle.slot_plan.specs.Schedule.{owned}
-use Rattle.plan_timing.specs.Promised.{declaration, Promised}
+use Rattle.slot_plan.specs.Promised.{declaration, Promised}
 use Rattle.tstd.specs.Carried.{timed_pes_packets}
 use Rattle.unit_timing.specs.Plans.{KeepsDeclaration}
 use Rattle.unit_queue.specs.OwnedStreams.{OwnedStream, has_access, timed, packet_count, first_slot, end_slot}
@@ -28,7 +28,7 @@ use Rattle.unit_queue.proofs.Leftover.{text_some, count_some, first_free, first_
 use Rattle.monitor.specs.Gaps.{late}
 use Rattle.monitor.specs.Begins.{found_on, pts_begins}
 use Rattle.monitor.specs.Faults.{pts_late}
-use Rattle.laws_pid.specs.Laws.{found_on as reported_on}
+use Rattle.laws_run.specs.PidLaws.{found_on as reported_on}
 use Rattle.mux_core.specs.Scheduled.{Scheduled}
 use Rattle.mux_core.specs.Histories.{owned_stream, table_of, content_at}
 use Rattle.mux_core.specs.Headline.{UnitsKept}

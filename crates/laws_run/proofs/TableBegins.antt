@@ -17,9 +17,9 @@ use Rattle.description_parts.specs.declared.table_kind.TableKind.TheVariants.{Pa
 use Rattle.table_rounds.specs.Tables.{Table, round_places}
 use Rattle.table_rounds.specs.Payloads.{TableIsAlone, Begins}
 use Rattle.monitor.specs.Begins.{found_on, table_begins}
-use Rattle.laws_pid.specs.Sections.{IsRecognized}
-use Rattle.laws_pid.specs.Rounds.{sections_of_rounds}
-use Rattle.laws_pid.proofs.TablesAndStreams.{tables_carry, tables_come_back}
+use Rattle.laws_run.specs.Sections.{IsRecognized}
+use Rattle.laws_run.specs.Rounds.{sections_of_rounds}
+use Rattle.laws_run.proofs.TablesAndStreams.{tables_carry, tables_come_back}
 use Rattle.mux_core.specs.Scheduled.{Scheduled}
 use Rattle.mux_core.specs.Histories.{table_of, content_at}
 use Rattle.mux_core.specs.Headline.{UnitsKept}

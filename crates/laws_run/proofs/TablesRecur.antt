@@ -11,7 +11,7 @@ use Rattle.description_parts.specs.declared.table_kind.TableKind.{TableKind}
 use Rattle.description_parts.specs.declared.table_kind.TableKind.TheVariants.{Pat}
 use Rattle.description.proofs.SectionCounts.{sections_law}
 use Rattle.slot_plan.specs.TableRounds.{section_starts}
-use Rattle.plan_timing.specs.Promised.{Promised}
+use Rattle.slot_plan.specs.Promised.{Promised}
 use Rattle.monitor.specs.Gaps.{late}
 use Rattle.monitor.specs.Begins.{found_on, table_begins}
 use Rattle.monitor.specs.Faults.{pat_late}

@@ -23,10 +23,10 @@ use Rattle.unit_queue.specs.Payloads.{marked, piece_in}
 use Rattle.table_rounds.specs.Tables.{Table, round_places}
 use Rattle.table_rounds.specs.Payloads.{table_payloads}
 use Rattle.table_rounds.proofs.SectionStarts.{start_indicated}
-use Rattle.laws_pid.specs.Sections.{filled_section, section_packets, section_pieces}
-use Rattle.laws_pid.specs.Rounds.{sections_of_rounds}
-use Rattle.laws_pid.proofs.FoundInRun.{piece_lists}
-use Rattle.laws_pid.proofs.TablePieces.{rounds_are_sections}
+use Rattle.laws_run.specs.Sections.{filled_section, section_packets, section_pieces}
+use Rattle.laws_run.specs.Rounds.{sections_of_rounds}
+use Rattle.laws_run.proofs.FoundInRun.{piece_lists}
+use Rattle.laws_run.proofs.TablePieces.{rounds_are_sections}
 use Rattle.mux_core.specs.Scheduled.{Scheduled}
 use Rattle.mux_core.specs.Histories.{table_of}
 use Rattle.mux_core.specs.Headline.{TableKept}

@@ -8,9 +8,9 @@ use Rattle.pid_findings.specs.Views.{PidFinding, FindingView}
 use Rattle.demux.specs.Laws.{with_pid_at}
 use Rattle.monitor.specs.Begins.{pts_begin, pts_begins}
 use Rattle.unit_queue.specs.OwnedStreams.{has_access}
-use Rattle.laws_pid.specs.Sent.{Sending, Ending, if_sent, each_found}
-use Rattle.laws_pid.specs.Units.{carried_in, unit_header, unit_found}
-use Rattle.laws_pid.specs.Sections.{section_found}
+use Rattle.laws_run.specs.Sent.{Sending, Ending, if_sent, each_found}
+use Rattle.laws_run.specs.Units.{carried_in, unit_header, unit_found}
+use Rattle.laws_run.specs.Sections.{section_found}
 
 -- The same begins, in the findings of the whole stream
 

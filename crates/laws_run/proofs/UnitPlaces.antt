@@ -12,9 +12,9 @@ use Rattle.unit_timing.specs.Schedule.{Packet, cut, packets_in_slots}
 use Rattle.unit_queue.specs.OwnedStreams.{OwnedStream, timed, packet_count, first_slot, end_slot}
 use Rattle.unit_queue.specs.Payloads.{StreamIsAlone}
 use Rattle.unit_queue.proofs.CarriedBytes.{carried_law}
-use Rattle.laws_pid.specs.Sent.{Sending, sendings}
-use Rattle.laws_pid.specs.Units.{unit_packets}
-use Rattle.laws_pid.specs.Laws.{packets_on}
+use Rattle.laws_run.specs.Sent.{Sending, sendings}
+use Rattle.laws_run.specs.Units.{unit_packets}
+use Rattle.laws_run.specs.PidLaws.{packets_on}
 use Rattle.laws_run.specs.Placed.{units_placed, sent_units}
 use Rattle.unit_queue.proofs.Leftover.{first_free}
 

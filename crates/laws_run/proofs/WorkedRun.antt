@@ -25,7 +25,7 @@ use Rattle.unit_queue.specs.Causes.{or_cause as or_feed_cause, own_cause, time_c
 use Rattle.unit_queue.specs.Queues.{IsUnit, Kept}
 use Rattle.description_parts.specs.Described.{DescribedStream}
 use Rattle.slot_plan.specs.Conditions.{IsServing}
-use Rattle.plan_timing.specs.Promised.{PlanLaw}
+use Rattle.slot_plan.specs.Promised.{PlanLaw}
 use Rattle.mux_core.specs.Histories.{owned_stream, stream_in, pcr_content, table_in, content_in, content_at, bytes_of}
 use Rattle.mux_core.specs.Headline.{Headline, UnitsKept}
 use Rattle.mux_core.specs.MuxStates.{feed_cause}

@@ -19,7 +19,7 @@ use Rattle.description_parts.specs.Described.{DescribedStream}
 use Rattle.slot_plan.specs.EmptySlots.{empty_slots}
 use Rattle.slot_plan.specs.Conditions.{IsServing}
 use Rattle.slot_plan.specs.SwitchConditions.{IsSwitchable}
-use Rattle.plan_timing.specs.Promised.{SwitchLaw}
+use Rattle.slot_plan.specs.Promised.{SwitchLaw}
 use Rattle.mux_core.specs.DecodedRuns.{IsDue}
 use Rattle.mux_core.specs.FramesKept.{CutsUnits}
 use Rattle.mux_core.specs.Histories.{owned_stream, stream_in, content_in, content_at}

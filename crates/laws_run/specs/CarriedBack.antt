@@ -3,10 +3,10 @@ use Rattle.std.specs.Prelude.{◌≡◌, ℕ, zero, suc, ◌+◌, ◌-◌, ◌^�
 use Rattle.pes_packet.specs.AccessUnits.{AccessUnit}
 use Rattle.pes_packet.specs.StreamIds.{is_unit_id, fits_packet}
 use Rattle.demux.specs.Laws.{with_pid_at}
-use Rattle.laws_pid.specs.Sent.{Sending, each_found}
-use Rattle.laws_pid.specs.Units.{unit_packets, unit_found}
-use Rattle.laws_pid.specs.Laws.{all_found, found_on, InOrder}
-use Rattle.carry.specs.RecordRuns.{run_of, carried}
+use Rattle.laws_run.specs.Sent.{Sending, each_found}
+use Rattle.laws_run.specs.Units.{unit_packets, unit_found}
+use Rattle.laws_run.specs.PidLaws.{all_found, found_on, InOrder}
+use Rattle.mux_core.specs.RecordRuns.{run_of, carried}
 
 -- n packets from packet i on
 unfoldable pub packets_from : ℕ → ℕ → List ℕ

@@ -10,7 +10,7 @@ use Rattle.pid_findings.specs.Views.{WhatView, IsDuplicate, BreaksCounter, IsScr
 use Rattle.pid_findings.specs.Views.{IsErrored}
 use Rattle.pid_findings.specs.Views.{IsStray}
 use Rattle.pid_findings.specs.Views.{FindingView}
-use Rattle.laws_pid.specs.Laws.{all_found, found_on}
+use Rattle.laws_run.specs.PidLaws.{all_found, found_on}
 use Rattle.mux_core.specs.Scheduled.{Scheduled}
 use Rattle.mux_core.specs.Histories.{History, empty_history, content_at, bytes_of}
 use Rattle.mux_core.specs.Headline.{UnitsKept}

@@ -7,10 +7,10 @@ use Rattle.description_parts.specs.Tables.{table_count, table_pid}
 use Rattle.description_parts.specs.Ranges.{IsInRange}
 use Rattle.pid_findings.specs.Views.{FindingView}
 use Rattle.demux.specs.Laws.{with_pid_at}
-use Rattle.laws_pid.specs.Sent.{each_found}
-use Rattle.laws_pid.specs.Units.{unit_found}
-use Rattle.laws_pid.specs.Sections.{section_found}
-use Rattle.laws_pid.specs.Laws.{all_found, found_on, InOrder}
+use Rattle.laws_run.specs.Sent.{each_found}
+use Rattle.laws_run.specs.Units.{unit_found}
+use Rattle.laws_run.specs.Sections.{section_found}
+use Rattle.laws_run.specs.PidLaws.{all_found, found_on, InOrder}
 use Rattle.mux_core.specs.Scheduled.{Scheduled}
 use Rattle.mux_core.specs.Histories.{History, empty_history, owned_stream, table_of, content_at, bytes_of}
 use Rattle.mux_core.specs.Headline.{UnitsKept}

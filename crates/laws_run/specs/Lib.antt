@@ -14,3 +14,10 @@ pub mod WorkedVideo
 pub mod WorkedSwitch
 pub mod FollowedTables
 pub mod TablesFirst
+pub mod ReasonNumbers
+pub mod Sent
+pub mod Units
+pub mod Sections
+pub mod PidLaws
+pub mod Rounds
+pub mod CleanPids

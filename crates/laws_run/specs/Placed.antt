@@ -4,9 +4,9 @@ use Rattle.own_slots.specs.Slots.{own_slots}
 use Rattle.pes_packet.specs.AccessUnits.{AccessUnit}
 use Rattle.unit_queue.specs.OwnedStreams.{OwnedStream, packet_count, first_slot, end_slot}
 use Rattle.table_rounds.specs.Tables.{Table, part_at}
-use Rattle.laws_pid.specs.Sent.{Sending, sendings}
-use Rattle.laws_pid.specs.Sections.{section_packets}
-use Rattle.laws_pid.specs.Rounds.{sections_of_rounds}
+use Rattle.laws_run.specs.Sent.{Sending, sendings}
+use Rattle.laws_run.specs.Sections.{section_packets}
+use Rattle.laws_run.specs.Rounds.{sections_of_rounds}
 
 -- units in these own slots, after the first `free` slots, which are taken: each unit has as many own slots as it has packets, until there are
 -- no more slots

@@ -5,7 +5,7 @@ use Rattle.ts_packet.specs.PidList.{Entry, pid_list}
 use Rattle.slot_contents.specs.Contents.{run_bytes}
 use Rattle.description_parts.specs.Described.{DescribedStream}
 use Rattle.description_parts.specs.Ranges.{IsInRange}
-use Rattle.plan_timing.specs.Promised.{Promised}
+use Rattle.slot_plan.specs.Promised.{Promised}
 use Rattle.mux_core.specs.Scheduled.{Scheduled}
 use Rattle.mux_core.specs.Histories.{content_at}
 use Rattle.mux_core.specs.Headline.{UnitsKept}

@@ -4,7 +4,7 @@ use Rattle.pes_packet.specs.AccessUnits.{AccessUnit}
 use Rattle.pes_packet.specs.Units.{units_of}
 use Rattle.description_parts.specs.Ranges.{IsInRange}
 use Rattle.slot_plan.specs.Conditions.{IsServing}
-use Rattle.plan_timing.specs.Promised.{Promised}
+use Rattle.slot_plan.specs.Promised.{Promised}
 use Rattle.mux_core.specs.Scheduled.{Scheduled}
 use Rattle.mux_core.specs.Histories.{bytes_of}
 use Rattle.mux_core.specs.Headline.{Headline, UnitsKept}

@@ -14,8 +14,8 @@ use Rattle.tstd.specs.Carried.{timed_pes_packets, packets_on}
 use Rattle.description_parts.specs.Ranges.{IsInRange}
 use Rattle.slot_plan.specs.Conditions.{IsServing}
 use Rattle.slot_plan.specs.SwitchConditions.{IsSwitchable}
-use Rattle.plan_timing.specs.Promised.{Promised}
-use Rattle.plan_timing.specs.Waits.{pes_entered}
+use Rattle.slot_plan.specs.Promised.{Promised}
+use Rattle.slot_plan.specs.Waits.{pes_entered}
 use Rattle.mux_core.specs.Scheduled.{Scheduled}
 use Rattle.mux_core.specs.Histories.{content_at, bytes_of}
 use Rattle.mux_core.specs.FramesKept.{CutsUnits}

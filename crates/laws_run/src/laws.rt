@@ -40,7 +40,7 @@ pub fn jobs()
     ensures clean { JobCleanLaw }
 {}
 
-/// States that the output of `carry::carry`, a stream's units on a PID of their own, gives back exactly these
+/// States that the output of `mux_core::carry`, a stream's units on a PID of their own, gives back exactly these
 /// units, and that this covers each unit that it accepts.
 pub fn carried_back()
     ensures whole { CarriedBackLaw }
@@ -101,7 +101,7 @@ pub fn tables_first()
 pub fn worked_run()
     ensures { WorkedRun }
 {
-    plan_timing::laws::accepted_plan();
+    slot_plan::timing_laws::accepted_plan();
 }
 
 /// States the same of a run of two plans in turn, with video that has a multiplexing buffer and sound in PES packets of
@@ -110,5 +110,5 @@ pub fn worked_run()
 pub fn worked_switch()
     ensures { WorkedSwitch }
 {
-    plan_timing::laws::accepted_switch();
+    slot_plan::timing_laws::accepted_switch();
 }

@@ -13,7 +13,7 @@ use Rattle.pes_packet.specs.Units.{units_of}
 use Rattle.slot_contents.specs.Contents.{run_bytes}
 use Rattle.description_parts.specs.Described.{DescribedProgram, DescribedStream}
 use Rattle.description_parts.specs.Ranges.{IsInRange}
-use Rattle.plan_timing.specs.Promised.{Promised}
+use Rattle.slot_plan.specs.Promised.{Promised}
 use Rattle.tstd.specs.Carried.{packets_on}
 use Rattle.tstd.specs.Measured.{IsStreamFullness}
 use Rattle.tstd.specs.declared.fullness.StreamFullness.{StreamFullness}

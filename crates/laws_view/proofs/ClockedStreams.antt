@@ -16,11 +16,11 @@ use Rattle.arrival.specs.Clock.{step_after}
 use Rattle.clocked_packets.specs.Waiting.{QueueState, arrival_by, clock_by, last_arrival, line_by, no_packet, reference_in, released, still_wait, stepped}
 use Rattle.clocked_packets.specs.declared.packet_queue.ClockPid.{ClockPid}
 use Rattle.pid_windows.specs.Windows.{one_more}
-use Rattle.laws_arrival.specs.TimedPackets.{Timed, arrived, timed_from, timed_packets, waiting, with_one}
-use Rattle.laws_arrival.specs.TimedPackets as timed
-use Rattle.laws_arrival.proofs.Leads.{lead_law}
-use Rattle.laws_arrival.proofs.TimedPackets.{each_once, rises_law}
-use Rattle.laws_arrival.proofs.Waits.{Comes, Waits, alone_waits, comes_with, one_waits, waits_first}
+use Rattle.laws_view.specs.TimedPackets.{Timed, arrived, timed_from, timed_packets, waiting, with_one}
+use Rattle.laws_view.specs.TimedPackets as timed
+use Rattle.laws_view.proofs.Leads.{lead_law}
+use Rattle.laws_view.proofs.TimedPackets.{each_once, rises_law}
+use Rattle.laws_view.proofs.Waits.{Comes, Waits, alone_waits, comes_with, one_waits, waits_first}
 use Rattle.es_events.specs.declared.view_options.ViewOptions.{ViewOptions}
 use Rattle.ts_report.specs.ClockedViews.{ClockedState, clock_for, held_after, last_view, queue_after, queue_of, view_after, view_with}
 use Rattle.ts_report.specs.ClockedViews as clocked

@@ -42,11 +42,11 @@ use Rattle.pid_findings.specs.declared.open_unit.UnitKind.TheVariants as unit_ki
 use Rattle.demux.proofs.WholeStream.{each_pid_alone}
 use Rattle.table_rounds.specs.Tables.{Table, round_places}
 use Rattle.slot_plan.specs.TableRounds.{section_starts}
-use Rattle.laws_pid.specs.Laws.{found_on, packets_on}
-use Rattle.laws_pid.specs.Rounds.{sections_of_rounds}
-use Rattle.laws_pid.specs.Sections.{IsRecognized, begun_table, section_found, section_packets}
-use Rattle.laws_pid.specs.Sent.{Ending, each_found, if_sent, is_none, last_of, next_of, sendings}
-use Rattle.laws_pid.proofs.TablesAndStreams.{tables_come_back}
+use Rattle.laws_run.specs.PidLaws.{found_on, packets_on}
+use Rattle.laws_run.specs.Rounds.{sections_of_rounds}
+use Rattle.laws_run.specs.Sections.{IsRecognized, begun_table, section_found, section_packets}
+use Rattle.laws_run.specs.Sent.{Ending, each_found, if_sent, is_none, last_of, next_of, sendings}
+use Rattle.laws_run.proofs.TablesAndStreams.{tables_come_back}
 use Rattle.mux_core.specs.Decoder.{pieces_on}
 use Rattle.mux_core.specs.Headline.{Headline, UnitsKept}
 use Rattle.mux_core.specs.Histories.{content_at, table_of}

@@ -17,7 +17,7 @@ use Rattle.tstd_rows.specs.Lows.{least_of, least_of_both}
 use Rattle.tstd_rows.specs.Held.{Held, main_most, transport_most}
 use Rattle.tstd_rows.specs.Entering.{EnteredView, after, entered}
 use Rattle.tstd_rows.specs.declared.arriving.Arriving.{Arriving}
-use Rattle.laws_arrival.specs.TimedPackets.{Timed}
+use Rattle.laws_view.specs.TimedPackets.{Timed}
 use Rattle.es_events.specs.declared.tally.Tally.{Tally}
 use Rattle.es_events.specs.declared.view_options.ViewOptions.{ViewOptions}
 use Rattle.ts_watch.specs.Choices.{RequestView}

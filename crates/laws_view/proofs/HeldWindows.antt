@@ -7,7 +7,7 @@ use Rattle.std.proofs.lemmas.List.{map-append}
 use Rattle.ts_packet.specs.Views.{PacketView}
 use Rattle.ts_packet.specs.Reading.{packet_at}
 use Rattle.arrival.specs.declared.arrival.Arrival.{Arrival}
-use Rattle.laws_arrival.specs.TimedPackets.{Timed}
+use Rattle.laws_view.specs.TimedPackets.{Timed}
 use Rattle.tstd_rows.specs.Held.{Held}
 use Rattle.tstd_rows.specs.Entering.{EnteredView, after, entered}
 use Rattle.tstd_rows.specs.declared.arriving.Arriving.{Arriving}
@@ -19,7 +19,7 @@ use Rattle.es_events.specs.Clocks.{clock_of}
 use Rattle.es_view.specs.Entries.{EntryState, arriving, beginning_in, is_unread}
 use Rattle.es_view.specs.HeldEvents.{main_held}
 use Rattle.es_events.specs.Tallies.{tally_after}
-use Rattle.fault_traces.specs.declared.traces.Traces.{Traces}
+use Rattle.es_events.specs.declared.traces.Traces.{Traces}
 use Rattle.ts_report.specs.Seen.{next_window}
 use Rattle.es_events.specs.Tallies.{in_window, with_excesses, with_packet as with_tallied, with_unit_if}
 use Rattle.ts_report.specs.Views.{ViewState, clocked, start, with_begun}

@@ -27,9 +27,9 @@ use Rattle.demux.specs.Stream as demux
 use Rattle.demux.specs.FoundSoFar.{found_in_all, taken_all}
 use Rattle.pid_findings.specs.declared.finding.Kind.{Kind}
 use Rattle.pid_findings.specs.declared.finding.Kind.TheVariants.{Pes, Table}
-use Rattle.laws_pid.specs.Rounds.{sections_of_rounds}
-use Rattle.laws_pid.specs.Sections.{section_found, section_packets}
-use Rattle.laws_pid.specs.Sent.{Ending, Sending, each_found, if_sent, next_of, sendings}
+use Rattle.laws_run.specs.Rounds.{sections_of_rounds}
+use Rattle.laws_run.specs.Sections.{section_found, section_packets}
+use Rattle.laws_run.specs.Sent.{Ending, Sending, each_found, if_sent, next_of, sendings}
 use Rattle.mux_core.specs.Scheduled.{Scheduled}
 use Rattle.mux_core.specs.Headline.{UnitsKept}
 use Rattle.mux_core.specs.Histories.{content_at, table_of}

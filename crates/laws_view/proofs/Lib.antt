@@ -83,3 +83,15 @@ pub mod HomeTables
 pub mod WorkedView
 pub mod LeftEvents
 pub mod LeftFaults
+pub mod Rings
+pub mod KeptTraces
+pub mod Lines
+pub mod ClockStates
+pub mod Rising
+pub mod Headers
+pub mod Waits
+pub mod TimedPackets
+pub mod Leads
+pub mod Between
+pub mod StampedPackets
+pub mod StampedLeads

@@ -14,7 +14,7 @@ use Rattle.pes_packet.specs.Units.{units_of}
 use Rattle.slot_contents.specs.Contents.{run_bytes}
 use Rattle.description_parts.specs.Described.{DescribedStream}
 use Rattle.description_parts.specs.Ranges.{IsInRange}
-use Rattle.plan_timing.specs.Promised.{Promised, declaration}
+use Rattle.slot_plan.specs.Promised.{Promised, declaration}
 use Rattle.slot_plan.specs.declared.slot.Item.TheVariants.{Stream as StreamItem}
 use Rattle.slot_plan.specs.Schedule.{owned}
 use Rattle.unit_timing.specs.Arrived.{AllLeft}

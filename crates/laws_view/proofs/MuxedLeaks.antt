@@ -24,8 +24,8 @@ use Rattle.unit_timing.specs.Transport.{pes_left, slots_of}
 use Rattle.unit_timing.specs.VideoBuffers.{multiplexing_entered}
 use Rattle.unit_timing.proofs.MomentLemmas.{left_scaled}
 use Rattle.unit_timing.proofs.PacketsInSlots.{rising_run}
-use Rattle.plan_timing.specs.Promised.{Promised, declaration}
-use Rattle.plan_timing.proofs.OnePlan.{proper_leak}
+use Rattle.slot_plan.specs.Promised.{Promised, declaration}
+use Rattle.slot_plan.proofs.OnePlan.{proper_leak}
 use Rattle.slot_plan.specs.Schedule.{owned}
 use Rattle.slot_plan.specs.declared.slot.Item.TheVariants.{Stream as StreamItem}
 use Rattle.unit_queue.specs.OwnedStreams.{OwnedStream}

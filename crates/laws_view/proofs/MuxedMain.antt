@@ -9,7 +9,7 @@ use Rattle.tstd.specs.PidPackets.{packets_from}
 use Rattle.slot_contents.specs.Contents.{run_bytes}
 use Rattle.description_parts.specs.Described.{DescribedStream}
 use Rattle.description_parts.specs.Ranges.{IsInRange}
-use Rattle.plan_timing.specs.Promised.{Promised}
+use Rattle.slot_plan.specs.Promised.{Promised}
 use Rattle.unit_timing.specs.MainBuffer.{mb_fullness}
 use Rattle.unit_timing.specs.Schedule.{Packet}
 use Rattle.unit_timing.specs.Transport.{NoneLeavesEarly, of_payloads, pes_left}

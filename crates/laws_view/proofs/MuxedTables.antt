@@ -10,7 +10,7 @@ use Rattle.description_parts.specs.Ranges.{IsInRange}
 use Rattle.description_parts.specs.Tables.{kind_pid, table_kind, table_kinds, table_pid}
 use Rattle.description_parts.specs.declared.table_kind.TableKind.{TableKind}
 use Rattle.description_parts.specs.declared.table_kind.TableKind.TheVariants.{Eit, Pmt}
-use Rattle.plan_timing.specs.Promised.{Promised}
+use Rattle.slot_plan.specs.Promised.{Promised}
 use Rattle.demux.specs.Laws.{with_pid_at}
 use Rattle.monitor.specs.Begins.{found_on, table_begins}
 use Rattle.monitor.specs.Faults.{pat_late}

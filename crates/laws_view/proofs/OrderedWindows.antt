@@ -5,10 +5,10 @@ use Rattle.std.proofs.lemmas.List.{length-append}
 use Rattle.std.proofs.lemmas.List.Elements.{All-nil, All-cons, All-head, All-tail}
 use Rattle.tstd_rows.specs.TransportLaws.{Rises}
 use Rattle.arrival.specs.Arrivals.{step_of}
-use Rattle.laws_arrival.specs.Leads.{AllLead}
-use Rattle.laws_arrival.specs.TimedPackets.{Timed}
-use Rattle.laws_arrival.specs.Times.{times_among}
-use Rattle.laws_arrival.proofs.Rising.{among-append}
+use Rattle.laws_view.specs.Leads.{AllLead}
+use Rattle.laws_view.specs.TimedPackets.{Timed}
+use Rattle.laws_view.specs.Times.{times_among}
+use Rattle.laws_view.proofs.Rising.{among-append}
 use Rattle.tstd_rows.specs.History.{arrivals_of}
 use Rattle.tstd_rows.specs.Held.{Held}
 use Rattle.ts_watch.specs.Choices.{RequestView}

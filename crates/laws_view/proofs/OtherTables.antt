@@ -18,16 +18,16 @@ use Rattle.description_parts.specs.Ranges.{IsInRange}
 use Rattle.description_parts.specs.Tables.{kind_pid, table_count, table_kind, table_kinds, table_pid}
 use Rattle.description_parts.specs.declared.table_kind.TableKind.{TableKind}
 use Rattle.description_parts.specs.declared.table_kind.TableKind.TheVariants.{Eit, Nit, Pat, Pmt, Private, Sdt, Tdt}
-use Rattle.plan_timing.specs.Promised.{Promised}
+use Rattle.slot_plan.specs.Promised.{Promised}
 use Rattle.table_rounds.specs.Tables.{Table, round_places}
 use Rattle.unit_queue.specs.OwnedStreams.{has_access}
 use Rattle.pid_findings.specs.Views.{FindingView, PidFinding}
 use Rattle.pid_findings.specs.Findings.{findings_to_end}
 use Rattle.demux.specs.Laws.{with_pid_at}
-use Rattle.laws_pid.specs.Rounds.{sections_of_rounds}
-use Rattle.laws_pid.specs.Sections.{section_found, section_packets}
-use Rattle.laws_pid.specs.Sent.{Ending, Sending, each_found, if_sent, next_of, sendings}
-use Rattle.laws_pid.specs.Units.{carried_in, unit_found, unit_header}
+use Rattle.laws_run.specs.Rounds.{sections_of_rounds}
+use Rattle.laws_run.specs.Sections.{section_found, section_packets}
+use Rattle.laws_run.specs.Sent.{Ending, Sending, each_found, if_sent, next_of, sendings}
+use Rattle.laws_run.specs.Units.{carried_in, unit_found, unit_header}
 use Rattle.mux_core.specs.Scheduled.{Scheduled}
 use Rattle.mux_core.specs.Headline.{UnitsKept}
 use Rattle.mux_core.specs.Histories.{content_at, owned_stream, table_of}

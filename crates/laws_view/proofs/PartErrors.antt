@@ -11,8 +11,8 @@ use Rattle.std.proofs.lemmas.List.Elements.{All-head, All-tail}
 use Rattle.pes_packet.specs.Payloads.{piece_count}
 use Rattle.pid_findings.specs.Views.{IsSection, IsTruncated, PidFinding}
 use Rattle.demux.specs.Laws.{with_pid_at}
-use Rattle.laws_pid.specs.Sent.{Ending, each_found, if_sent, next_of, sendings}
-use Rattle.laws_pid.specs.Sections.{section_found, section_packets}
+use Rattle.laws_run.specs.Sent.{Ending, each_found, if_sent, next_of, sendings}
+use Rattle.laws_run.specs.Sections.{section_found, section_packets}
 use Rattle.monitor.proofs.LatePlaces.{after, step}
 use Rattle.tr101290.specs.Intervals.{IntervalState, before_in, error_at, error_if, key_of, key_with, part_before, part_key, part_places_at, parts_after}
 use Rattle.tr101290.specs.Intervals.{places_after}

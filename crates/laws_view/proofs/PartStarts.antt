@@ -13,12 +13,12 @@ use Rattle.ts_packet.specs.Views.{PacketView}
 use Rattle.slot_contents.specs.Contents.{Content, Payload, Piece, view_of, run_bytes, entry_at, entries_in, payload_at}
 use Rattle.tr101290.specs.Parts.{part_in}
 use Rattle.table_rounds.proofs.SectionStarts.{start_indicated}
-use Rattle.laws_pid.specs.Sent.{cut, sendings}
-use Rattle.laws_pid.specs.Sections.{filled_section, section_packets, section_pieces}
-use Rattle.laws_pid.specs.Laws.{CarriesPieces, packets_on}
-use Rattle.laws_pid.proofs.AllSendings.{sent_payloads}
-use Rattle.laws_pid.proofs.SendingPackets.{parted}
-use Rattle.laws_pid.proofs.FoundInRun.{index_lists, piece_lists, same_length}
+use Rattle.laws_run.specs.Sent.{cut, sendings}
+use Rattle.laws_run.specs.Sections.{filled_section, section_packets, section_pieces}
+use Rattle.laws_run.specs.PidLaws.{CarriesPieces, packets_on}
+use Rattle.laws_run.proofs.AllSendings.{sent_payloads}
+use Rattle.laws_run.proofs.SendingPackets.{parted}
+use Rattle.laws_run.proofs.FoundInRun.{index_lists, piece_lists, same_length}
 use Rattle.laws_view.proofs.PartErrors.{drop_none, starts_with, take_none}
 
 -- 1. Chosen packets, by their slots

@@ -26,16 +26,16 @@ use Rattle.description.specs.SectionBytes.{eit_bytes, kind_bytes, pmt_says, tabl
 use Rattle.description.proofs.Pids.{at_place}
 use Rattle.description.proofs.SectionCounts.{eit_count, sections_law}
 use Rattle.slot_plan.specs.TableRounds.{section_starts}
-use Rattle.plan_timing.specs.Promised.{Promised}
+use Rattle.slot_plan.specs.Promised.{Promised}
 use Rattle.table_rounds.specs.Tables.{Table, moment_before, round_places}
 use Rattle.table_rounds.specs.Payloads.{Begins, TableIsAlone}
 use Rattle.pid_findings.specs.Views.{PidFinding}
 use Rattle.demux.specs.Laws.{with_pid_at}
-use Rattle.laws_pid.specs.Laws.{packets_on}
-use Rattle.laws_pid.specs.Rounds.{sections_of_rounds}
-use Rattle.laws_pid.specs.Sections.{IsRecognized, filled_section, section_found, section_packets}
-use Rattle.laws_pid.specs.Sent.{each_found, sendings}
-use Rattle.laws_pid.proofs.TablesAndStreams.{tables_carry, tables_come_back}
+use Rattle.laws_run.specs.PidLaws.{packets_on}
+use Rattle.laws_run.specs.Rounds.{sections_of_rounds}
+use Rattle.laws_run.specs.Sections.{IsRecognized, filled_section, section_found, section_packets}
+use Rattle.laws_run.specs.Sent.{each_found, sendings}
+use Rattle.laws_run.proofs.TablesAndStreams.{tables_carry, tables_come_back}
 use Rattle.mux_core.specs.Scheduled.{Scheduled}
 use Rattle.mux_core.specs.Histories.{content_at, table_of}
 use Rattle.mux_core.specs.Headline.{TableKept, UnitsKept}

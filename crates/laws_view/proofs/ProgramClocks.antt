@@ -15,7 +15,7 @@ use Rattle.slot_contents.specs.Contents.{Content, entries_in, run_bytes, view_of
 use Rattle.slot_contents.proofs.Runs.{run_pid_list}
 use Rattle.description_parts.specs.Described.{Described, DescribedProgram}
 use Rattle.description_parts.specs.Ranges.{IsInRange, IsProgram}
-use Rattle.plan_timing.specs.Promised.{Promised}
+use Rattle.slot_plan.specs.Promised.{Promised}
 use Rattle.mux_core.specs.Scheduled.{Scheduled}
 use Rattle.mux_core.specs.Headline.{Headline, ProgramKept, UnitsKept}
 use Rattle.mux_core.specs.Histories.{content_at}

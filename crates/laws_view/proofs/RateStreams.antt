@@ -15,9 +15,9 @@ use Rattle.tstd.specs.PidPackets.{listed, packets_from, size_in}
 use Rattle.arrival.specs.declared.arrival.Arrival.{Arrival}
 use Rattle.arrival.specs.declared.arrival.Arrival.TheVariants.{Unknown, AtRate, OnLines}
 use Rattle.arrival.specs.Arrivals.{has_times}
-use Rattle.laws_arrival.specs.TimedPackets.{Timed, arriving_so}
-use Rattle.laws_arrival.specs.Times.{packet_times, times_among}
-use Rattle.laws_arrival.proofs.TimedPackets.{many_arrive}
+use Rattle.laws_view.specs.TimedPackets.{Timed, arriving_so}
+use Rattle.laws_view.specs.Times.{packet_times, times_among}
+use Rattle.laws_view.proofs.TimedPackets.{many_arrive}
 use Rattle.tstd_rows.specs.declared.arriving.Arriving.{Arriving}
 use Rattle.tstd_rows.specs.Entering.{EnteredView, after, entered}
 use Rattle.tstd_rows.specs.Held.{Held, empty}

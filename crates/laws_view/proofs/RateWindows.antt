@@ -7,8 +7,8 @@ use Rattle.arrival.specs.Arrivals.{has_times}
 use Rattle.arrival.specs.declared.arrival.Arrival.{Arrival}
 use Rattle.arrival.specs.declared.arrival.Arrival.TheVariants.{Unknown, AtRate, OnLines}
 use Rattle.arrival.specs.declared.arrival.ClockLines.{ClockLines}
-use Rattle.laws_arrival.specs.TimedPackets.{Timed, arriving_so}
-use Rattle.laws_arrival.proofs.TimedPackets.{many_arrive}
+use Rattle.laws_view.specs.TimedPackets.{Timed, arriving_so}
+use Rattle.laws_view.proofs.TimedPackets.{many_arrive}
 use Rattle.tstd_rows.specs.History.{transport_of}
 use Rattle.tstd_rows.specs.Held.{Held}
 use Rattle.tstd_rows.specs.Entering.{after}

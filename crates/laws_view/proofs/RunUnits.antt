@@ -31,8 +31,8 @@ use Rattle.unit_queue.proofs.CauseLemmas.{fits_unit}
 use Rattle.unit_queue.proofs.Leftover.{text_some}
 use Rattle.unit_queue.proofs.PieceBytes.{field_most}
 use Rattle.table_rounds.proofs.SectionStarts.{start_indicated}
-use Rattle.laws_pid.specs.Units.{unit_header_size}
-use Rattle.laws_pid.proofs.PesPrefixes.{unit_is_pes}
+use Rattle.laws_run.specs.Units.{unit_header_size}
+use Rattle.laws_run.proofs.PesPrefixes.{unit_is_pes}
 use Rattle.tstd.specs.Carried.{packets_on, timed_pes_packets}
 use Rattle.mux_core.specs.Scheduled.{Scheduled}
 use Rattle.mux_core.specs.Headline.{StreamKept}

@@ -16,8 +16,8 @@ use Rattle.pes_packet.specs.declared.marks.Marks.{Marks}
 use Rattle.pes_packet.specs.Reading.{header_at}
 use Rattle.pes_packet.specs.StreamIds.{fits_packet}
 use Rattle.unit_timing.specs.Schedule.{Packet}
-use Rattle.laws_pid.specs.Units.{unit_header_size}
-use Rattle.laws_pid.proofs.PesPrefixes.{unit_is_pes}
+use Rattle.laws_run.specs.Units.{unit_header_size}
+use Rattle.laws_run.proofs.PesPrefixes.{unit_is_pes}
 use Rattle.es_events.specs.declared.clocks.Beginning.TheVariants.{Nothing, Stamped}
 use Rattle.es_events.specs.Clocks.{beginning_of, by_header, by_payload, by_stamps}
 use Rattle.laws_view.specs.CarriedStreams.{BegunPayload, CarriesUnits, CutUnit, IsCut, begun, cut_pieces, cut_senders, payload_in}

@@ -14,10 +14,10 @@ use Rattle.arrival.specs.declared.arrival.Arrival.{Arrival}
 use Rattle.arrival.specs.declared.arrival.Arrival.TheVariants.{Unknown, AtRate, OnLines}
 use Rattle.arrival.specs.declared.arrival.ClockLines.{ClockLines}
 use Rattle.arrival.specs.Arrivals.{has_times, lead_of, line_at, times_at}
-use Rattle.laws_arrival.specs.Leads.{AllLead, payload_in}
-use Rattle.laws_arrival.specs.TimedPackets.{Timed}
-use Rattle.laws_arrival.specs.Times.{packet_times, time_of, times_among, times_from}
-use Rattle.laws_arrival.proofs.Rising.{after_is, before_is}
+use Rattle.laws_view.specs.Leads.{AllLead, payload_in}
+use Rattle.laws_view.specs.TimedPackets.{Timed}
+use Rattle.laws_view.specs.Times.{packet_times, time_of, times_among, times_from}
+use Rattle.laws_view.proofs.Rising.{after_is, before_is}
 use Rattle.tstd_rows.specs.History.{arrivals_of}
 use Rattle.tstd_rows.specs.declared.arriving.Arriving.{Arriving}
 use Rattle.tstd_rows.specs.Held.{Held}

@@ -9,9 +9,9 @@ use Rattle.ts_packet.specs.Views.{PacketView}
 use Rattle.ts_packet.specs.Reading.{packet_at}
 use Rattle.arrival.specs.declared.arrival.Arrival.{Arrival}
 use Rattle.arrival.specs.Arrivals.{has_times, times_at}
-use Rattle.laws_arrival.specs.Leads.{AllLead}
-use Rattle.laws_arrival.specs.TimedPackets.{Timed}
-use Rattle.laws_arrival.specs.Times.{packet_times, times_among, times_from}
+use Rattle.laws_view.specs.Leads.{AllLead}
+use Rattle.laws_view.specs.TimedPackets.{Timed}
+use Rattle.laws_view.specs.Times.{packet_times, times_among, times_from}
 use Rattle.tstd_rows.specs.declared.excess.Excess.{Excess}
 use Rattle.tstd_rows.specs.History.{arrivals_of}
 use Rattle.tstd_rows.specs.declared.unit_seen.UnitSeen.{UnitSeen}

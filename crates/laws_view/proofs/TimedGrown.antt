@@ -4,7 +4,7 @@ use Rattle.std.specs.Prelude.{slice_get}
 use Rattle.ts_packet.specs.Views.{PacketView}
 use Rattle.ts_packet.specs.Reading.{packet_at}
 use Rattle.arrival.specs.declared.arrival.Arrival.{Arrival}
-use Rattle.laws_arrival.specs.TimedPackets.{Timed}
+use Rattle.laws_view.specs.TimedPackets.{Timed}
 use Rattle.tstd_rows.specs.Held.{Held}
 use Rattle.tstd_rows.specs.Entering.{after, entered}
 use Rattle.tstd_rows.specs.declared.arriving.Arriving.{Arriving}

@@ -7,10 +7,10 @@ use Rattle.std.proofs.lemmas.List.Elements.{All-cons, All-head, All-nil, All-tai
 use Rattle.arrival.specs.Arrivals.{lead_of, step_of}
 use Rattle.arrival.specs.declared.arrival.Arrival.TheVariants.{AtRate}
 use Rattle.tstd_rows.specs.TransportLaws.{Rises}
-use Rattle.laws_arrival.specs.Leads.{AllLead}
-use Rattle.laws_arrival.specs.TimedPackets.{Timed, arriving_so}
-use Rattle.laws_arrival.specs.Times.{packet_times, time_of, times_among}
-use Rattle.laws_arrival.proofs.Rising.{among-append, packets_between}
+use Rattle.laws_view.specs.Leads.{AllLead}
+use Rattle.laws_view.specs.TimedPackets.{Timed, arriving_so}
+use Rattle.laws_view.specs.Times.{packet_times, time_of, times_among}
+use Rattle.laws_view.proofs.Rising.{among-append, packets_between}
 use Rattle.laws_view.specs.TimedStreams.{RateOrderLaw}
 
 -- Chooses only packets from an index on.

@@ -9,9 +9,9 @@ use Rattle.clock27.specs.Fullness.{fullness}
 use Rattle.clock27.specs.Peak.{IsPeak}
 use Rattle.ts_packet.specs.Reading.{packet_at}
 use Rattle.arrival.specs.Arrivals.{step_of}
-use Rattle.laws_arrival.specs.Leads.{AllLead}
-use Rattle.laws_arrival.specs.TimedPackets.{Timed}
-use Rattle.laws_arrival.specs.Times.{times_among}
+use Rattle.laws_view.specs.Leads.{AllLead}
+use Rattle.laws_view.specs.TimedPackets.{Timed}
+use Rattle.laws_view.specs.Times.{times_among}
 use Rattle.tstd_rows.specs.declared.excess.Excess.{Excess}
 use Rattle.tstd_rows.specs.Excesses.{excess_after, excesses_ended}
 use Rattle.tstd_rows.specs.TransportLaws.{Rises, excesses}

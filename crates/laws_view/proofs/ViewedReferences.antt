@@ -17,7 +17,7 @@ use Rattle.pes_packet.specs.Units.{units_of}
 use Rattle.slot_contents.specs.Contents.{Content, entries_in, run_bytes, view_of}
 use Rattle.slot_contents.proofs.Runs.{run_pid_list}
 use Rattle.description_parts.specs.Ranges.{IsInRange}
-use Rattle.plan_timing.specs.Promised.{Promised}
+use Rattle.slot_plan.specs.Promised.{Promised}
 use Rattle.monitor.proofs.FoundWhole.{packet_count}
 use Rattle.mux_core.specs.Scheduled.{Scheduled}
 use Rattle.mux_core.specs.Headline.{Headline, UnitsKept}

@@ -103,21 +103,21 @@ use Rattle.ts_services.specs.Services.{with_provider}
 use Rattle.ts_tables.specs.NamedStreams.{clock_by, clock_in, stream_by, stream_in, streams_by, taken_if as named_streams_taken_if}
 use Rattle.ts_tables.specs.ServiceNames.{begun as service_names_begun, known_name, name_among, name_of, some_text}
 use Rattle.ts_watch.specs.Choices.{chosen, given_or, is_among, rates_if}
-use Rattle.clock_windows.specs.ClockDrifts.{ahead_of, behind_of, drift_after, drift_at, on_line}
+use Rattle.pid_times.specs.ClockDrifts.{ahead_of, behind_of, drift_after, drift_at, on_line}
 use Rattle.ts_watch.specs.ClockEvents.{error_events as clock_events_error_events, errors_in, report_events_if}
-use Rattle.clock_windows.specs.ClockWindows.{counts_in as clock_windows_counts_in, counts_or_none, drift_or_none, taken as clock_windows_taken}
+use Rattle.pid_times.specs.ClockWindows.{counts_in as clock_windows_counts_in, counts_or_none, drift_or_none, taken as clock_windows_taken}
 use Rattle.ts_watch.specs.PidLabels.{by_program, in_programs, in_tables, label_by, of_clock, of_map}
-use Rattle.end_faults.specs.ReferenceEvents.{events_by}
+use Rattle.ts_report.specs.ReferenceEvents.{events_by}
 use Rattle.ts_watch.specs.RuleEvents.{accuracy_count, accuracy_events, cat_events, first_scrambled, is_map, judge_after, place_at as rule_events_place_at}
 use Rattle.ts_watch.specs.RuleEvents.{gap_events, gaps_by, pts_events, stamp_events, stamps_by}
-use Rattle.end_faults.specs.StoppedPids.{longest_seconds, stopped_pids_by}
-use Rattle.pid_gaps.specs.GapEvents.{gap_event_if}
-use Rattle.pid_gaps.specs.Gaps.{gap_after, places_in}
-use Rattle.pid_gaps.specs.Watched.{has_type, is_steady, is_typed, is_watched_by}
+use Rattle.ts_report.specs.StoppedPids.{longest_seconds, stopped_pids_by}
+use Rattle.pid_times.specs.GapEvents.{gap_event_if}
+use Rattle.pid_times.specs.Gaps.{gap_after, places_in}
+use Rattle.pid_times.specs.Watched.{has_type, is_steady, is_typed, is_watched_by}
 use Rattle.ts_watch.specs.SectionPids.{access_pid, association_pids, descriptor_pid, map_pids as section_pids_map_pids, may_name, pids_by, with_each}
 use Rattle.ts_watch.specs.SectionPids.{with_found, with_pids}
-use Rattle.end_faults.specs.StoppedClocks.{clocks_by, clocks_in, last_place, longest_without, reference_place, with_clocks}
-use Rattle.end_faults.specs.StoppedEvents.{stopped_by}
+use Rattle.ts_report.specs.StoppedClocks.{clocks_by, clocks_in, last_place, longest_without, reference_place, with_clocks}
+use Rattle.ts_report.specs.StoppedEvents.{stopped_by}
 use Rattle.ts_watch.specs.SystemEvents.{kind_of, size_of}
 use Rattle.ts_watch.specs.TableEvents.{begin_events, distance_events, distances_after, error_events as table_events_error_events, findings_events, is_wrong}
 use Rattle.ts_watch.specs.TableEvents.{is_wrong_offset, more_errors, other_events, placed, placed_if, placed_whole, soon_events, with_begin, with_findings}

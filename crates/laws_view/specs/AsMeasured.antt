@@ -11,7 +11,7 @@ use Rattle.laws_run.specs.TablesFirst.{DueLate}
 use Rattle.tstd.specs.Carried.{packets_on}
 use Rattle.tstd.specs.Measured.{IsStreamFullness}
 use Rattle.tstd.specs.declared.fullness.StreamFullness.{StreamFullness}
-use Rattle.plan_timing.specs.Promised.{Promised}
+use Rattle.slot_plan.specs.Promised.{Promised}
 use Rattle.mux_core.specs.Scheduled.{Scheduled}
 use Rattle.mux_core.specs.Headline.{UnitsKept}
 use Rattle.mux_core.specs.Histories.{content_at}

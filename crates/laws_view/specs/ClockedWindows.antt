@@ -3,7 +3,7 @@ use Rattle.std.specs.Prelude.{◌≡◌, ℕ, ◌^◌, ◌<◌, ◌==◌, true, 
 use Rattle.arrival.specs.declared.arrival.Arrival.{Arrival}
 use Rattle.arrival.specs.declared.arrival.Arrival.TheVariants.{Unknown}
 use Rattle.clocked_packets.specs.Waiting.{QueueState, last_arrival, released, stepped}
-use Rattle.laws_arrival.specs.TimedPackets.{Timed, timed_packets}
+use Rattle.laws_view.specs.TimedPackets.{Timed, timed_packets}
 use Rattle.ts_watch.specs.Choices.{RequestView}
 use Rattle.ts_report.specs.ClockedViews.{ClockedState, clock_for}
 use Rattle.ts_report.specs.ClockedViews as clocked

@@ -11,7 +11,7 @@ use Rattle.pes_packet.specs.AccessUnits.{AccessUnit}
 use Rattle.pes_packet.specs.Units.{units_of}
 use Rattle.description_parts.specs.Described.{DescribedStream}
 use Rattle.description_parts.specs.Ranges.{IsInRange}
-use Rattle.plan_timing.specs.Promised.{Promised}
+use Rattle.slot_plan.specs.Promised.{Promised}
 use Rattle.unit_timing.specs.AccessUnits.{FramedPacket}
 use Rattle.unit_timing.specs.declared.framing.FrameDeclaration.{FrameDeclaration}
 use Rattle.tstd.specs.PacketLists.{payloads_from}

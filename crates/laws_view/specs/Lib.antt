@@ -25,3 +25,9 @@ pub mod ViewedVerdicts
 pub mod HomeTables
 pub mod WorkedView
 pub mod LeftFaults
+pub mod KeptRows
+pub mod TimedPackets
+pub mod Times
+pub mod Leads
+pub mod Between
+pub mod StampedPackets

@@ -4,7 +4,7 @@ use Rattle.arrival.specs.declared.arrival.Arrival.TheVariants.{AtRate}
 use Rattle.tstd_rows.specs.Held.{empty, main_most}
 use Rattle.ts_watch.specs.Choices.{RequestView}
 use Rattle.es_view.specs.Entries.{EntryState}
-use Rattle.laws_arrival.specs.TimedPackets.{Timed}
+use Rattle.laws_view.specs.TimedPackets.{Timed}
 use Rattle.laws_view.specs.StreamPackets.{entered_each}
 use Rattle.laws_view.specs.TimedStreams.{IsWholeBy, entered_by, stream_entering}
 use Rattle.laws_view.specs.WholeStreams.{IsWhole, stream_packets}

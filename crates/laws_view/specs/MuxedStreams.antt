@@ -4,7 +4,7 @@ use Rattle.ts_packet.specs.PidList.{cut_packets}
 use Rattle.pes_packet.specs.AccessUnits.{AccessUnit}
 use Rattle.description_parts.specs.Described.{DescribedStream}
 use Rattle.description_parts.specs.Ranges.{IsInRange}
-use Rattle.plan_timing.specs.Promised.{Promised}
+use Rattle.slot_plan.specs.Promised.{Promised}
 use Rattle.mux_core.specs.Scheduled.{Scheduled}
 use Rattle.mux_core.specs.Headline.{Headline}
 use Rattle.mux_core.specs.WholeJobs.{capacity_for, first_refused, job_history, output_of}

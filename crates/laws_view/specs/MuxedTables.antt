@@ -5,7 +5,7 @@ use Rattle.slot_contents.specs.Contents.{run_bytes}
 use Rattle.pes_packet.specs.AccessUnits.{AccessUnit}
 use Rattle.description_parts.specs.Described.{Described, DescribedProgram}
 use Rattle.description_parts.specs.Ranges.{IsInRange}
-use Rattle.plan_timing.specs.Promised.{Promised}
+use Rattle.slot_plan.specs.Promised.{Promised}
 use Rattle.monitor.specs.Begins.{found_on}
 use Rattle.mux_core.specs.Scheduled.{Scheduled}
 use Rattle.mux_core.specs.Headline.{UnitsKept}

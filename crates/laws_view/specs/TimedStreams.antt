@@ -10,9 +10,9 @@ use Rattle.tstd_rows.specs.TransportLaws.{Rises}
 use Rattle.arrival.specs.declared.arrival.Arrival.{Arrival}
 use Rattle.arrival.specs.declared.arrival.Arrival.TheVariants.{Unknown, AtRate}
 use Rattle.arrival.specs.Arrivals.{step_of}
-use Rattle.laws_arrival.specs.Leads.{AllLead}
-use Rattle.laws_arrival.specs.TimedPackets.{Timed, arriving_so, timed_packets}
-use Rattle.laws_arrival.specs.Times.{times_among}
+use Rattle.laws_view.specs.Leads.{AllLead}
+use Rattle.laws_view.specs.TimedPackets.{Timed, arriving_so, timed_packets}
+use Rattle.laws_view.specs.Times.{times_among}
 use Rattle.tstd_rows.specs.History.{arrivals_of}
 use Rattle.tstd_rows.specs.declared.arriving.Arriving.{Arriving}
 use Rattle.tstd_rows.specs.Entering.{EnteredView, after, entered}

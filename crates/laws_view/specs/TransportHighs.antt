@@ -8,7 +8,7 @@ use Rattle.arrival.specs.declared.arrival.Arrival.TheVariants.{AtRate}
 use Rattle.tstd_rows.specs.Held.{Held}
 use Rattle.tstd_rows.specs.Entering.{EnteredView}
 use Rattle.tstd_rows.specs.History.{arrivals_of}
-use Rattle.laws_arrival.specs.TimedPackets.{Timed}
+use Rattle.laws_view.specs.TimedPackets.{Timed}
 use Rattle.ts_watch.specs.Choices.{RequestView}
 use Rattle.es_view.specs.Entries.{EntryState}
 use Rattle.es_events.specs.Tallies.{in_window}

@@ -4,7 +4,7 @@ use Rattle.std.specs.Prelude.{◌≡◌, ℕ, ◌<◌, ◌≤◌, max, Bool, map
 use Rattle.tstd_rows.specs.Held.{Held}
 use Rattle.tstd_rows.specs.Entering.{EnteredView}
 use Rattle.tstd_rows.specs.History.{Part, main_fullness, payload_left}
-use Rattle.laws_arrival.specs.TimedPackets.{Timed}
+use Rattle.laws_view.specs.TimedPackets.{Timed}
 use Rattle.ts_watch.specs.Choices.{RequestView}
 use Rattle.es_view.specs.Entries.{EntryState}
 use Rattle.es_events.specs.Tallies.{in_window}

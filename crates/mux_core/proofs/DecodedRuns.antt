@@ -25,7 +25,7 @@ use Rattle.unit_timing.specs.declared.multiplexing_buffer.MultiplexingBuffer.{Mu
 use Rattle.unit_timing.specs.Arrived.{AllLeft}
 use Rattle.unit_timing.specs.Transport.{pes_left, slots_of}
 use Rattle.unit_timing.specs.VideoBuffers.{multiplexing_left}
-use Rattle.plan_timing.specs.Waits.{pes_entered}
+use Rattle.slot_plan.specs.Waits.{pes_entered}
 use Rattle.unit_timing.proofs.LateUnits.{late_law}
 use Rattle.clock27.specs.Arrival.{arrivals}
 use Rattle.clock27.specs.Departure.{departures}

@@ -7,10 +7,10 @@ use Rattle.std.proofs.lemmas.Bool.{lt-ltb, le-ltb, cases_lt}
 use Rattle.pes_packet.specs.AccessUnits.{AccessUnit}
 use Rattle.slot_contents.specs.Contents.{packet_of, run_bytes}
 use Rattle.description_parts.specs.Ranges.{IsInRange}
-use Rattle.plan_timing.specs.Promised.{Promised}
+use Rattle.slot_plan.specs.Promised.{Promised}
 use Rattle.unit_queue.specs.Causes.{refusal}
 use Rattle.unit_queue.specs.declared.refusal.FeedError.{FeedError}
-use Rattle.packet_output.specs.Formats.{formatted}
+use Rattle.mux_core.specs.Formats.{formatted}
 use Rattle.mux_core.specs.Scheduled.{Scheduled}
 use Rattle.mux_core.specs.Histories.{History, content_at, bytes_of, empty_history, next_slot}
 use Rattle.mux_core.specs.MuxStates.{MuxState, Represents, Gives, Takes, feed_cause}

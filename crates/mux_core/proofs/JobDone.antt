@@ -14,14 +14,14 @@ use Rattle.slot_contents.specs.Contents.{Content, packet_of, run_bytes}
 use Rattle.slot_contents.specs.RunLaws.{Fits}
 use Rattle.slot_contents.proofs.Runs.{content_again}
 use Rattle.description_parts.specs.Ranges.{IsInRange}
-use Rattle.plan_timing.specs.Promised.{Promised}
+use Rattle.slot_plan.specs.Promised.{Promised}
 use Rattle.mux_core.specs.Scheduled.{Scheduled}
 use Rattle.mux_core.specs.Histories.{content_at, bytes_of}
 use Rattle.mux_core.specs.MuxStates.{MuxState}
 use Rattle.mux_core.specs.Headline.{Headline}
 use Rattle.mux_core.specs.MeasuredRuns.{MeasuresWell}
-use Rattle.packet_output.specs.Formats.{formatted}
-use Rattle.packet_output.specs.Buffer.{Buffered, IsOutput}
+use Rattle.mux_core.specs.Formats.{formatted}
+use Rattle.mux_core.specs.Buffer.{Buffered, IsOutput}
 use Rattle.mux_core.specs.NewMux.{is_periods}
 use Rattle.mux_core.specs.WholeJobs.{job_history, capacity_for, or_cause, first_refused, job_cause, Refuses, run_output, output_of, slot_size, WritesAll}
 use Rattle.mux_core.specs.WholeJobs.{Writes, OnWriting, AllFed, slots_cause, periods_cause}

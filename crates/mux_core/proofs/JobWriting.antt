@@ -2,14 +2,14 @@
 use Rattle.std.proofs.Common.{◌≡◌, ℕ, zero, suc, ◌+◌, ◌-◌, ◌<◌, ◌≤◌, ◌^◌, Bool, false, List, [], ◌++◌, Option, Ok, Err, refl, sym, ap, ◌∙◌, subst, arith}
 use Rattle.std.proofs.Common.{append_assoc, append-nil}
 use Rattle.slot_contents.specs.Contents.{Content, packet_of, run_bytes}
-use Rattle.packet_output.specs.Buffer.{Buffered, IsOutput, Took}
-use Rattle.packet_output.specs.Formats.{formatted}
+use Rattle.mux_core.specs.Buffer.{Buffered, IsOutput, Took}
+use Rattle.mux_core.specs.Formats.{formatted}
 use Rattle.mux_core.specs.Scheduled.{Scheduled}
 use Rattle.mux_core.specs.Histories.{History, content_at}
 use Rattle.mux_core.specs.MuxStates.{MuxState, Represents, Gives}
 use Rattle.mux_core.specs.WholeJobs.{run_output}
 use Rattle.mux_core.specs.declared.done.Done.{Done}
-use Rattle.packet_output.proofs.Written.{took_longer}
+use Rattle.mux_core.proofs.Written.{took_longer}
 
 -- Output in binary form is the bytes of the packets.
 pub output_bytes : (content : ℕ → Content) (s n : ℕ) → run_output false content s n ≡ run_bytes content s n

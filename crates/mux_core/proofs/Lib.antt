@@ -28,3 +28,10 @@ pub mod JobWriting
 pub mod JobDone
 pub mod EventSteps
 pub mod RoomForAll
+pub mod Written
+pub mod UnitPackets
+pub mod AcceptedUnits
+pub mod Runs
+pub mod LeftInput
+pub mod RunLengths
+pub mod ReadBytes

@@ -5,7 +5,7 @@ use Rattle.unit_timing.proofs.NotEarly.{run_left}
 use Rattle.slot_plan.specs.declared.slot.Item.TheVariants.{Stream}
 use Rattle.slot_plan.specs.Schedule.{Schedule, owned}
 use Rattle.description_parts.specs.Described.{Described}
-use Rattle.plan_timing.specs.Promised.{declaration, Promised}
+use Rattle.slot_plan.specs.Promised.{declaration, Promised}
 use Rattle.mux_core.specs.TimingLaws.{UnitsArrive, TransportFits, MainFits, SystemFits, PcrsRecur, SectionsRecur}
 
 pub units_arrive : (d : Described) (schedule : Schedule) → Promised d schedule → UnitsArrive d schedule

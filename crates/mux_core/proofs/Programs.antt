@@ -24,7 +24,7 @@ use Rattle.slot_plan.specs.Items.{is_own}
 use Rattle.slot_plan.specs.Schedule.{slot_of, owned}
 use Rattle.slot_plan.specs.SlotPids.{slot_pid}
 use Rattle.slot_plan.proofs.SlotPids.{slots_apart, slots_below}
-use Rattle.plan_timing.specs.Promised.{Promised}
+use Rattle.slot_plan.specs.Promised.{Promised}
 use Rattle.unit_timing.specs.SystemBuffer.{system_tb_fullness, bsys_fullness}
 use Rattle.tstd.specs.Carried.{table_packets}
 use Rattle.mux_core.specs.Scheduled.{Scheduled}

@@ -19,8 +19,8 @@ use Rattle.unit_timing.proofs.NotEarly.{run_left}
 use Rattle.description_parts.specs.Described.{DescribedStream}
 use Rattle.slot_plan.specs.declared.slot.Item.TheVariants.{Stream as StreamItem}
 use Rattle.slot_plan.specs.Schedule.{owned}
-use Rattle.plan_timing.specs.Promised.{declaration, Promised}
-use Rattle.plan_timing.specs.Waits.{pes_entered, longest_wait}
+use Rattle.slot_plan.specs.Promised.{declaration, Promised}
+use Rattle.slot_plan.specs.Waits.{pes_entered, longest_wait}
 use Rattle.tstd.specs.Carried.{timed_pes_packets, packets_on}
 use Rattle.tstd.specs.Measured.{late_of}
 use Rattle.unit_queue.specs.Queues.{Kept}

@@ -13,7 +13,7 @@ use Rattle.slot_plan.specs.declared.slot.Item.TheVariants.{Table as TableItem}
 use Rattle.slot_plan.specs.Items.{is_own}
 use Rattle.slot_plan.specs.Schedule.{slot_of}
 use Rattle.slot_plan.specs.SlotPids.{slot_pid}
-use Rattle.plan_timing.specs.Promised.{Promised}
+use Rattle.slot_plan.specs.Promised.{Promised}
 use Rattle.table_rounds.specs.Tables.{table_content}
 use Rattle.table_rounds.specs.Payloads.{TableIsAlone}
 use Rattle.table_rounds.proofs.CarriedBytes.{table_carried}

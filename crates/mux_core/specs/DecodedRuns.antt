@@ -29,7 +29,7 @@ use Rattle.table_rounds.specs.Payloads.{Begins}
 use Rattle.unit_timing.specs.declared.multiplexing_buffer.MultiplexingBuffer.{MultiplexingBuffer}
 use Rattle.unit_timing.specs.Transport.{pes_left}
 use Rattle.unit_timing.specs.VideoBuffers.{multiplexing_left}
-use Rattle.plan_timing.specs.Waits.{pes_entered, longest_wait}
+use Rattle.slot_plan.specs.Waits.{pes_entered, longest_wait}
 use Rattle.unit_queue.specs.OwnedStreams.{pes_bytes}
 use Rattle.unit_queue.specs.Payloads.{all_pieces, all_senders}
 use Rattle.tstd.specs.Carried.{packets_on}

@@ -35,8 +35,8 @@ use Rattle.mux_core.specs.FramesKept.{FramesKept}
 use Rattle.mux_core.specs.Histories.{History, parameters_of, owned_stream, table_of, content_at}
 use Rattle.mux_core.specs.MuxStates.{MuxState, Represents}
 use Rattle.description_parts.specs.Ranges.{IsInRange}
-use Rattle.plan_timing.specs.Promised.{Promised}
-use Rattle.plan_timing.specs.Waits.{pes_entered, longest_wait}
+use Rattle.slot_plan.specs.Promised.{Promised}
+use Rattle.slot_plan.specs.Waits.{pes_entered, longest_wait}
 use Rattle.unit_queue.specs.Queues.{ParametersInRange, Kept}
 
 -- the promises for a stream with a multiplexing buffer (ISO/IEC 13818-1, 2.4.2.3, the leak method)

@@ -11,3 +11,10 @@ pub mod DecodedRuns
 pub mod NewMux
 pub mod WholeJobs
 pub mod Events
+pub mod Buffer
+pub mod Formats
+pub mod Refusals
+pub mod PidPackets
+pub mod RecordRuns
+pub mod RunSteps
+pub mod CarryLaws

@@ -17,7 +17,7 @@ use Rattle.slot_plan.specs.Conditions.{IsServing}
 use Rattle.slot_plan.specs.SwitchConditions.{IsSwitchable}
 use Rattle.slot_plan.specs.Schedule.{Schedule, single, switched, owned}
 use Rattle.slot_plan.specs.TableRounds.{section_starts}
-use Rattle.plan_timing.specs.Promised.{declaration}
+use Rattle.slot_plan.specs.Promised.{declaration}
 
 -- units of a stream within its declaration that are due in a run of n slots have left its transport buffer whole by their
 -- decoding times

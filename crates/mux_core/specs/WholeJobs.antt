@@ -14,8 +14,8 @@ use Rattle.mux_core.specs.Scheduled.{Scheduled}
 use Rattle.mux_core.specs.Histories.{History, content_at}
 use Rattle.mux_core.specs.MuxStates.{MuxState, Represents, feed_cause}
 use Rattle.mux_core.specs.NewMux.{is_periods}
-use Rattle.packet_output.specs.Buffer.{byte_count, Took}
-use Rattle.packet_output.specs.Formats.{formatted}
+use Rattle.mux_core.specs.Buffer.{byte_count, Took}
+use Rattle.mux_core.specs.Formats.{formatted}
 use Rattle.mux_core.specs.declared.multiplexing.MuxError.{MuxError}
 use Rattle.mux_core.specs.declared.multiplexing.MuxError.TheVariants.{TooManySlots, Periods, Feed, Device, Memory}
 

@@ -3,7 +3,7 @@
 ghost use Rattle.std.specs.Prelude.{◌≡◌};
 ghost use Rattle.description_parts.specs.Ranges.{IsInRange};
 ghost use Rattle.slot_plan.specs.Schedule.{slot_of, repeated, single, switched};
-ghost use Rattle.plan_timing.specs.Promised.{Promised};
+ghost use Rattle.slot_plan.specs.Promised.{Promised};
 ghost use Rattle.mux_core.specs.Scheduled.{scheduled_of};
 
 use plan_checker::CheckedPlan;
@@ -43,7 +43,7 @@ impl<A: Allocator> CheckedSchedule<A> {
     {
         plan.description().keeps_ranges();
         let _ = plan.plan();
-        plan_timing::laws::accepted_plan();
+        slot_plan::timing_laws::accepted_plan();
         CheckedSchedule {
             plans: CheckedPlans::One(plan),
         }
@@ -61,7 +61,7 @@ impl<A: Allocator> CheckedSchedule<A> {
         switch.first().description().keeps_ranges();
         let _ = switch.first().plan();
         let _ = switch.second();
-        plan_timing::laws::accepted_switch();
+        slot_plan::timing_laws::accepted_switch();
         CheckedSchedule {
             plans: CheckedPlans::Two(switch, periods),
         }

@@ -1,6 +1,6 @@
 //! Laws of the definitions. Each function does nothing: its contract is the law.
 
-ghost use Rattle.plan_timing.specs.Promised.{Promised};
+ghost use Rattle.slot_plan.specs.Promised.{Promised};
 ghost use Rattle.mux_core.specs.Headline.{HeadlineLaw, AnyStateLaw};
 ghost use Rattle.mux_core.specs.MeasuredRuns.{MeasuredLaw, MeasurableLaw};
 ghost use Rattle.mux_core.specs.Decoder.{PutLaw};
@@ -17,21 +17,21 @@ pub use crate::driving::{Event, drive};
 pub fn deadlines()
     ensures { OfPlan UnitsArrive }
 {
-    plan_timing::laws::accepted_plan();
+    slot_plan::timing_laws::accepted_plan();
 }
 
 /// States that over such a plan no transport buffer of a stream holds more than 512 bytes.
 pub fn transport()
     ensures { OfPlan TransportFits }
 {
-    plan_timing::laws::accepted_plan();
+    slot_plan::timing_laws::accepted_plan();
 }
 
 /// States that over such a plan no main buffer holds more than its size.
 pub fn main_buffer()
     ensures { OfPlan MainFits }
 {
-    plan_timing::laws::accepted_plan();
+    slot_plan::timing_laws::accepted_plan();
 }
 
 /// States that over such a plan neither of a program's two buffers in tandem, transport buffer and system buffer,
@@ -39,7 +39,7 @@ pub fn main_buffer()
 pub fn tandem()
     ensures { OfPlan SystemFits }
 {
-    plan_timing::laws::accepted_plan();
+    slot_plan::timing_laws::accepted_plan();
 }
 
 /// States that over such a plan PCRs and sections recur within their limits, round each period's end.
@@ -47,7 +47,7 @@ pub fn gaps()
     ensures pcrs { OfPlan PcrsRecur }
     ensures sections { OfPlan SectionsRecur }
 {
-    plan_timing::laws::accepted_plan();
+    slot_plan::timing_laws::accepted_plan();
 }
 
 /// States that a plan whose conditions hold over one period keeps all of these promises for all time, and so do two
@@ -56,8 +56,8 @@ pub fn all_time()
     ensures plan { OfPlan Promised }
     ensures switch { OfSwitch Promised }
 {
-    plan_timing::laws::accepted_plan();
-    plan_timing::laws::accepted_switch();
+    slot_plan::timing_laws::accepted_plan();
+    slot_plan::timing_laws::accepted_switch();
 }
 
 /// States that over two plans in turn PCRs and sections recur within their limits, across the switch too.
@@ -65,7 +65,7 @@ pub fn switch_gaps()
     ensures pcrs { OfSwitch PcrsRecur }
     ensures sections { OfSwitch SectionsRecur }
 {
-    plan_timing::laws::accepted_switch();
+    slot_plan::timing_laws::accepted_switch();
 }
 
 /// States that over two plans in turn the work that the first leaves finds room in the second: no transport buffer and
@@ -74,21 +74,21 @@ pub fn switch_work()
     ensures streams { OfSwitch TransportFits }
     ensures programs { OfSwitch SystemFits }
 {
-    plan_timing::laws::accepted_switch();
+    slot_plan::timing_laws::accepted_switch();
 }
 
 /// States that over two plans in turn each unit that is due has left its transport buffer whole by its decoding time.
 pub fn switch_deadlines()
     ensures { OfSwitch UnitsArrive }
 {
-    plan_timing::laws::accepted_switch();
+    slot_plan::timing_laws::accepted_switch();
 }
 
 /// States that over two plans in turn no main buffer holds more than its size.
 pub fn switch_main()
     ensures { OfSwitch MainFits }
 {
-    plan_timing::laws::accepted_switch();
+    slot_plan::timing_laws::accepted_switch();
 }
 
 /// States that the finished bytes of a run keep every promise, if the schedule keeps the conditions and each stream's

@@ -6,11 +6,20 @@
 //! `specs/Decoder`, and `specs/SlotSteps` one slot and one unit of the state. `specs/WholeJobs` says what a whole job
 //! answers and writes, where all units are fed first, and `specs/Events` what units and slots in any order leave.
 //!
+//! `carry` makes the packets of one PID of records of one stream, back to back, without a plan: `specs/Refusals` says
+//! which unit it refuses, `specs/PidPackets` which packets a unit has, `specs/RecordRuns` what an input of records becomes.
+//!
+//! Packets go to a writer in large parts (`PacketOutput`), as their bytes or as lines of hexadecimal digits:
+//! `specs/Formats` says how a packet leaves, and `specs/Buffer` how much of an output the writer has and how much
+//! waits, or what it took before it failed.
+//!
 //! The modules in reading order: the plans that fill slots, where a run ends, how a multiplexer is made,
-//! its calls, the packet of a slot of each kind, a whole job, events in any order; the laws. Records of units and
-//! `carry`, the packets of one PID without a plan, are crates of their own; their calls are exported here too.
+//! its calls, the packet of a slot of each kind, a whole job, events in any order; the laws. Records of units
+//! are a crate of their own, whose call is exported here too.
 #![tactic(auto)]
 
+pub mod carry_laws;
+mod carrying;
 mod checked_schedule;
 mod described_sections;
 mod done;
@@ -19,12 +28,16 @@ pub mod laws;
 mod making;
 mod multiplexer;
 mod multiplexing;
+mod output;
+mod pid_packets;
+mod refusals;
 mod slot_packets;
 
-pub use carry::{CarryError, carry};
+pub use carrying::{CarryError, carry};
 pub use done::{Done, NewError};
 pub use multiplexer::Mux;
 pub use multiplexing::{MuxError, multiplex, multiplex_as, multiplex_switch, multiplex_switch_as};
+pub use output::{OutputFault, PacketOutput};
 pub use pes_packet::{Marks, PesFlags, Unit};
 pub use unit_queue::FeedError;
 pub use unit_records::{UnitFileError, read_unit};

@@ -3,7 +3,7 @@
 ghost use Rattle.std.specs.Prelude.{◌≡◌, ◌<◌, IfOk, IfErr, map, length};
 ghost use Rattle.description_parts.specs.Tables.{table_count};
 ghost use Rattle.description_parts.specs.Ranges.{IsInRange};
-ghost use Rattle.plan_timing.specs.Promised.{Promised};
+ghost use Rattle.slot_plan.specs.Promised.{Promised};
 ghost use Rattle.slot_plan.specs.Schedule.{single, switched};
 ghost use Rattle.mux_core.specs.Histories.{parameters_of, empty_history};
 ghost use Rattle.mux_core.specs.MuxStates.{Represents};

@@ -9,7 +9,7 @@ ghost use Rattle.mux_core.specs.MuxStates.{Represents, Gives, Takes, waiting_of}
 ghost use Rattle.mux_core.specs.Headline.{Headline};
 ghost use Rattle.mux_core.specs.SlotSteps.{sends, after, queue_cause, queues_with};
 ghost use Rattle.description_parts.specs.Ranges.{IsInRange};
-ghost use Rattle.plan_timing.specs.Promised.{Promised};
+ghost use Rattle.slot_plan.specs.Promised.{Promised};
 
 use crate::checked_schedule::CheckedSchedule;
 use crate::done::Done;
@@ -37,7 +37,7 @@ pub struct Mux<A: Allocator = Global> {
 
 impl<A: Allocator> Model for Mux<A> {
     ghost use Rattle.description_parts.specs.Ranges.{IsInRange};
-    ghost use Rattle.plan_timing.specs.Promised.{Promised};
+    ghost use Rattle.slot_plan.specs.Promised.{Promised};
     ghost use Rattle.mux_core.specs.MuxStates.{MuxState};
 
     ghost Value = { MuxState };

@@ -7,7 +7,7 @@ ghost use Rattle.mux_core.specs.Headline.{Headline};
 ghost use Rattle.mux_core.specs.MeasuredRuns.{MeasuresWell};
 ghost use Rattle.mux_core.specs.Histories.{History, content_at, bytes_of, empty_history};
 ghost use Rattle.mux_core.specs.MuxStates.{Represents};
-ghost use Rattle.packet_output.specs.Buffer.{waiting_of, IsOutput, Took};
+ghost use Rattle.mux_core.specs.Buffer.{waiting_of, IsOutput, Took};
 ghost use Rattle.mux_core.specs.WholeJobs.{plan_schedule, switch_schedule, job_history, slots_cause};
 ghost use Rattle.mux_core.specs.WholeJobs.{switch_slots_cause, job_cause, capacity_for, max_stream_units};
 ghost use Rattle.mux_core.specs.WholeJobs.{run_output, output_of, slot_size, FeedsAll, WritesAll, Refuses, Writes};
@@ -15,8 +15,8 @@ ghost use Rattle.mux_core.specs.WholeJobs.{OnWriting, NamesWriter};
 
 use crate::making::{MAX_CAPACITY, is_periods};
 use crate::multiplexer::{MAX_SLOTS, Mux};
+use crate::{OutputFault, PacketOutput};
 use counted_io::Sink;
-use packet_output::{OutputFault, PacketOutput};
 use pes_packet::Unit;
 use plan_checker::CheckedPlan;
 use std::alloc::Allocator;

@@ -1,14 +1,14 @@
 -- The state of a run after a record, and after the end
 use Rattle.std.proofs.Common.{◌≡◌, ℕ, ◌+◌, max, Bool, true, false, List, [], Option, Some, None, Result, refl, sym, ap, ◌∙◌, subst}
 use Rattle.std.specs.Prelude.{IfErr, OnOk}
-use Rattle.packet_output.specs.declared.output.OutputFault.{OutputFault}
+use Rattle.mux_core.specs.declared.output.OutputFault.{OutputFault}
 use Rattle.description_parts.specs.Ranges.{IsInRange}
-use Rattle.plan_timing.specs.Promised.{Promised}
+use Rattle.slot_plan.specs.Promised.{Promised}
 use Rattle.pes_packet.specs.AccessUnits.{AccessUnit}
 use Rattle.pes_packet.specs.Units.{units_of}
 use Rattle.slot_contents.specs.Contents.{run_bytes}
-use Rattle.packet_output.specs.Buffer.{waiting_of, Buffered, IsOutput, Took}
-use Rattle.packet_output.proofs.Written.{holds_none}
+use Rattle.mux_core.specs.Buffer.{waiting_of, Buffered, IsOutput, Took}
+use Rattle.mux_core.proofs.Written.{holds_none}
 use Rattle.mux_core.specs.Scheduled.{Scheduled}
 use Rattle.mux_core.specs.Headline.{Headline}
 use Rattle.mux_core.specs.Histories.{bytes_of, content_at, empty_history}

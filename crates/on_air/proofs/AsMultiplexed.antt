@@ -14,7 +14,7 @@ use Rattle.unit_queue.specs.declared.refusal.FeedError.{FeedError}
 use Rattle.unit_queue.proofs.CauseLemmas.{own_facts, or_none}
 use Rattle.unit_records.specs.Records.{record_at}
 use Rattle.unit_records.specs.declared.reading.UnitFileError.{UnitFileError}
-use Rattle.carry.specs.RecordRuns.{after_records}
+use Rattle.mux_core.specs.RecordRuns.{after_records}
 use Rattle.mux_core.specs.Scheduled.{Scheduled}
 use Rattle.mux_core.specs.Histories.{owned_stream}
 use Rattle.mux_core.specs.MuxStates.{feed_cause}

@@ -8,8 +8,8 @@ use Rattle.slot_contents.specs.RunLaws.{Fits}
 use Rattle.description_parts.specs.Ranges.{IsInRange}
 use Rattle.unit_records.specs.Records.{record_at}
 use Rattle.unit_records.specs.declared.reading.UnitFileError.{UnitFileError}
-use Rattle.carry.specs.RecordRuns.{after_records}
-use Rattle.packet_output.specs.Formats.{formatted}
+use Rattle.mux_core.specs.RecordRuns.{after_records}
+use Rattle.mux_core.specs.Formats.{formatted}
 use Rattle.mux_core.specs.Scheduled.{Scheduled}
 use Rattle.mux_core.specs.Headline.{UnitsKept}
 use Rattle.mux_core.specs.Histories.{bytes_of, content_at}

@@ -8,7 +8,7 @@ use Rattle.slot_contents.specs.RunLaws.{Fits}
 use Rattle.slot_contents.proofs.Runs.{content_again}
 use Rattle.description_parts.specs.Ranges.{IsInRange}
 use Rattle.unit_queue.specs.declared.refusal.FeedError.{FeedError}
-use Rattle.packet_output.specs.Formats.{formatted}
+use Rattle.mux_core.specs.Formats.{formatted}
 use Rattle.mux_core.specs.Scheduled.{Scheduled}
 use Rattle.mux_core.specs.Histories.{History, content_at, with_unit}
 use Rattle.mux_core.specs.MuxStates.{MuxState, Represents, Takes, feed_cause, refusal_of}

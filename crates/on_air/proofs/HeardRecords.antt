@@ -3,9 +3,9 @@ use Rattle.std.proofs.Common.{◌≡◌, ◌<◌, ℕ, suc, List, [], ◌∷◌,
 use Rattle.pes_packet.specs.AccessUnits.{AccessUnit}
 use Rattle.unit_records.specs.Records.{after_record, record_at}
 use Rattle.unit_records.specs.declared.reading.UnitFileError.{UnitFileError}
-use Rattle.carry.specs.RecordRuns.{after_records}
+use Rattle.mux_core.specs.RecordRuns.{after_records}
 use Rattle.on_air.specs.declared.refusals.AirRefusal.{AirRefusal}
-use Rattle.packet_output.specs.declared.output.OutputFault.{OutputFault}
+use Rattle.mux_core.specs.declared.output.OutputFault.{OutputFault}
 use Rattle.on_air.specs.declared.answers.Heard.{Heard}
 use Rattle.on_air.specs.declared.answers.Heard.TheVariants.{Taken, Refused, Ended}
 use Rattle.on_air.specs.declared.answers.Ending.{Ending}

@@ -14,7 +14,7 @@ use Rattle.pes_packet.specs.AccessUnits.{AccessUnit}
 use Rattle.pes_packet.specs.Units.{units_of}
 use Rattle.description_parts.specs.Described.{DescribedStream}
 use Rattle.description_parts.specs.Ranges.{IsInRange}
-use Rattle.plan_timing.specs.Promised.{declaration}
+use Rattle.slot_plan.specs.Promised.{declaration}
 use Rattle.unit_timing.specs.Plans.{KeepsDeclaration}
 use Rattle.unit_queue.specs.OwnedStreams.{timed}
 use Rattle.unit_queue.specs.Places.{left_before}
@@ -23,7 +23,7 @@ use Rattle.unit_queue.specs.Causes.{unit_cause, is_full}
 use Rattle.unit_queue.proofs.QueueStates.{first_law, kept_law}
 use Rattle.unit_records.specs.Records.{record_at}
 use Rattle.unit_records.specs.declared.reading.UnitFileError.{UnitFileError}
-use Rattle.carry.specs.RecordRuns.{after_records}
+use Rattle.mux_core.specs.RecordRuns.{after_records}
 use Rattle.mux_core.specs.Scheduled.{Scheduled}
 use Rattle.mux_core.specs.Histories.{owned_stream}
 use Rattle.mux_core.specs.MuxStates.{feed_cause}

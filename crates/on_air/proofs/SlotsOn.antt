@@ -1,7 +1,7 @@
 -- Slots are written up to a settled slot.
 use Rattle.std.proofs.Common.{◌≡◌, ℕ, ◌+◌, ◌<◌, Bool, List, ◌++◌, Option, Some, None, Ok, refl, sym, ap, ◌∙◌, subst}
-use Rattle.packet_output.specs.Buffer.{Buffered, IsOutput, Took}
-use Rattle.packet_output.specs.Formats.{formatted}
+use Rattle.mux_core.specs.Buffer.{Buffered, IsOutput, Took}
+use Rattle.mux_core.specs.Formats.{formatted}
 use Rattle.mux_core.specs.Scheduled.{Scheduled}
 use Rattle.mux_core.specs.Histories.{History, content_at}
 use Rattle.mux_core.specs.MuxStates.{MuxState, Represents, Gives}

@@ -3,11 +3,11 @@ use Rattle.std.specs.Prelude.{◌≡◌, ◌+◌, ℕ, Bool, false, nat_le, if�
 use Rattle.description_parts.specs.Ranges.{IsInRange}
 use Rattle.pes_packet.specs.AccessUnits.{AccessUnit}
 use Rattle.pes_packet.specs.Units.{units_of}
-use Rattle.packet_output.specs.Buffer.{waiting_of, Buffered, IsOutput}
+use Rattle.mux_core.specs.Buffer.{waiting_of, Buffered, IsOutput}
 use Rattle.unit_records.specs.Records.{head_size, size_at}
 use Rattle.plan_checker.specs.Served.{Served}
 use Rattle.switch_checker.specs.Followed.{Followed}
-use Rattle.plan_timing.specs.Promised.{Promised}
+use Rattle.slot_plan.specs.Promised.{Promised}
 use Rattle.mux_core.specs.Headline.{Headline}
 use Rattle.mux_core.specs.Histories.{History, bytes_of}
 use Rattle.mux_core.specs.MuxStates.{MuxState, Represents}

@@ -10,7 +10,7 @@ use Rattle.unit_queue.specs.Codes.{feed_code}
 use Rattle.unit_queue.specs.declared.refusal.FeedError.{FeedError}
 use Rattle.unit_records.specs.Records.{record_at}
 use Rattle.unit_records.specs.declared.reading.UnitFileError.{UnitFileError}
-use Rattle.carry.specs.RecordRuns.{after_records}
+use Rattle.mux_core.specs.RecordRuns.{after_records}
 use Rattle.mux_core.specs.Scheduled.{Scheduled}
 use Rattle.mux_core.specs.Histories.{History}
 use Rattle.mux_core.specs.MuxStates.{feed_cause}

@@ -2,7 +2,7 @@
 
 ghost use Rattle.std.specs.Prelude.{◌≡◌, ◌<◌, ◌≤◌, ◌-◌, ◌+◌, ◌^◌, ℕ, List, [], Option, Some, true, IfOk, IfErr, OnOk, OnErr};
 ghost use Rattle.counted_io.specs.Device.{Failed};
-ghost use Rattle.packet_output.specs.Buffer.{waiting_of};
+ghost use Rattle.mux_core.specs.Buffer.{waiting_of};
 ghost use Rattle.pes_packet.specs.AccessUnits.{AccessUnit};
 ghost use Rattle.on_air.specs.Airing.{Run, Air, air_cause, caught_up, ended, is_far_from, judged, on_to, settled_at, with_count};
 ghost use Rattle.on_air.specs.AirStates.{IsOnAir, IsOut};
@@ -18,8 +18,7 @@ use crate::waiting::holds_record;
 use clock27::Rate;
 use counted_io::Sink;
 use held_input::HeldInput;
-use mux_core::Mux;
-use packet_output::{OutputFault, PacketOutput};
+use mux_core::{Mux, OutputFault, PacketOutput};
 use pes_packet::Unit;
 use std::alloc::{Allocator, Global};
 use std::marker::Model;

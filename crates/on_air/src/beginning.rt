@@ -1,7 +1,7 @@
 //! How a run begins: the one place where it takes memory of its own.
 
 ghost use Rattle.std.specs.Prelude.{◌≡◌, ◌≤◌, ◌+◌, ℕ, List, [], Option, None, IfOk};
-ghost use Rattle.packet_output.specs.Buffer.{waiting_of};
+ghost use Rattle.mux_core.specs.Buffer.{waiting_of};
 ghost use Rattle.mux_core.specs.NewMux.{Judges};
 ghost use Rattle.mux_core.specs.Scheduled.{Scheduled};
 ghost use Rattle.mux_core.specs.Histories.{empty_history};
@@ -14,8 +14,7 @@ use crate::leads::{greatest_lead, room_by, room_of};
 use crate::leap::Leap;
 use crate::options::Terms;
 use clock27::Rate;
-use mux_core::{Mux, NewError};
-use packet_output::PacketOutput;
+use mux_core::{Mux, NewError, PacketOutput};
 use plan_checker::CheckedPlan;
 use slot_plan::Description;
 use std::alloc::Allocator;
@@ -37,7 +36,7 @@ impl<A: Allocator + Copy> OnAir<A> {
         let of = numbers_of(plan.description(), terms);
         plan.description().keeps_ranges();
         let _ = plan.plan();
-        plan_timing::laws::accepted_plan();
+        slot_plan::timing_laws::accepted_plan();
         match Mux::new(alloc, plan, of.room) {
             Ok(mux) => begun(alloc, mux, terms, of, hex),
             Err((cause, plan)) => {
@@ -64,7 +63,7 @@ impl<A: Allocator + Copy> OnAir<A> {
         switch.first().description().keeps_ranges();
         let _ = switch.first().plan();
         let _ = switch.second();
-        plan_timing::laws::accepted_switch();
+        slot_plan::timing_laws::accepted_switch();
         match Mux::with_switch(alloc, switch, periods, of.room) {
             Ok(mux) => begun(alloc, mux, terms, of, hex),
             Err((cause, switch)) => {

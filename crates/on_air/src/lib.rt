@@ -26,7 +26,6 @@ mod waiting;
 pub use airing::OnAir;
 pub use answers::{Ending, Heard};
 pub use leap::Leap;
-pub use mux_core::NewError;
+pub use mux_core::{NewError, OutputFault};
 pub use options::Terms;
-pub use packet_output::OutputFault;
 pub use refusals::{AirRefusal, FarRecord, RefusedUnit, refused_unit};

@@ -2,7 +2,7 @@
 
 ghost use Rattle.std.specs.Prelude.{◌≡◌, ◌≤◌, ◌^◌, ℕ, [], List, Option, OnOk, OnErr, IfErr};
 ghost use Rattle.counted_io.specs.Device.{Failed};
-ghost use Rattle.packet_output.specs.Buffer.{IsOutput, Took};
+ghost use Rattle.mux_core.specs.Buffer.{IsOutput, Took};
 ghost use Rattle.mux_core.specs.Histories.{History};
 ghost use Rattle.mux_core.specs.WholeJobs.{output_of};
 ghost use Rattle.on_air.specs.Airing.{Run, settled, last_of, on_to};
@@ -11,8 +11,7 @@ ghost use Rattle.on_air.specs.AirStates.{Carries, with_slots, WroteOn};
 use crate::options::Terms;
 use clock27::{Rate, release_slot};
 use counted_io::Sink;
-use mux_core::Mux;
-use packet_output::{OutputFault, PacketOutput};
+use mux_core::{Mux, OutputFault, PacketOutput};
 use std::alloc::Allocator;
 
 /// Returns the number of slots that a unit due at `due` settles, if units arrive up to `lead` before they are due: no

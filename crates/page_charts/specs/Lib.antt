@@ -4,3 +4,8 @@ pub mod Strips
 pub mod StripTables
 pub mod Stacks
 pub mod Branches
+pub mod Points
+pub mod Pictures
+pub mod PictureTexts
+pub mod TracePictures
+pub mod Links

@@ -29,7 +29,7 @@ use Rattle.slot_plan.specs.Planned.{Planned}
 use Rattle.slot_plan.specs.Items.{marks}
 use Rattle.slot_plan.specs.Claims.{declaration, multiplexing_claim}
 use Rattle.slot_plan.proofs.ConditionLists.{ServingConditions, serves}
-use Rattle.plan_timing.proofs.OnePlan.{length_marks, claim_of, stream_holds, leak_holds, pcr_gap_holds, table_gap_holds}
+use Rattle.slot_plan.proofs.OnePlan.{length_marks, claim_of, stream_holds, leak_holds, pcr_gap_holds, table_gap_holds}
 use Rattle.plan_maker.specs.declared.reason.Reason.{Reason}
 use Rattle.unit_timing.specs.Shares.{parts}
 use Rattle.plan_maker.specs.Loads.{stream_load, recurring_load, streams_load, pcrs_load, tables_load, load}

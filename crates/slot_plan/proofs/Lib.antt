@@ -12,3 +12,10 @@ pub mod TextLists
 pub mod TextPlans
 pub mod SlotPids
 mod Rows
+pub mod EmptySlots
+pub mod EmptyQueues
+pub mod EmptyPlans
+pub mod OnePlan
+pub mod OwnSlotsInTurn
+pub mod TwoPlans
+pub mod Waiting

@@ -18,3 +18,6 @@ pub mod Schedule
 pub mod TableRounds
 pub mod ServingLaws
 pub mod SlotPids
+pub mod FramesServed
+pub mod Waits
+pub mod Promised

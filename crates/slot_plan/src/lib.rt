@@ -9,6 +9,11 @@
 //! - [`serving_plans`]: facts about a plan that serves a description.
 //! - `words`: words and decimal numbers without leading zeros, read at the front of a text in lines; `specs/Words` has
 //!   the readers and what they read, `proofs/WordReaders` that each accepts exactly that.
+//!
+//! `specs/Promised` has what an accepted plan promises, and an accepted switch between two plans, over the definitions
+//! alone: in runs of any length each unit that keeps its stream's declaration arrives in time, no buffer of the transport
+//! stream system target decoder (ISO/IEC 13818-1, 2.4.2) overflows, and PCRs and sections recur within their limits. A crate
+//! above calls a function of [`timing_laws`] where it needs the fact.
 #![tactic(auto)]
 
 mod certificate;
@@ -20,6 +25,7 @@ mod reader;
 pub mod serving_plans;
 mod slot;
 mod text;
+pub mod timing_laws;
 mod words;
 
 pub use certificate::{Certificate, MultiplexingEntry, ProgramEntry, StreamEntry};

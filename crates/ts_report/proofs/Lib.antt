@@ -3,3 +3,4 @@ pub mod Packets
 pub mod ClockedPackets
 pub mod Tables
 pub mod NewFramings
+mod OpenSections

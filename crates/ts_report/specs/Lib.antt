@@ -4,3 +4,8 @@ pub mod Seen
 pub mod Views
 pub mod ClockedViews
 pub mod Crowding
+pub mod ReferenceEvents
+pub mod AbsentTables
+pub mod StoppedEvents
+pub mod StoppedClocks
+pub mod StoppedPids

@@ -33,15 +33,15 @@ use Rattle.es_events.specs.declared.view_options.ViewOptions.{ViewOptions}
 use Rattle.es_events.specs.Clocks.{ClockEntries, clocks_after, no_clocks}
 use Rattle.ts_report.specs.Moments.{moment_at, reference_moment}
 use Rattle.ts_watch.specs.ClockEvents.{clock_events, errors_in, report_events_if}
-use Rattle.clock_windows.specs.ClockWindows.{ClocksState}
-use Rattle.clock_windows.specs.ClockWindows as clocks_by_window
+use Rattle.pid_times.specs.ClockWindows.{ClocksState}
+use Rattle.pid_times.specs.ClockWindows as clocks_by_window
 use Rattle.ts_watch.specs.Choices.{ChoiceView}
-use Rattle.end_faults.specs.AbsentTables.{absent_events}
-use Rattle.end_faults.specs.ReferenceEvents.{reference_events}
+use Rattle.ts_report.specs.AbsentTables.{absent_events}
+use Rattle.ts_report.specs.ReferenceEvents.{reference_events}
 use Rattle.ts_watch.specs.RuleEvents.{RuleState, accuracy_count, accuracy_events, judge_after, no_rule, packet_events, with_judge}
 use Rattle.ts_watch.specs.RuleEvents as rules
-use Rattle.end_faults.specs.StoppedClocks.{stops}
-use Rattle.end_faults.specs.StoppedPids.{stopped_pids}
+use Rattle.ts_report.specs.StoppedClocks.{stops}
+use Rattle.ts_report.specs.StoppedPids.{stopped_pids}
 use Rattle.ts_watch.specs.SystemEvents.{excess_events}
 use Rattle.ts_watch.specs.TableEvents.{TablesState, has_table, no_tables, table_events}
 use Rattle.ts_watch.specs.TableEvents as tables

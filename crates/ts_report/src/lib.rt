@@ -14,11 +14,16 @@
 //! their own: the caller stops when a view is crowded, with 4,096 waiting units or more in a stream (`is_crowded`).
 #![tactic(auto)]
 
+pub mod absent_tables;
 mod arrival_options;
 mod clocked_view;
 mod counter_events;
 mod moments;
+pub mod reference_events;
 mod seen;
+pub mod stopped_clocks;
+pub mod stopped_pids;
+mod stopped_tables;
 mod stream_table;
 mod timings;
 mod view;

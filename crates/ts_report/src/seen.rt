@@ -11,19 +11,19 @@ ghost use Rattle.ts_watch.specs.RuleEvents.{accuracy_count, accuracy_events};
 ghost use Rattle.ts_report.specs.Seen as spec;
 ghost use Rattle.ts_report.specs.Seen.{timing_of};
 
+use crate::absent_tables::push_absent;
 use crate::arrival_options::{unclocked, with_arrival};
 use crate::counter_events::push_counter_if;
 use crate::moments::{moment_at, reference_moment};
+use crate::reference_events::push_references;
+use crate::stopped_clocks::push_stops;
+use crate::stopped_pids::push_stopped_pids;
 use crate::timings::{table_timing, timing_for, timing_of};
 use arrival::Arrival;
-use clock_windows::windows::ClockWindows;
-use end_faults::absent_tables::push_absent;
-use end_faults::reference_events::push_references;
-use end_faults::stopped_clocks::push_stops;
-use end_faults::stopped_pids::push_stopped_pids;
 use es_events::clocks::Clocks;
 use es_events::view_options::ViewOptions;
 use events::{Event, RefusalCause, RefusedPacket, ReportEnd, UnclockedPackets};
+use pid_times::windows::ClockWindows;
 use pid_windows::PidWindow;
 use std::alloc::{AllocError, Global};
 use std::marker::Model;
@@ -255,7 +255,7 @@ impl Seen {
     }
 
     // Returns the same, if the packet has a clock reference.
-    #[tactic(auto, unfolding(tr101290::specs::PidWatches::taken_if, tr101290::specs::PidWatches::report_if, ts_watch::specs::ClockEvents::report_events_if, ts_watch::specs::ClockEvents::errors_in, ts_watch::specs::RuleEvents::judge_after, ts_watch::specs::RuleEvents::accuracy_events, ts_watch::specs::RuleEvents::accuracy_count, clock_windows::specs::ClockWindows::taken))]
+    #[tactic(auto, unfolding(tr101290::specs::PidWatches::taken_if, tr101290::specs::PidWatches::report_if, ts_watch::specs::ClockEvents::report_events_if, ts_watch::specs::ClockEvents::errors_in, ts_watch::specs::RuleEvents::judge_after, ts_watch::specs::RuleEvents::accuracy_events, ts_watch::specs::RuleEvents::accuracy_count, pid_times::specs::ClockWindows::taken))]
     fn take_reference_if(
         &mut self,
         packet: &Packet<'_>,

@@ -8,7 +8,7 @@ use crate::pid_labels::label_of;
 use arrival::Arrival;
 use es_events::clocks::first_byte;
 use events::{ClockFault, Event, FaultKind, PidName, RuleEvent, ScrambledPacket};
-use pid_gaps::{PidGaps, push_gap_if};
+use pid_times::{PidGaps, push_gap_if};
 use std::alloc::{AllocError, Global};
 use std::marker::Model;
 use tr101290::{PcrReport, PcrTiming, PidError, PtsError, PtsWatch, RateJudge, TableTiming};

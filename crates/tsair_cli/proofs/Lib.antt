@@ -3,3 +3,7 @@ pub mod Fronts
 pub mod HeardRecords
 pub mod AirRuns
 pub mod AirTerms
+pub mod HalfRecords
+pub mod Writers
+pub mod Steps
+pub mod Unframing

@@ -2,7 +2,7 @@
 use Rattle.std.specs.Prelude.{◌≡◌, ◌⊎◌, ◌≤◌, ◌<◌, ℕ, Bool, true, nat_lt, List, [], ◌∷◌, length, map, Option, Some, None, Result, Ok, Err, codes}
 use Rattle.devices.specs.Devices.{Device, Port, HasFailed, IsClean, between}
 use Rattle.devices.specs.Lines.{Reports, line_text}
-use Rattle.packet_output.specs.declared.output.OutputFault.{OutputFault}
+use Rattle.mux_core.specs.declared.output.OutputFault.{OutputFault}
 use Rattle.unit_records.specs.declared.reading.UnitFileError.TheVariants.{Cut, Size, Device as AtReader, Memory}
 use Rattle.on_air.specs.declared.refusals.AirRefusal.{AirRefusal}
 use Rattle.on_air.specs.declared.refusals.AirRefusal.TheVariants.{Feed, Ahead, Followed}

@@ -4,3 +4,8 @@ pub mod Fronts
 pub mod HeardRecords
 pub mod Endings
 pub mod AirRuns
+pub mod Frames
+pub mod OpenFrames
+pub mod FrameLaws
+pub mod Readings
+pub mod FramePassing

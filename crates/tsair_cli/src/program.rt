@@ -1,7 +1,7 @@
 //! The program over any reader and two writers.
 
 ghost use Rattle.std.specs.Prelude.{◌≡◌, List, ℕ, None, Option, Some, IfOk, [], codes, false, map, true};
-ghost use Rattle.record_frames.specs.Passing.{PassesFrames};
+ghost use Rattle.tsair_cli.specs.FramePassing.{PassesFrames};
 ghost use Rattle.devices.specs.Devices.{reads, writes};
 ghost use Rattle.devices.specs.Lines.{Reports};
 ghost use Rattle.mux_core.specs.NewMux.{Judges};
@@ -21,13 +21,13 @@ use crate::ending::report_end;
 use crate::front::{read_front, report_front};
 use crate::hearing::hear_all;
 use crate::options::{known_words, usage};
+use crate::pass_frames;
 use checked_jobs::{JobPlans, report_refusal};
 use counted_io::Sink;
 use devices::{Halt, report_halt, report_text};
 use explained_jobs::{UnitLimits, description_of, stream_limits};
 use held_input::HeldInput;
 use on_air::{NewError, OnAir};
-use record_frames::pass_frames;
 use std::alloc::{AllocError, Global};
 use word_faults::answer_words;
 

@@ -7,8 +7,8 @@ use Rattle.word_faults.specs.UsageReport.{AnswersWords}
 use Rattle.devices.specs.Devices.{Device, IsUntouched, Port, between}
 use Rattle.devices.specs.Files.{Files, IsAsKnown}
 use Rattle.devices.specs.declared.files.FileFault.{FileFault}
-use Rattle.named_files.specs.Reports.{ReportsText, uncreated_text}
-use Rattle.named_files.specs.Saving.{AreNone}
+use Rattle.tsjob_cli.specs.Reports.{ReportsText, uncreated_text}
+use Rattle.tsjob_cli.specs.Saving.{AreNone}
 use Rattle.tsjob_cli.specs.Command.{Answers, Commands, LacksWords, MakesFile, Outputs, PerformsWords, Saves, ToFile, WritesTo, explains_files, known_words}
 use Rattle.tsjob_cli.specs.Command.{output_file, words_but_output}
 use Rattle.tsjob_cli.specs.Explaining.{ExplainsFiles}

@@ -10,7 +10,7 @@ use Rattle.devices.specs.WholeInput.{ReadsInput}
 use Rattle.devices.specs.declared.halt.Halt.TheVariants as halt
 use Rattle.devices.proofs.Performances.{no_room, performed, unwritten}
 use Rattle.explained_jobs.specs.JobWords.{IsJobExplained}
-use Rattle.named_files.specs.ReadFiles.{HaveBytes, StopsAtOne}
+use Rattle.tsjob_cli.specs.ReadFiles.{HaveBytes, StopsAtOne}
 use Rattle.tsjob_cli.specs.Explaining.{ExplainLeads, ExplainsFiles, status_of}
 use Rattle.job_run.specs.Outcomes.{IsWritten}
 

@@ -3,3 +3,4 @@ pub mod Explaining
 mod FileWords
 pub mod MadeJobs
 mod Commands
+mod NamedFiles

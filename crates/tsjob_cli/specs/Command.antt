@@ -6,9 +6,9 @@ use Rattle.devices.specs.Devices.{Device, IsUntouched, Port, between}
 use Rattle.devices.specs.Files.{Files, IsAsKnown}
 use Rattle.devices.specs.Lines.{Reports}
 use Rattle.devices.specs.Runs.{LacksMemory}
-use Rattle.named_files.specs.Reports.{terminal_line}
+use Rattle.tsjob_cli.specs.Reports.{terminal_line}
 use Rattle.devices.specs.declared.files.FileFault.{FileFault}
-use Rattle.named_files.specs.Saving.{AreNone, HasNoFile, SavesFile}
+use Rattle.tsjob_cli.specs.Saving.{AreNone, HasNoFile, SavesFile}
 use Rattle.word_faults.specs.CommandLine.{CommandLine, Text}
 use Rattle.word_faults.specs.Commands as commands
 use Rattle.word_faults.specs.SortedWords.{are_taken, value_given, words_without}

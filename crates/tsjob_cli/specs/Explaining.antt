@@ -8,7 +8,7 @@ use Rattle.devices.specs.Lines.{Reports}
 use Rattle.devices.specs.Outcomes.{Outcome, halt_line, printed}
 use Rattle.devices.specs.declared.halt.Halt.TheVariants.{Memory}
 use Rattle.job_run.specs.Outcomes.{IsWritten}
-use Rattle.named_files.specs.ReadFiles.{HaveBytes, StopsAtOne}
+use Rattle.tsjob_cli.specs.ReadFiles.{HaveBytes, StopsAtOne}
 use Rattle.explained_jobs.specs.JobWords.{IsJobExplained}
 
 -- the word alone

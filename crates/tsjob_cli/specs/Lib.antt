@@ -8,3 +8,6 @@ pub mod StreamedUnits
 pub mod Explaining
 pub mod MadeJobs
 pub mod Command
+pub mod Reports
+pub mod ReadFiles
+pub mod Saving

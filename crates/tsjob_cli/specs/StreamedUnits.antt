@@ -6,7 +6,7 @@ pub use Rattle.es_feed.specs.EachStream.{fed_stream}
 use Rattle.fed_streams.specs.Feeding.{FeedView, FedStreamView, feed_first}
 use Rattle.fed_streams.specs.Maps.{MapView}
 use Rattle.fed_streams.specs.declared.fed_map.NamedStream.{NamedStream}
-use Rattle.es_records.specs.Passing.{RunsStream}
+use Rattle.es_feed.specs.Passing.{RunsStream}
 use Rattle.checked_jobs.specs.Jobs.{BadDescription, described}
 use Rattle.description_keys.specs.declared.fault.DescFault.{DescFault}
 use Rattle.devices.specs.Devices.{Device, IsUntouched}
@@ -15,10 +15,10 @@ use Rattle.devices.specs.Lines.{Reports, line_text}
 use Rattle.devices.specs.Outcomes.{Outcome, halted, reported}
 use Rattle.devices.specs.Runs.{LacksMemory}
 use Rattle.devices.specs.declared.halt.Halt.TheVariants.{Read, Write, Memory}
-use Rattle.given_marks.specs.Marking.{MarkingView}
-use Rattle.given_marks.specs.declared.marking.TypedPid.{TypedPid}
+use Rattle.es_units.specs.Marking.{MarkingView}
+use Rattle.es_units.specs.declared.marking.TypedPid.{TypedPid}
 use Rattle.job_programs.specs.JobOptions.{JobOptionsView}
-use Rattle.named_files.specs.ReadFiles.{HasBytes}
+use Rattle.tsjob_cli.specs.ReadFiles.{HasBytes}
 use Rattle.explained_jobs.specs.FaultLines.{IsFaultLine}
 use Rattle.tsjob_cli.specs.declared.streaming.NoDescription.{NoDescription}
 use Rattle.tsjob_cli.specs.declared.streaming.NoDescription.TheVariants.{Unopened, Stopped, Refused}

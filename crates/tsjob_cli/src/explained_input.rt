@@ -6,11 +6,11 @@ ghost use Rattle.devices.specs.Files.{files_of};
 ghost use Rattle.devices.specs.Runs.{Performs};
 ghost use Rattle.tsjob_cli.specs.Explaining as spec;
 
+use crate::read_files;
 use counted_io::{Sink, Source};
 use devices::{Halt, NamedFiles, read_whole, report_halt};
 use explained_jobs::explain_job;
 use job_run::{JobOutcome, only_text, write_outcome};
-use named_files::read_files;
 use std::alloc::{AllocError, Global};
 
 /// Returns whether the words are `explain` alone.

@@ -6,6 +6,9 @@
 //! faults of a description. `program` is `run`, for options with `--` before names of files; `made_job` has what it
 //! writes in memory. `command` is `run_command`, for words as people type them (`specs/Command`). `rows` has the rows
 //! of options that `tsremux` shares.
+//!
+//! `reading` returns the bytes of files that a command line names, one after another (`specs/ReadFiles`), `saving` writes a
+//! new file whole or not at all (`specs/Saving`), and `reports` names a file and its fault (`specs/Reports`).
 #![tactic(auto)]
 
 mod arguments;
@@ -16,10 +19,16 @@ mod file_words;
 mod made_job;
 mod options;
 mod program;
+mod reading;
+mod reports;
 pub mod rows;
+mod saving;
 mod streaming;
 
 pub use command::{OUTPUT_WORD, SHORT_NAMES, output_file, run_command, words_but_output};
 pub use file_words::option_words;
 pub use made_job::{MadeJob, make_job};
 pub use program::{report_usage, run};
+pub use reading::read_files;
+pub use reports::{TERMINAL, report_of};
+pub use saving::{report_uncreated, save_file};

@@ -12,11 +12,10 @@ use description::Description;
 use description_keys::DescError;
 use description_parts::{ProgramDescription, StreamDescription};
 use devices::{Halt, NamedFiles, read_whole, report_halt, report_line, report_text};
-use es_feed::UnitFeed;
-use es_records::pass_stream;
+use es_feed::{UnitFeed, pass_stream};
+use es_units::{Marking, TypedPid};
 use explained_jobs::fault_line;
 use fed_streams::{FedMap, FedStream, NamedStream};
-use given_marks::{Marking, TypedPid};
 use job_programs::JobOptions;
 use std::alloc::{AllocError, Global};
 

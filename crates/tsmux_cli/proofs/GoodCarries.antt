@@ -1,8 +1,8 @@
 -- A run of `carry` with status 0.
 use Rattle.std.proofs.Common.{◌≡◌, ℕ, Result, Ok, Err, sym, ◌∙◌}
-use Rattle.carry.specs.RecordRuns.{Carries as CarriesBytes}
-use Rattle.carry.specs.declared.carrying.CarryError.{CarryError}
-use Rattle.carry.specs.declared.carrying.CarryError.TheVariants.{Unit as AtUnit, File as AtRecord, Device as AtWriter, Memory as NoMemory}
+use Rattle.mux_core.specs.RecordRuns.{Carries as CarriesBytes}
+use Rattle.mux_core.specs.declared.carrying.CarryError.{CarryError}
+use Rattle.mux_core.specs.declared.carrying.CarryError.TheVariants.{Unit as AtUnit, File as AtRecord, Device as AtWriter, Memory as NoMemory}
 use Rattle.unit_records.specs.declared.reading.UnitFileError.{UnitFileError}
 use Rattle.unit_records.specs.declared.reading.UnitFileError.TheVariants as unread
 use Rattle.checked_jobs.specs.FaultLines.{record_outcome}

@@ -1,8 +1,8 @@
 -- `carry`: its output, its report and its status.
 use Rattle.std.specs.Prelude.{◌≡◌, ℕ, List, [], Some, Result, Ok, Err}
-use Rattle.carry.specs.RecordRuns.{Leaves, NamesDevice, Carries as CarriesBytes}
-use Rattle.carry.specs.declared.carrying.CarryError.{CarryError}
-use Rattle.carry.specs.declared.carrying.CarryError.TheVariants.{Unit as AtUnit, File as AtRecord, Device as AtWriter, Memory as NoMemory}
+use Rattle.mux_core.specs.RecordRuns.{Leaves, NamesDevice, Carries as CarriesBytes}
+use Rattle.mux_core.specs.declared.carrying.CarryError.{CarryError}
+use Rattle.mux_core.specs.declared.carrying.CarryError.TheVariants.{Unit as AtUnit, File as AtRecord, Device as AtWriter, Memory as NoMemory}
 use Rattle.tsmux_cli.specs.declared.request.CarryOptions.{CarryOptions}
 use Rattle.devices.specs.Devices.{Device}
 use Rattle.checked_jobs.specs.FaultLines.{record_outcome, unit_outcome}

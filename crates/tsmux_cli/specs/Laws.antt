@@ -5,7 +5,7 @@ use Rattle.devices.specs.Runs.{Performs}
 use Rattle.devices.specs.WholeInput.{ReadsInput}
 use Rattle.checked_jobs.specs.MuxJobs.{MuxJobView, mux_job_of}
 use Rattle.checked_jobs.specs.Multiplexing.{IsKept, Muxes, cause_of, packets_of}
-use Rattle.carry.specs.RecordRuns.{Finished, IsOwn, carried, run_of}
+use Rattle.mux_core.specs.RecordRuns.{Finished, IsOwn, carried, run_of}
 use Rattle.tsmux_cli.specs.Carrying.{Carries}
 use Rattle.tsmux_cli.specs.declared.request.CarryOptions.{CarryOptions}
 use Rattle.checked_jobs.specs.declared.multiplexing.MuxOptions.{MuxOptions}

@@ -6,10 +6,10 @@ ghost use Rattle.devices.specs.Devices.{reads, writes};
 ghost use Rattle.devices.specs.Lines.{Reports};
 
 use crate::request::CarryOptions;
-use carry::{CarryError, carry};
 use checked_jobs::{report_record, report_unit};
 use counted_io::{Sink, Source};
 use devices::{Halt, report_halt};
+use mux_core::{CarryError, carry};
 use std::alloc::Global;
 
 /// Reports an answer, and returns the status.

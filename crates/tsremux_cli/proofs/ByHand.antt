@@ -3,7 +3,7 @@ use Rattle.std.proofs.Common.{◌≡◌, ◌<◌, ℕ, List, [], ◌∷◌, Opti
 use Rattle.devices.specs.Devices.{Device, IsUntouched, Port, between}
 use Rattle.devices.specs.Files.{Files}
 use Rattle.devices.specs.Runs.{Performs}
-use Rattle.named_files.specs.ReadFiles.{ReadsAll}
+use Rattle.tsjob_cli.specs.ReadFiles.{ReadsAll}
 use Rattle.tsmux_cli.specs.Planning.{MakesPlan}
 use Rattle.word_faults.specs.CommandLine.{Text}
 use Rattle.tsremux_cli.specs.ByHand.{Hand, Joins, MuxesByHand, PlansFor, Reads, ReadsJob, ReadsPlan, ReadsRecords, SaysWhy, hand}

@@ -4,9 +4,9 @@ use Rattle.word_faults.specs.CommandLine.{Text}
 use Rattle.devices.specs.Devices.{Device, Port, between, IsUntouched}
 use Rattle.devices.specs.Files.{Files, IsAsKnown}
 use Rattle.devices.specs.Lines.{Reports}
-use Rattle.named_files.specs.Reports.{ReportsText, terminal_line, uncreated_text}
+use Rattle.tsjob_cli.specs.Reports.{ReportsText, terminal_line, uncreated_text}
 use Rattle.devices.specs.declared.files.FileFault.{FileFault}
-use Rattle.named_files.specs.Saving.{AreNone}
+use Rattle.tsjob_cli.specs.Saving.{AreNone}
 use Rattle.tsremux_cli.specs.Outputs.{Concludes, Finishes, ToFile, ToOutput, WritesNew, WritesOutput, output_name}
 use Rattle.tsjob_cli.specs.Command.{Outputs, output_file}
 use Rattle.tsremux_cli.specs.Program.{Answers, WritesTo}

@@ -10,7 +10,7 @@ use Rattle.devices.specs.WholeInput.{ReadsInput}
 use Rattle.devices.specs.declared.halt.Halt.{Halt}
 use Rattle.devices.specs.declared.halt.Halt.TheVariants.{Memory}
 use Rattle.explained_jobs.specs.JobWords.{IsJobExplained}
-use Rattle.named_files.specs.ReadFiles.{ReadsAll}
+use Rattle.tsjob_cli.specs.ReadFiles.{ReadsAll}
 use Rattle.tsmux_cli.specs.Planning.{MakesPlan}
 use Rattle.word_faults.specs.CommandLine.{Text}
 use Rattle.tsremux_cli.specs.Muxing.{MuxesBytes}

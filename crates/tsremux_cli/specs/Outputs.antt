@@ -6,8 +6,8 @@ use Rattle.devices.specs.Files.{Files, IsAsKnown}
 use Rattle.devices.specs.Lines.{Reports}
 use Rattle.tsremux_cli.specs.Lines.{ReportsHeld}
 use Rattle.devices.specs.declared.files.FileFault.{FileFault}
-use Rattle.named_files.specs.Reports.{ReportsText, terminal_line, unnamed_text}
-use Rattle.named_files.specs.Saving.{AreNone, HasNoFile}
+use Rattle.tsjob_cli.specs.Reports.{ReportsText, terminal_line, unnamed_text}
+use Rattle.tsjob_cli.specs.Saving.{AreNone, HasNoFile}
 use Rattle.tsremux_cli.specs.Packets.{WritesFor}
 use Rattle.tsremux_cli.specs.Words.{is_quiet}
 use Rattle.tsremux_cli.specs.declared.figures.Remuxed.{Remuxed}

@@ -3,7 +3,7 @@ ghost use Rattle.std.specs.Prelude.{◌≡◌, ◌++◌, [], ◌∷◌, IfOk, On
 ghost use Rattle.std.specs.Result.{result_map_both};
 ghost use Rattle.devices.specs.Devices.{reads, writes};
 ghost use Rattle.devices.specs.Files.{files_of};
-ghost use Rattle.named_files.specs.ReadFiles.{ReadsAll};
+ghost use Rattle.tsjob_cli.specs.ReadFiles.{ReadsAll};
 ghost use Rattle.tsremux_cli.specs.ByHand as spec;
 
 use crate::figures::Remuxed;
@@ -11,8 +11,8 @@ use crate::muxing::mux_bytes;
 use counted_io::{Counted, Sink, Source};
 use devices::{Halt, NamedFiles, read_whole, report_halt, report_text};
 use explained_jobs::explain_job;
-use named_files::read_files;
 use std::alloc::{AllocError, Global};
+use tsjob_cli::read_files;
 use tsmux_cli::make_plan;
 
 // Returns the bytes of the named file. If it can't be read, reports why and returns the status.

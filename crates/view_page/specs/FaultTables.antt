@@ -1,7 +1,7 @@
 -- Rows of faults: a row has a link to the picture of the fault's buffer, if that picture is on the page.
 use Rattle.std.specs.Prelude.{ℕ, List, [], ◌++◌, codes, Option, Some, None}
-use Rattle.fault_pictures.specs.Links.{link_if}
-use Rattle.fault_pictures.specs.PictureTexts.{PictureTexts}
+use Rattle.page_charts.specs.Links.{link_if}
+use Rattle.page_charts.specs.PictureTexts.{PictureTexts}
 use Rattle.view_rows.specs.declared.fault_rows.FaultBuffer.{FaultBuffer}
 use Rattle.view_rows.specs.RowTexts.{FaultText}
 

@@ -11,8 +11,8 @@ use Rattle.view_page.specs.declared.page_heads.TheConstants.{APART, BACK, BUFFER
 use Rattle.view_page.specs.declared.page_heads.TheConstants.{DRIFTS, INACCURACIES, INTERVALS, SERVICES, SLACKS, STREAMS, STRIPS, SYSTEMS, TABLES, TRANSPORTS, TREE}
 use Rattle.page_curves.specs.PidLabels.{LabelsState}
 use Rattle.page_charts.specs.Stacks.{stack}
-use Rattle.fault_pictures.specs.Links.{section_link}
-use Rattle.fault_pictures.specs.TracePictures.{pictures_text}
+use Rattle.page_charts.specs.Links.{section_link}
+use Rattle.page_charts.specs.TracePictures.{pictures_text}
 use Rattle.page_charts.specs.StripTables.{table as strip_table}
 use Rattle.view_rows.specs.Cells.{carried_cell}
 use Rattle.view_rows.specs.MarkCells.{marks_text}

@@ -7,8 +7,8 @@ use Rattle.events.specs.declared.event.ReportEnd.{ReportEnd}
 use Rattle.view_page.specs.declared.page.Page.{Page}
 use Rattle.page_curves.specs.PidLabels.{LabelsState, no_labels}
 use Rattle.view_rows.specs.PageLabels as labels
-use Rattle.fault_pictures.specs.PictureTexts.{PictureTexts}
-use Rattle.fault_pictures.specs.TracePictures as pictures
+use Rattle.page_charts.specs.PictureTexts.{PictureTexts}
+use Rattle.page_charts.specs.TracePictures as pictures
 use Rattle.view_rows.specs.RowTexts.{RowTexts}
 use Rattle.view_rows.specs.Rows as rows
 use Rattle.view_page.specs.Services as services

@@ -2,7 +2,7 @@
 ghost use Rattle.std.specs.Prelude.{◌≡◌, ◌++◌, OnOk, flat_map, string_bytes};
 ghost use Rattle.view_page.specs.FaultTables as spec;
 
-use fault_pictures::TracePictures;
+use page_charts::TracePictures;
 use std::alloc::AllocError;
 use view_rows::{FaultBuffer, FaultRow};
 

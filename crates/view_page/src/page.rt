@@ -7,7 +7,7 @@ use crate::page_text::write_page;
 use crate::services::Services;
 use crate::values::Values;
 use events::{Event, ReportEnd, TimedEvent};
-use fault_pictures::TracePictures;
+use page_charts::TracePictures;
 use page_curves::PidLabels;
 use std::alloc::{AllocError, Global};
 use view_rows::{Rows, take_label};

@@ -1,7 +1,7 @@
 use Rattle.std.proofs.Common.{◌∙◌, ap, map, sym, arith}
 use Rattle.pid_findings.specs.Shown.{finding_view}
 use Rattle.joined_parts.specs.Recodings.{carried}
-use Rattle.lone_stamps.proofs.ChangedFindings.{changed_more, changed_whole}
+use Rattle.stamp_repair.proofs.ChangedFindings.{changed_more, changed_whole}
 use Rattle.joined_parts.proofs.carried_pids.carry_findings.Goals as goal
 
 pub loop-finding-preserved : goal.loop-finding-preserved

@@ -1,4 +1,4 @@
-use Rattle.packet_output.proofs.Written.{holds_none}
+use Rattle.mux_core.proofs.Written.{holds_none}
 use Rattle.mux_core.proofs.multiplexing.write_all.Goals as goal
 
 pub returns-in-Ok-finish-clause-answers : goal.returns-in-Ok-finish-clause-answers

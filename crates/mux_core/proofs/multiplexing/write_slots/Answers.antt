@@ -1,5 +1,5 @@
 use Rattle.std.proofs.Common.{refl, ◌∙◌, arith}
-use Rattle.packet_output.proofs.Written.{next_is, next_put}
+use Rattle.mux_core.proofs.Written.{next_is, next_put}
 use Rattle.mux_core.proofs.JobWriting.{at_slot, written_none, written_more, written_failed, not_done}
 use Rattle.mux_core.proofs.multiplexing.write_slots.Goals as goal
 

@@ -1,5 +1,5 @@
 use Rattle.std.proofs.Common.{◌≡◌, ℕ, List, [], Option}
-use Rattle.packet_output.specs.Buffer.{IsOutput}
+use Rattle.mux_core.specs.Buffer.{IsOutput}
 use Rattle.mux_core.specs.Histories.{History}
 use Rattle.mux_core.specs.MuxStates.{Represents}
 use Rattle.mux_core.proofs.JobWriting.{SlotsWritten}

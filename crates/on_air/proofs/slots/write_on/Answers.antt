@@ -1,5 +1,5 @@
 use Rattle.std.proofs.Common.{◌≡◌, ◌<◌, ◌≤◌, ◌+◌, ◌^◌, ℕ, arith, subst, ◌∙◌}
-use Rattle.packet_output.proofs.Written.{next_is, next_put}
+use Rattle.mux_core.proofs.Written.{next_is, next_put}
 use Rattle.mux_core.proofs.JobWriting.{at_slot, not_done}
 use Rattle.on_air.specs.Airing.{on_to}
 use Rattle.on_air.proofs.SlotsOn.{OnWay, way_of_run, way_goes_on, way_ends, way_failed}

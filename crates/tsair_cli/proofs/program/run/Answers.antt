@@ -1,6 +1,6 @@
 use Rattle.std.proofs.Common.{refl}
 use Rattle.devices.specs.Devices.{Port}
-use Rattle.record_frames.proofs.Unframing.{no_piece}
+use Rattle.tsair_cli.proofs.Unframing.{no_piece}
 use Rattle.word_faults.proofs.UsageReports.{of_memory, of_words}
 use Rattle.tsair_cli.proofs.program.run.Goals as goal
 

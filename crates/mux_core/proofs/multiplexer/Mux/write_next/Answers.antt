@@ -1,6 +1,6 @@
 use Rattle.std.proofs.Common.{◌<◌, ◌^◌, suc, subst, rules, arith}
 use Rattle.description_parts.specs.Ranges.{IsInRange}
-use Rattle.plan_timing.specs.Promised.{Promised}
+use Rattle.slot_plan.specs.Promised.{Promised}
 use Rattle.mux_core.specs.MuxStates.{MuxState}
 use Rattle.mux_core.proofs.MuxStates.{gives}
 use Rattle.mux_core.proofs.Accepted.{any_state}

@@ -1,6 +1,6 @@
 use Rattle.std.proofs.Common.{sym, ap, ◌∙◌, subst}
 use Rattle.std.proofs.lemmas.Result.{on_ok_weaker, IfErr-weaker}
-use Rattle.packet_output.specs.Buffer.{Buffered, IsOutput}
+use Rattle.mux_core.specs.Buffer.{Buffered, IsOutput}
 use Rattle.on_air.specs.Airing.{air_output}
 use Rattle.on_air.specs.AirStates.{AirState}
 use Rattle.on_air.proofs.Aired.{flushed, not_flushed}

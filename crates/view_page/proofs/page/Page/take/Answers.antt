@@ -1,5 +1,5 @@
 use Rattle.std.proofs.Common.{◌∙◌, ap}
-use Rattle.fault_pictures.specs.TracePictures as pictures
+use Rattle.page_charts.specs.TracePictures as pictures
 use Rattle.page_curves.specs.PidLabels.{LabelsState}
 use Rattle.view_rows.specs.PageLabels as labels
 use Rattle.view_page.specs.Pages.{IsPage, PageState}

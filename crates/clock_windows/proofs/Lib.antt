@@ -1,2 +1,0 @@
-mod ClockCounts
-mod ClockDrifts

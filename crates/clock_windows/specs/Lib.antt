@@ -1,3 +1,0 @@
-pub mod ClockDrifts
-pub mod ClockWindows
-pub mod Laws

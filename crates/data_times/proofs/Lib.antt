@@ -1,3 +1,0 @@
-pub mod LoggedBytes
-pub mod PassedFindings
-pub mod OtherPids

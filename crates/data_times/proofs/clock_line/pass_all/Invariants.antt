@@ -1,9 +1,0 @@
-use Rattle.std.proofs.Common.{◌≡◌, length}
-use Rattle.data_times.specs.DataTimes.{passed_by}
-use Rattle.data_times.proofs.clock_line.pass_all.Given as goal
-
-abbrev pub invariant-loop-first : goal.invariant-loop-first
-invariant-loop-first l = passed_by l.packet l.fn.clocks l.references ≡ passed_by l.packet l.clocks l.later
-
-abbrev pub decreases-loop-first : goal.decreases-loop-first
-decreases-loop-first l = length l.later

@@ -1,3 +1,0 @@
-pub mod References
-pub mod DataTimes
-pub mod Laws

@@ -1,7 +1,0 @@
-use Rattle.std.proofs.Common.{◌≡◌, ◌++◌, drop}
-use Rattle.end_faults.specs.ReferenceEvents.{unreferenced_events}
-use Rattle.end_faults.proofs.reference_events.push_unreferenced.Given as goal
-
-abbrev pub invariant-loop-pid : goal.invariant-loop-pid
-invariant-loop-pid l =
-    l.events.items ++ unreferenced_events l.tables.named (drop l.pid-index l.pids) ≡ l.fn.events.items ++ unreferenced_events l.tables.named l.pids

@@ -1,5 +1,0 @@
-pub mod ReferenceEvents
-pub mod AbsentTables
-pub mod StoppedEvents
-pub mod StoppedClocks
-pub mod StoppedPids

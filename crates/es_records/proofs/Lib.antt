@@ -1,4 +1,0 @@
-pub mod PendingOutput
-pub mod ReportedLines
-pub mod PassedStreams
-pub mod EndedStreams

@@ -1,2 +1,0 @@
-mod TypedPids
-pub mod MarkedFindings

@@ -1,2 +1,0 @@
-pub mod WholeJobs
-pub mod AiredJobs

@@ -1,5 +1,0 @@
-pub mod TimedPackets
-pub mod Times
-pub mod Leads
-pub mod Between
-pub mod StampedPackets

@@ -1,5 +1,0 @@
-use Rattle.laws_pid.proofs.TablesAndStreams.{tables_carry}
-use Rattle.laws_pid.proofs.carried.tables_carry.Goals as goal
-
-pub returns : goal.returns
-returns c = tables_carry

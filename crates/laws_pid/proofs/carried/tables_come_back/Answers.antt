@@ -1,5 +1,0 @@
-use Rattle.laws_pid.proofs.TablesAndStreams.{tables_come_back}
-use Rattle.laws_pid.proofs.carried.tables_come_back.Goals as goal
-
-pub returns : goal.returns
-returns c = tables_come_back

@@ -1,5 +1,0 @@
-use Rattle.laws_pid.proofs.laws.all_is_of_pids.Goals as goal
-use Rattle.laws_pid.proofs.OfPids.{all_is_of_pids}
-
-pub returns : goal.returns
-returns c = all_is_of_pids

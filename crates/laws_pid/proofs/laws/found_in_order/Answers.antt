@@ -1,5 +1,0 @@
-use Rattle.laws_pid.proofs.OfPids.{found_in_order}
-use Rattle.laws_pid.proofs.laws.found_in_order.Goals as goal
-
-pub returns : goal.returns
-returns c = found_in_order

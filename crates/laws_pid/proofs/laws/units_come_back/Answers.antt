@@ -1,5 +1,0 @@
-use Rattle.laws_pid.proofs.laws.units_come_back.Goals as goal
-use Rattle.laws_pid.proofs.FoundInRun.{units_come_back}
-
-pub returns : goal.returns
-returns c = units_come_back

@@ -1,5 +1,0 @@
-use Rattle.laws_pid.proofs.WrittenSections.{written_are_given}
-use Rattle.laws_pid.proofs.laws.written_sections_are_recognized.Goals as goal
-
-pub returns : goal.returns
-returns c = written_are_given

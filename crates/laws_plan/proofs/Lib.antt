@@ -1,2 +1,0 @@
-pub mod LeastNumbers
-pub mod ReasonNumbers

@@ -1,9 +1,0 @@
-pub mod SearchSteps
-pub mod ChangedFindings
-pub mod PidSearch
-pub mod DamagedFindings
-pub mod PidsApart
-pub mod FoundStamps
-pub mod OrderedStamps
-pub mod AloneStamps
-pub mod DamageLimits

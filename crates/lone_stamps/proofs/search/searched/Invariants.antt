@@ -1,8 +1,0 @@
-use Rattle.std.proofs.Common.{◌≡◌, drop, map}
-use Rattle.pid_findings.specs.Shown.{finding_view}
-use Rattle.lone_stamps.specs.LoneStamps.{no_stamps, search_after}
-use Rattle.lone_stamps.proofs.search.searched.Given as goal
-
-abbrev pub invariant-loop-finding : goal.invariant-loop-finding
-invariant-loop-finding l =
-    search_after no_stamps (map finding_view l.findings) ≡ search_after l.search (map finding_view (drop l.finding-index l.findings))

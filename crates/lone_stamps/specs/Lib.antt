@@ -1,3 +1,0 @@
-pub mod PesStamps
-pub mod LoneStamps
-pub mod Laws

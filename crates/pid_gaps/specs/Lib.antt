@@ -1,3 +1,0 @@
-pub mod Watched
-pub mod Gaps
-pub mod GapEvents

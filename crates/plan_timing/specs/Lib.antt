@@ -1,3 +1,0 @@
-pub mod FramesServed
-pub mod Waits
-pub mod Promised

@@ -1,4 +1,0 @@
-pub mod HalfRecords
-pub mod Writers
-pub mod Steps
-pub mod Unframing

@@ -1,6 +1,0 @@
-use Rattle.record_frames.proofs.Unframing.{ReportsDrops}
-use Rattle.record_frames.proofs.feed.report_drops.Given as goal
-
-abbrev pub invariant-loop-count : goal.invariant-loop-count
-invariant-loop-count g l = ReportsDrops (record { bytes = g.E.Write.contents l.fn.faults; failed = g.E.Sink.fault_count l.fn.faults })
-    (record { bytes = g.E.Write.contents l.faults; failed = g.E.Sink.fault_count l.faults }) l.drops l.count-index

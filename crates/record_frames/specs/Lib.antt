@@ -1,5 +1,0 @@
-pub mod Frames
-pub mod OpenFrames
-pub mod Laws
-pub mod Readings
-pub mod Passing

@@ -1,8 +1,0 @@
-//! The law of the format. It does nothing: its contract is the law.
-
-ghost use Rattle.record_frames.specs.Laws.{WritersAreRead};
-
-/// States that exactly the whole records are read from the output of writers, each stopped anywhere.
-pub fn writers_are_read()
-    ensures { WritersAreRead }
-{}

@@ -1,0 +1,12 @@
+pub mod SearchSteps
+pub mod ChangedFindings
+pub mod PidSearch
+pub mod DamagedFindings
+pub mod PidsApart
+pub mod FoundStamps
+pub mod OrderedStamps
+pub mod AloneStamps
+pub mod DamageLimits
+pub mod LoggedBytes
+pub mod PassedFindings
+pub mod OtherPids
