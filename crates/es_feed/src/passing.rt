@@ -9,12 +9,12 @@ ghost use Rattle.es_feed.specs.Passing as spec;
 ghost use Rattle.es_feed.specs.StreamLines as stated;
 ghost use Rattle.es_feed.specs.StreamLines.{first_lines};
 
+use crate::UnitFeed;
 use crate::fed_records::{report_faults, write_fed};
 use crate::stream_lines::StreamLines;
+use crate::watched_feed::WatchedFeed;
 use counted_io::{Sink, Source};
 use devices::{Halt, report_halt};
-use es_feed::UnitFeed;
-use es_feed::watched_feed::WatchedFeed;
 use fed_streams::FeedFault;
 use pes_packet::Unit;
 use std::alloc::Global;
@@ -81,7 +81,7 @@ fn feed_piece<R: Source>(
 }
 
 // Returns whether a report says that the description is of another stream.
-#[tactic(auto, unfolding(es_feed::specs::FedLines::is_refusal, es_feed::specs::FedLines::is_other))]
+#[tactic(auto, unfolding(crate::specs::FedLines::is_refusal, crate::specs::FedLines::is_other))]
 fn is_refusal(fed: &(u8, Result<Unit, FeedFault>)) -> bool
     ensures { result ≡ feed_lines.is_refusal fed.now }
 {

@@ -11,8 +11,8 @@ ghost use Rattle.counted_io.specs.Device.{Failed};
 
 use crate::pid_packets::push_unit;
 use crate::refusals::refusal;
+use crate::{OutputFault, PacketOutput};
 use counted_io::{Sink, Source};
-use mux_core::{OutputFault, PacketOutput};
 use pes_packet::Unit;
 use std::alloc::Allocator;
 use thiserror::Error;

@@ -12,8 +12,8 @@ ghost use Rattle.mux_core.specs.Buffer.{IsOutput, Took};
 ghost use Rattle.mux_core.specs.PidPackets.{payload_packets, unit_packets, unit_count};
 ghost use Rattle.mux_core.specs.Formats.{formatted_all};
 
+use crate::{OutputFault, PacketOutput};
 use counted_io::Sink;
-use mux_core::{OutputFault, PacketOutput};
 use pes_packet::{Unit, write_header};
 use std::alloc::Allocator;
 use ts_packet::MAX_PAYLOAD;

@@ -6,7 +6,7 @@ ghost use Rattle.slot_plan.specs.Promised.{PlanLaw, SwitchLaw};
 pub fn accepted_plan()
     ensures { PlanLaw }
 {
-    slot_plan::laws::own_slots();
+    crate::laws::own_slots();
 }
 
 /// States the same for two plans whose conditions hold by themselves and together, the first for any number of its
@@ -14,5 +14,5 @@ pub fn accepted_plan()
 pub fn accepted_switch()
     ensures { SwitchLaw }
 {
-    slot_plan::laws::own_slots();
+    crate::laws::own_slots();
 }
