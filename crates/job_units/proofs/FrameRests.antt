@@ -4,7 +4,7 @@ use Rattle.std.proofs.Math.Seq.{drop-cons}
 use Rattle.std.proofs.lemmas.List.{drop_all}
 use Rattle.pes_packet.specs.AccessUnits.{AccessUnit}
 use Rattle.sound_frames.specs.declared.frame_headers.FrameKind.{FrameKind}
-use Rattle.job_units.specs.FrameRests.{last_due, least_rest, rest_after}
+use Rattle.job_units.specs.FrameRests.{AreApart, RestLaw, last_due, least_rest, rest_after}
 
 pub rest_more : (kind : FrameKind) (time i due : ℕ) (us : List AccessUnit) (u : AccessUnit) → i < length us → u ≡ get_or us i u →
     rest_after kind time due (drop i us) ≡ min (u.dts - due) (rest_after kind time (last_due kind time u) (drop (i + 1) us))
@@ -29,3 +29,13 @@ pub rest_some : (kind : FrameKind) (time : ℕ) (us others : List AccessUnit) (u
     least_rest kind time us ≡ rest_after kind time (last_due kind time u) others
 unfolding least_rest
 rest_some kind time us others u is = rw is refl
+
+-- Units that are at least so long after the last frame before them
+apart : (kind : FrameKind) (time rest due : ℕ) (us : List AccessUnit) → 0 < rest → rest ≤ rest_after kind time due us → AreApart kind time rest due us
+unfolding AreApart rest_after
+apart kind time rest due [] some le = tt
+apart kind time rest due (u ∷ us) some le = (omega (arith, some, le), apart kind time rest (last_due kind time u) us some (omega (arith, le)))
+
+pub apart_by_least : RestLaw
+unfolding least_rest
+apart_by_least kind time u us some = apart kind time (rest_after kind time (last_due kind time u) us) (last_due kind time u) us some (omega arith)

@@ -28,6 +28,7 @@ pub mod declarations;
 mod frame_choices;
 mod frame_rests;
 mod greater_buffers;
+pub mod laws;
 mod share_sums;
 pub mod stream_measures;
 
