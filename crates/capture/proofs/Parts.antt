@@ -3,13 +3,14 @@ use Rattle.std.proofs.Common.{◌≡◌, ◌≤◌, ◌<◌, ℕ, zero, suc, ◌
 use Rattle.std.proofs.Common.{◌++◌, length, length-append, length-drop, map, take, drop, slice_range, Option, None, Some, append_assoc, append-nil, drop-drop}
 use Rattle.std.proofs.Common.{take-add}
 use Rattle.std.proofs.lemmas.List.{drop_all, drop-append-le, take-append-le, map-append}
-use Rattle.events.specs.declared.input_event.FileForm.{FileForm}
+use Rattle.packet_sync.specs.declared.file_form.FileForm.{FileForm}
 use Rattle.packet_sync.specs.Slips.{slip_size}
 use Rattle.packet_sync.specs.declared.packet_sizes.OtherPackets.{OtherPackets}
 use Rattle.packet_sync.specs.declared.packet_sizes.OtherPackets.TheVariants.{Timed, Corrected}
 use Rattle.packet_sync.proofs.Stretches.{slip_later, slip_some}
 use Rattle.capture.specs.Captures.{Capture, IsPacket, NextPart, Part, after_packets, after_slip, capture_from, capture_in, capture_then, least_size, next_of}
-use Rattle.capture.specs.Captures.{next_part, no_parts, part_in, plain_next, size_of, slip_at, with_parts}
+use Rattle.capture.specs.Captures.{next_part, no_parts, part_in, plain_next, slip_at, with_parts}
+use Rattle.packet_sync.specs.OtherPackets.{size_of}
 use Rattle.capture.specs.declared.place.Place.{Place}
 
 -- 1. The number of steps makes no difference

@@ -5,8 +5,8 @@ use Rattle.std.proofs.Common.{slice_range, Option, None, Some, Result, Ok, Err, 
 use Rattle.std.proofs.Math.Seq.{take-length}
 use Rattle.std.proofs.lemmas.List.{drop_at, drop-append-le, take_all, take-append-drop, take-append-le}
 use Rattle.std.specs.Prelude.{IfOk, OnOk}
-use Rattle.events.specs.declared.input_event.FileForm.{FileForm}
-use Rattle.packet_sync.specs.OtherPackets.{other_packets}
+use Rattle.packet_sync.specs.declared.file_form.FileForm.{FileForm}
+use Rattle.packet_sync.specs.OtherPackets.{front_of, other_packets, size_of}
 use Rattle.packet_sync.specs.Slips.{slip_size}
 use Rattle.packet_sync.specs.Stretches.{IsOfPackets, IsStepped}
 use Rattle.packet_sync.specs.declared.packet_sizes.OtherPackets.{OtherPackets}
@@ -16,9 +16,9 @@ use Rattle.packet_sync.proofs.FrontBytes.{other_front}
 use Rattle.packet_sync.proofs.Stretches.{Steady, slip_later}
 use Rattle.ts_packet.specs.PidList.{cut_packets}
 use Rattle.ts_packet.proofs.Listing.{first_cut}
-use Rattle.capture.specs.Captures.{Capture, IsPacket, Part, after_packets, after_slip, capture_at, capture_from, front_of, head_in, no_parts, number_of}
-use Rattle.capture.specs.Captures.{packet_in, packet_with, part_in, size_of, size_parts, slip_at, with_parts}
-use Rattle.capture.specs.FrontForms.{form_in, form_of}
+use Rattle.capture.specs.Captures.{Capture, IsPacket, Part, after_packets, after_slip, capture_at, capture_from, head_in, no_parts, number_of}
+use Rattle.capture.specs.Captures.{packet_in, packet_with, part_in, size_parts, slip_at, with_parts}
+use Rattle.packet_sync.specs.FrontForms.{form_in, form_of}
 use Rattle.capture.specs.Reading.{IsLast, ReaderView, Settles, SettlesFrom, Takes, TakesLast, after_stretch, capture_after, capture_by, capture_left, decisive}
 use Rattle.capture.specs.Reading.{front_in, known_form, place_if, slip_parts, stretch_parts, stretch_size, whole_size, with_front}
 use Rattle.capture.specs.declared.place.Place.{Place}

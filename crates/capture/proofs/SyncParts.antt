@@ -4,7 +4,7 @@ use Rattle.std.proofs.Common.{arith, ◌∙◌, List, [], ◌∷◌, ◌++◌, l
 use Rattle.std.proofs.Common.{None, Some, append_assoc, append-nil, drop-drop}
 use Rattle.std.proofs.lemmas.List.{take-append-drop}
 use Rattle.std.proofs.lemmas.Option.{slice_get_cases, slice_get_past}
-use Rattle.events.specs.declared.input_event.FileForm.{FileForm}
+use Rattle.packet_sync.specs.declared.file_form.FileForm.{FileForm}
 use Rattle.packet_sync.specs.Laws.{IsInStep}
 use Rattle.packet_sync.specs.OtherPackets.{are_apart, other_packets}
 use Rattle.packet_sync.specs.Slips.{carried, goes_on, is_in_step, is_next, is_sync, slip_size, slips, slips_from}
@@ -14,7 +14,7 @@ use Rattle.packet_sync.proofs.Stretches.{Steady, carried_few, carried_packet, ca
 use Rattle.ts_packet.specs.PidList.{cut_packets}
 use Rattle.ts_packet.proofs.Listing.{first_cut}
 use Rattle.capture.specs.Captures.{Capture, IsPacket, Part, after_packets, capture_from, capture_of, first_place, no_parts, size_parts, slip_at, with_parts}
-use Rattle.capture.specs.FrontForms.{form_of}
+use Rattle.packet_sync.specs.FrontForms.{form_of}
 use Rattle.capture.specs.Laws.{CarriedAndSlips, InStepAsItIs, IsOfSync, IsReadAsItIs, packet_bytes, slips_among}
 use Rattle.capture.specs.declared.place.Place.{Place}
 use Rattle.capture.proofs.Parts.{none_before, packet_first, plain_few, slip_first}

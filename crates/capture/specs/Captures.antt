@@ -1,13 +1,13 @@
 -- What a capture holds: packets, and bytes between them that are in no packet (packet_sync/specs/Slips and OtherPackets).
 use Rattle.std.specs.Prelude.{ℕ, zero, suc, ◌+◌, ◌*◌, ◌/◌, nat_lt, if◌then◌else◌, List, [], ◌∷◌, ◌++◌, length, take, drop, slice_index, slice_range, Option}
 use Rattle.std.specs.Prelude.{None, Some}
-use Rattle.events.specs.declared.input_event.FileForm.{FileForm}
-use Rattle.packet_sync.specs.OtherPackets.{other_packets}
+use Rattle.packet_sync.specs.declared.file_form.FileForm.{FileForm}
+use Rattle.packet_sync.specs.OtherPackets.{front_of, other_packets, size_of}
 use Rattle.packet_sync.specs.Slips.{slip_size}
 use Rattle.packet_sync.specs.declared.packet_sizes.OtherPackets.{OtherPackets}
 use Rattle.packet_sync.specs.declared.packet_sizes.OtherPackets.TheVariants.{Timed, Corrected}
 use Rattle.packet_sync.specs.declared.slip.Slip.{Slip}
-use Rattle.capture.specs.FrontForms.{form_of}
+use Rattle.packet_sync.specs.FrontForms.{form_of}
 use Rattle.capture.specs.declared.place.Place.{Place}
 
 -- 1. A part
@@ -45,15 +45,6 @@ pub record NextPart : Type 0 where
 unfoldable pub plain_next : Option ℕ → Place → List ℕ → NextPart
 plain_next None p bs = record { part = IsPacket (take 188 bs); place = after_packets 188 p; size = 188 }
 plain_next (Some size) p bs = record { part = slip_at size p; place = after_slip size p; size = size }
-
--- the bytes from one packet to the next, and the bytes before a packet's first byte
-unfoldable pub size_of : OtherPackets → ℕ
-size_of Timed = 192
-size_of Corrected = 204
-
-unfoldable pub front_of : OtherPackets → ℕ
-front_of Timed = 4
-front_of Corrected = 0
 
 -- the 188 bytes of a packet among them
 abbrev pub packet_in : OtherPackets → List ℕ → List ℕ

@@ -1,4 +1,3 @@
-pub mod FrontForms
 pub mod Captures
 pub mod Reading
 pub mod Laws

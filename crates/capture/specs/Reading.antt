@@ -1,13 +1,13 @@
 -- A capture whose bytes come piece by piece.
 use Rattle.std.specs.Prelude.{◌≡◌, ℕ, ◌+◌, ◌-◌, ◌%◌, ◌==◌, if◌then◌else◌, Bool, true, List, [], ◌∷◌, ◌++◌, drop, length, map, take, Option, None, Some}
-use Rattle.events.specs.declared.input_event.FileForm.{FileForm}
-use Rattle.events.specs.declared.input_event.FileForm.TheVariants.{Unknown}
+use Rattle.packet_sync.specs.declared.file_form.FileForm.{FileForm}
+use Rattle.packet_sync.specs.declared.file_form.FileForm.TheVariants.{Unknown}
 use Rattle.ts_packet.specs.PidList.{cut_packets}
 use Rattle.packet_sync.specs.OtherPackets.{other_packets}
 use Rattle.packet_sync.specs.declared.packet_sizes.OtherPackets.{OtherPackets}
 use Rattle.packet_sync.specs.declared.stretch.Stretch.{Stretch}
 use Rattle.capture.specs.Captures.{Capture, IsPacket, Part, after_packets, after_slip, capture_at, capture_from, first_place, no_parts, slip_at, with_parts}
-use Rattle.capture.specs.FrontForms.{form_of}
+use Rattle.packet_sync.specs.FrontForms.{form_of}
 use Rattle.capture.specs.declared.place.Place.{Place}
 use Rattle.capture.specs.declared.reader.CaptureEnd.{CaptureEnd}
 use Rattle.capture.specs.declared.settled.Front.{Front}

@@ -5,8 +5,7 @@ ghost use Rattle.capture.specs.Reading as spec;
 
 use crate::part_taker::PartTaker;
 use crate::settled::Settled;
-use events::FileForm;
-use packet_sync::REACH;
+use packet_sync::{FileForm, REACH};
 use std::alloc::{AllocError, Global};
 use std::marker::Model;
 

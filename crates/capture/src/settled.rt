@@ -3,8 +3,7 @@ ghost use Rattle.std.specs.Prelude.{◌≡◌};
 ghost use Rattle.capture.specs.Reading.{known_form};
 
 use crate::place::Place;
-use events::FileForm;
-use packet_sync::OtherPackets;
+use packet_sync::{FileForm, OtherPackets};
 
 /// What the first bytes of a capture show: the size of its packets, if it is not 188, and what it is if it is no
 /// transport stream.

@@ -1,46 +1,22 @@
 //! The parts that bytes settle.
 ghost use Rattle.std.specs.Prelude.{◌≡◌, ◌≤◌, ◌<◌, ◌+◌, ◌-◌, ◌%◌, ◌*◌, ◌++◌, ◌∷◌, ℕ, List, [], Bool, IfOk, OnOk, Some, None, if◌then◌else◌, true, false, drop, length, map, slice_range, take};
 ghost use Rattle.ts_packet.specs.PidList.{cut_packets};
-ghost use Rattle.packet_sync.specs.OtherPackets.{other_packets};
+ghost use Rattle.packet_sync.specs.OtherPackets.{other_packets, size_of};
 ghost use Rattle.capture.specs.Captures as spec;
 ghost use Rattle.capture.specs.Captures.{IsPacket, IsStamped, Part};
 ghost use Rattle.capture.specs.Reading as reading;
 
-use crate::front_form::form_of;
 use crate::part_taker::PartTaker;
 use crate::place::Place;
 use crate::settled::{Front, Settled};
-use packet_sync::{OtherPackets, REACH, Slip, Stretch, next_stretch, other_packets};
+use packet_sync::{
+    OtherPackets, REACH, Slip, Stretch, bytes_apart, bytes_before, form_of, next_stretch,
+    other_packets,
+};
 use std::alloc::AllocError;
 
 /// The size of a packet in bytes.
 const PACKET_SIZE: usize = 188;
-
-/// Returns the bytes from one packet to the next.
-#[tactic(auto, unfolding(crate::specs::Captures::size_of))]
-pub fn bytes_apart(other: OtherPackets) -> usize
-    ensures value { result ≡ spec.size_of other }
-    ensures least { 192 ≤ result }
-    ensures most { result ≤ 204 }
-{
-    match other {
-        OtherPackets::Timed => 192,
-        OtherPackets::Corrected => 204,
-    }
-}
-
-// Returns the number of bytes before the first packet of 188 bytes.
-#[tactic(auto, unfolding(crate::specs::Captures::front_of, crate::specs::Captures::size_of))]
-fn front_of(other: OtherPackets) -> usize
-    ensures value { result ≡ spec.front_of other }
-    ensures within { result + 188 ≤ spec.size_of other }
-    ensures most { result ≤ 4 }
-{
-    match other {
-        OtherPackets::Timed => 4,
-        OtherPackets::Corrected => 0,
-    }
-}
 
 // Returns the number of bytes that decide which part comes next.
 fn decisive(ended: bool) -> usize
@@ -169,11 +145,11 @@ fn take_other<T: PartTaker>(
     at: usize,
     taker: &mut T,
 ) -> Result<(), AllocError>
-    requires { at + spec.size_of other ≤ length bytes.now }
+    requires { at + size_of other ≤ length bytes.now }
     ensures { (first : T) (parts : List Part) → T.has_taken first parts taker.old →
         OnOk result (T.has_taken first (parts ++ spec.part_in other (drop at bytes.now) ∷ []) taker.new) }
 {
-    let front = at + front_of(other);
+    let front = at + bytes_before(other);
     take_with(
         other,
         number_of(&bytes[at..at + 4]),
@@ -212,7 +188,7 @@ fn settle_other<T: PartTaker>(
     taker: &mut T,
 ) -> Result<usize, AllocError>
     ensures within { IfOk result (λ used. used ≤ length bytes.now) }
-    ensures most { IfOk result (λ used. length bytes.now < used + spec.size_of other) }
+    ensures most { IfOk result (λ used. length bytes.now < used + size_of other) }
     ensures taken { (first : T) (parts : List Part) (p : Place) (ended : Bool) → T.has_taken first parts taker.old →
         IfOk result (reading.SettlesFrom (λ found. T.has_taken first (parts ++ found) taker.new)
         (Some other) p bytes.now ended p) }

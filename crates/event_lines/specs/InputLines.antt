@@ -1,13 +1,13 @@
 -- The lines of events of the input (docs/VIEW.md): which packets it holds, and whether it is a transport stream.
 use Rattle.std.specs.Prelude.{ℕ, Bool, List, [], ◌∷◌, codes}
-use Rattle.events.specs.declared.input_event.FileForm.{FileForm}
+use Rattle.packet_sync.specs.declared.file_form.FileForm.{FileForm}
 use Rattle.events.specs.declared.input_event.InputEvent.{InputEvent}
 use Rattle.events.specs.declared.input_event.InputEvent.TheVariants as inputs
 use Rattle.events.specs.declared.input_event.OtherRate.{OtherRate}
 use Rattle.events.specs.declared.input_event.RestBytes.{RestBytes}
 use Rattle.events.specs.declared.input_event.SlippedBytes.{SlippedBytes}
 use Rattle.events.specs.declared.input_event.StampJump.{StampJump}
-use Rattle.events.specs.FileForms.{line_word}
+use Rattle.packet_sync.specs.FileForms.{line_word}
 use Rattle.event_lines.specs.ReportLines.{line_of, number_field, word_field}
 
 abbrev pub slip_line : Bool → SlippedBytes → List ℕ

@@ -3,7 +3,8 @@ ghost use Rattle.std.specs.Prelude.{◌≡◌, ◌++◌, OnOk, string_bytes};
 ghost use Rattle.event_lines.specs.InputLines as spec;
 
 use crate::lines::{number, word, write_line};
-use events::{FileForm, InputEvent, OtherRate, RestBytes, SlippedBytes, StampJump};
+use events::{InputEvent, OtherRate, RestBytes, SlippedBytes, StampJump};
+use packet_sync::FileForm;
 use std::alloc::AllocError;
 
 // Appends `slip`.

@@ -7,4 +7,3 @@ pub mod Faults
 pub mod CheckCounts
 pub mod FaultTotals
 pub mod LateCauses
-pub mod FileForms

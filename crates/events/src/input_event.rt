@@ -1,6 +1,6 @@
 //! Events of the input, as plain data: which packets it holds, and whether it is a transport stream.
-ghost use Rattle.std.specs.Prelude.{◌≡◌};
-ghost use Rattle.events.specs.FileForms as spec;
+
+use packet_sync::FileForm;
 
 /// Bytes that are in no packet: the packets after them are in another step than the packets before.
 #[derive(Clone, Copy)]
@@ -20,24 +20,6 @@ pub struct RestBytes {
     pub packet: u64,
     /// How many they are.
     pub bytes: u64,
-}
-
-/// What an input that is no transport stream is, by its first bytes.
-#[derive(Clone, Copy, Debug, PartialEq, Eq)]
-pub enum FileForm {
-    /// A file of the ISO base media file format, as MP4 and QuickTime have it.
-    Mp4,
-    /// Matroska or WebM.
-    Matroska,
-    /// A program stream (ISO/IEC 13818-1, 2.5).
-    ProgramStream,
-    /// An elementary stream of video, from a start code on.
-    ElementaryStream,
-    /// A capture of network packets, pcap or pcapng.
-    NetworkCapture,
-    /// A text in ASCII.
-    Text,
-    Unknown,
 }
 
 /// The rate that is given, and the different rate by the clock references of a PID, in bits a second.
@@ -73,38 +55,4 @@ pub enum InputEvent {
     /// Arrival time stamps are asked for, and the packets have none.
     NoStamps,
     StampJump(StampJump),
-}
-
-impl FileForm {
-    /// Returns its word in a line.
-    #[tactic(auto, unfolding(crate::specs::FileForms::line_word))]
-    pub fn line_word(self) -> &'static str
-        ensures { result.now ≡ spec.line_word self }
-    {
-        match self {
-            FileForm::Mp4 => "mp4",
-            FileForm::Matroska => "matroska",
-            FileForm::ProgramStream => "program_stream",
-            FileForm::ElementaryStream => "elementary_stream",
-            FileForm::NetworkCapture => "network_capture",
-            FileForm::Text => "text",
-            FileForm::Unknown => "unknown",
-        }
-    }
-
-    /// Returns its words in a page.
-    #[tactic(auto, unfolding(crate::specs::FileForms::words))]
-    pub fn words(self) -> &'static str
-        ensures { result.now ≡ spec.words self }
-    {
-        match self {
-            FileForm::Mp4 => "MP4",
-            FileForm::Matroska => "Matroska",
-            FileForm::ProgramStream => "MPEG program stream",
-            FileForm::ElementaryStream => "elementary stream of video",
-            FileForm::NetworkCapture => "capture of network packets",
-            FileForm::Text => "text",
-            FileForm::Unknown => "of unknown form",
-        }
-    }
 }

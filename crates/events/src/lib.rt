@@ -34,7 +34,7 @@ pub use event::{
 };
 pub use fault::{Fault, Measured, fault_of};
 pub use fault_kind::{FaultKind, FaultSource};
-pub use input_event::{FileForm, InputEvent, OtherRate, RestBytes, SlippedBytes, StampJump};
+pub use input_event::{InputEvent, OtherRate, RestBytes, SlippedBytes, StampJump};
 pub use mark_event::MarkTotals;
 pub use packet_fault::{CheckWordFault, CounterFault, RefusalCause, RefusedPacket};
 pub use pid_name::PidName;

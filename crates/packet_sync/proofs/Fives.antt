@@ -1,10 +1,11 @@
 -- Five packets in a row, in the parts of a stream.
 use Rattle.std.proofs.Common.{◌≡◌, ◌≤◌, ◌<◌, ◌⊎◌, inl, inr, ℕ, zero, suc, ◌+◌, ◌-◌, ◌&&◌, ◌||◌, nat_lt, Bool, true, false, refl, sym, ap, ap₂, subst, arith, ◌∙◌}
-use Rattle.std.proofs.Common.{List, [], ◌++◌, length, length-append, length-drop, take, drop, drop-drop}
+use Rattle.std.proofs.Common.{List, [], ◌++◌, append_assoc, length, length-append, length-drop, take, drop, drop-drop}
 use Rattle.std.proofs.lemmas.Bool.{cases_eq}
-use Rattle.std.proofs.lemmas.List.{drop-append-le}
+use Rattle.std.proofs.Math.Seq.{drop-append_seam}
+use Rattle.std.proofs.lemmas.List.{drop-append-le, length-take-le, take-append-drop}
 use Rattle.packet_sync.specs.Slips.{is_in_step, is_sync}
-use Rattle.packet_sync.specs.WrongPackets.{are_five, five_within, has_five}
+use Rattle.packet_sync.specs.NoStreams.{are_five, five_within, has_five}
 use Rattle.packet_sync.specs.PacketSearch.{FiveView, IsSearchOf}
 use Rattle.packet_sync.proofs.FrontBytes.{three_front}
 use Rattle.packet_sync.proofs.Stretches.{step_later}
@@ -167,15 +168,32 @@ found_before part next old new is_so more same s = record {
 }
 
 pub searched_more : (part next joined : List ℕ) (old new : FiveView) → old.found ≡ false → new.size ≡ old.size + length next →
-    joined ≡ old.tail ++ next → new.found ≡ has_five joined → new.tail ≡ drop (length joined - 752) joined →
+    joined ≡ drop (length part - 752) part ++ next → new.found ≡ has_five joined → new.tail ≡ drop (length joined - 752) joined →
     IsSearchOf part old → IsSearchOf (part ++ next) new
-searched_more part next joined old new off more join is end s =
-    let whole : joined ≡ drop (length part - 752) part ++ next = join ∙ ap (λ (r : List ℕ). r ++ next) (s.tail_is off) in
+searched_more part next joined old new off more whole is end s =
     record {
       size_is = more ∙ ap (λ (n : ℕ). n + length next) s.size_is ∙ sym (length-append part next);
       found_is = is ∙ ap has_five whole ∙ five_more part next (sym s.found_is ∙ off);
       tail_is = λ e. end ∙ ap (λ (r : List ℕ). drop (length r - 752) r) whole ∙ last_is part next;
     }
+
+-- The last 752 bytes, after as many new ones, are these.
+last_are : (part front later : List ℕ) → length front ≡ 752 → front ++ later ≡ drop (length (part ++ front) - 752) (part ++ front) ++ later
+last_are part front later size =
+    let place : length part ≡ length (part ++ front) - 752 = omega (arith, size, length-append part front) in
+    ap (λ (r : List ℕ). r ++ later) (sym (drop-append_seam part front) ∙ ap (λ (n : ℕ). drop n (part ++ front)) place)
+
+pub in_place : (part next front later : List ℕ) → 752 < length next → front ≡ take 752 next → later ≡ drop 752 next →
+    next ≡ drop (length (part ++ front) - 752) (part ++ front) ++ later
+in_place part next front later long f l =
+    let size : length front ≡ 752 = ap (length {A = ℕ}) f ∙ length-take-le 752 next (omega (arith, long)) in
+    sym (ap₂ (λ (x y : List ℕ). x ++ y) f l ∙ take-append-drop 752 next) ∙ last_are part front later size
+
+pub all_searched : (part next front later : List ℕ) (f : FiveView) → front ≡ take 752 next → later ≡ drop 752 next → IsSearchOf ((part ++ front) ++ later) f →
+    IsSearchOf (part ++ next) f
+all_searched part next front later f e l s =
+    let both : front ++ later ≡ next = ap₂ (λ (x y : List ℕ). x ++ y) e l ∙ take-append-drop 752 next in
+    subst (λ (r : List ℕ). IsSearchOf r f) (append_assoc part front later ∙ ap (λ (r : List ℕ). part ++ r) both) s
 
 -- None in no place
 pub none_yet : (bs : List ℕ) → five_within 0 bs ≡ false

@@ -1,14 +1,16 @@
 -- The first bytes of an arriving stream, and what they show.
-use Rattle.std.proofs.Common.{◌≡◌, ◌≤◌, ◌<◌, ◌==◌, ◌&&◌, ℕ, ◌+◌, ◌-◌, min, nat_lt, nat_le, not, Bool, true, false, List, [], ◌++◌, length, length-append, length-take, take, drop, refl, sym}
+use Rattle.std.proofs.Common.{◌≡◌, ◌≤◌, ◌<◌, ◌==◌, ◌&&◌, ℕ, ◌+◌, ◌-◌, min, nat_lt, nat_le, not, ◌||◌, Bool, true, false, List, [], ◌++◌, length, length-append, length-take, take, drop, refl, sym}
 use Rattle.std.proofs.Common.{ap, ap₂, subst, ◌∙◌, arith, append-nil, Option, Some, None, is_some}
 use Rattle.std.proofs.Math.Seq.{take-append-add}
 use Rattle.std.proofs.lemmas.Bool.{cases_eq, eq-eqb, ne_eqb}
-use Rattle.std.proofs.lemmas.List.{length-take-le, take_all, take_min, take-append-drop, take-append-le}
+use Rattle.std.proofs.lemmas.List.{length-take-le, take_all, take_min, take-append-drop, take-take, take-append-le}
 use Rattle.packet_sync.specs.OtherPackets.{other_packets}
 use Rattle.packet_sync.specs.PacketSearch.{FiveView, IsSearchOf, IsSearched, SearchView}
-use Rattle.packet_sync.specs.WrongPackets.{five_within, has_five, lacks_five, wrong_by, wrong_packets}
+use Rattle.packet_sync.specs.FileForms.{is_known}
+use Rattle.packet_sync.specs.FrontForms.{form_in, form_of}
+use Rattle.packet_sync.specs.NoStreams.{five_within, has_five, lacks_five, no_stream, no_stream_by}
 use Rattle.packet_sync.specs.declared.packet_sizes.OtherPackets.{OtherPackets}
-use Rattle.packet_sync.specs.declared.packet_search.WrongPackets.{WrongPackets}
+use Rattle.packet_sync.specs.declared.file_form.FileForm.{FileForm}
 use Rattle.packet_sync.proofs.FrontBytes.{other_front}
 
 -- 1. The first bytes are kept
@@ -132,39 +134,34 @@ lacks_more_by limit bytes more lacks =
 lacks_more : (bytes more : List ℕ) → lacks_five bytes ≡ true → lacks_five (bytes ++ more) ≡ true
 lacks_more bytes more lacks = lacks_more_by 4194304 bytes more lacks
 
-some_wrong : (o : Option OtherPackets) (lacks : Bool) → is_some o ≡ true → is_some (wrong_by o lacks) ≡ true
-unfolding wrong_by
-some_wrong (Some packets) lacks e = refl
-some_wrong None lacks e = absurd cc
+none_by : (o : Option OtherPackets) (lacks more : Bool) (form : FileForm) → o ≡ None → lacks ≡ true → is_some (no_stream_by o (lacks || more) form) ≡ true
+unfolding no_stream_by
+none_by None true more form e f = refl
+none_by None false more form e f = absurd cc
+none_by (Some packets) lacks more form e f = absurd cc
 
-none_right : (o : Option OtherPackets) (lacks : Bool) → lacks ≡ true → is_some (wrong_by o lacks) ≡ true
-unfolding wrong_by
-none_right (Some packets) lacks e = refl
-none_right None true e = refl
-none_right None false e = absurd cc
+long_by : (limit : ℕ) (bytes : List ℕ) (x : Bool) → (nat_le limit (length bytes) && x) ≡ true → limit ≤ length bytes
+long_by limit bytes x lacks = let t = and_first (nat_le limit (length bytes)) x lacks in search (arith, t)
 
-other_more : (size : ℕ) (front bytes more : List ℕ) → front ≡ take size bytes → size ≤ length front → is_some (other_packets front) ≡ true →
-    ((rest : List ℕ) → other_packets front ≡ other_packets (front ++ rest)) → is_some (other_packets (bytes ++ more)) ≡ true
-other_more size front bytes more f full some known =
-    let many : length front ≤ length bytes = omega (arith, ap (length {A = ℕ}) f, length-take size bytes) in
-    let long : size ≤ length bytes = omega (arith, full, many) in
-    let same : front ≡ take size (bytes ++ more) = f ∙ sym (take-append-le size bytes more long) in
-    let all : front ++ drop size (bytes ++ more) ≡ bytes ++ more =
-    ap (λ (r : List ℕ). r ++ drop size (bytes ++ more)) same ∙ take-append-drop size (bytes ++ more) in
-    ap is_some (ap other_packets (sym all) ∙ sym (known (drop size (bytes ++ more)))) ∙ some
+pub settled : (bytes more : List ℕ) → None ≡ other_packets bytes → lacks_five bytes ≡ true → is_some (no_stream (bytes ++ more)) ≡ true
+settled bytes more none lacks =
+    let long : 4194304 ≤ length bytes = long_by 4194304 bytes (not (has_five (take 4194304 bytes))) lacks in
+    let other : other_packets (bytes ++ more) ≡ None = sym (other_front bytes more (omega (arith, long))) ∙ sym none in
+    none_by (other_packets (bytes ++ more)) (lacks_five (bytes ++ more)) (is_known (form_of (bytes ++ more)) && not (has_five (take 4194304 (bytes ++ more))))
+    (form_of (bytes ++ more)) other (lacks_more bytes more lacks)
 
-pub settled_by_size : (bytes more front : List ℕ) (s : SearchView) → front ≡ s.front → (409 ≤ length front) × (is_some (other_packets front) ≡ true) →
-    IsSearched bytes s → is_some (wrong_packets (bytes ++ more)) ≡ true
-settled_by_size bytes more front s same known so =
-    some_wrong (other_packets (bytes ++ more)) (lacks_five (bytes ++ more))
-    (other_more 409 front bytes more (same ∙ so.front_is) known.0 known.1 (λ rest. other_front front rest known.0))
+-- The form of the first 409 bytes is the form of all.
+pub form_known : (bytes front : List ℕ) → front ≡ take 409 bytes → form_of front ≡ form_of bytes
+form_known bytes front f = ap form_in (ap (take 188) f ∙ take-take 188 409 bytes (omega arith))
 
-pub settled_by_search : (bytes more : List ℕ) → lacks_five bytes ≡ true → is_some (wrong_packets (bytes ++ more)) ≡ true
-settled_by_search bytes more lacks = none_right (other_packets (bytes ++ more)) (lacks_five (bytes ++ more)) (lacks_more bytes more lacks)
-
-pub wrong_is : (bytes : List ℕ) (o : Option OtherPackets) (lacks : Bool) (r : Option WrongPackets) → o ≡ other_packets bytes → lacks ≡ lacks_five bytes →
-    r ≡ wrong_by o lacks → r ≡ wrong_packets bytes
-wrong_is bytes o lacks r e f is = is ∙ ap₂ wrong_by e f
+pub no_stream_is : (bytes : List ℕ) (o : Option OtherPackets) (lacks known five : Bool) (form : FileForm) (r : Option FileForm) → o ≡ other_packets bytes →
+    lacks ≡ lacks_five bytes → form ≡ form_of bytes → known ≡ is_known form → five ≡ has_five (take 4194304 bytes) →
+    r ≡ no_stream_by o (lacks || known && not five) form → r ≡ no_stream bytes
+no_stream_is bytes o lacks known five form r e f g m h is =
+    is ∙ ap (λ (x : Option OtherPackets). no_stream_by x (lacks || known && not five) form) e
+    ∙ ap (λ (x : Bool). no_stream_by (other_packets bytes) (x || known && not five) form) f
+    ∙ ap₂ (λ (x y : Bool). no_stream_by (other_packets bytes) (lacks_five bytes || x && not y) form) m h
+    ∙ ap (λ (x : FileForm). no_stream_by (other_packets bytes) (lacks_five bytes || is_known x && not (has_five (take 4194304 bytes))) x) g
 
 -- 5. Before the first byte
 

@@ -7,3 +7,4 @@ pub mod Noted
 pub mod FrontBytes
 pub mod Fives
 pub mod Fronts
+pub mod PacketBytes

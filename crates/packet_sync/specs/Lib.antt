@@ -2,9 +2,12 @@ pub mod Fields
 pub mod FieldsLeftOut
 pub mod FieldMasks
 pub mod Laws
+pub mod FileForms
+pub mod FrontForms
 pub mod OtherPackets
+pub mod PacketBytes
 pub mod PacketSearch
 pub mod Slips
 pub mod Stretches
 pub mod Notes
-pub mod WrongPackets
+pub mod NoStreams

@@ -1,6 +1,6 @@
 -- The search for packets of 188 bytes, while the bytes of a stream arrive.
 use Rattle.std.specs.Prelude.{◌≡◌, ℕ, ◌-◌, Bool, false, List, length, take, drop}
-use Rattle.packet_sync.specs.WrongPackets.{has_five, searched}
+use Rattle.packet_sync.specs.NoStreams.{has_five, searched}
 
 -- the number of searched bytes, whether these have five packets in a row, and the last ones, where five packets may have begun
 pub record FiveView : Type 0 where

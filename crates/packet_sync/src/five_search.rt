@@ -1,8 +1,8 @@
 //! The search for five packets in a row, while the bytes of a stream arrive.
 
-ghost use Rattle.std.specs.Prelude.{◌≡◌, ◌≤◌, ◌<◌, ◌+◌, ◌-◌, ◌^◌, ◌++◌, [], IfOk, List, OnOk, ℕ, drop, length, take};
+ghost use Rattle.std.specs.Prelude.{◌≡◌, ◌≤◌, ◌<◌, ◌+◌, ◌-◌, ◌^◌, ◌++◌, [], false, IfOk, List, OnOk, ℕ, drop, length, take};
 ghost use Rattle.packet_sync.specs.PacketSearch.{IsSearchOf};
-ghost use Rattle.packet_sync.specs.WrongPackets as spec;
+ghost use Rattle.packet_sync.specs.NoStreams as spec;
 
 use crate::sync_bytes::{PACKET_SIZE, is_in_step};
 use std::alloc::{AllocError, Global};
@@ -36,7 +36,7 @@ impl Model for FiveSearch {
 }
 
 // Returns whether five packets in a row begin at this place.
-#[tactic(auto, unfolding(crate::specs::WrongPackets::are_five))]
+#[tactic(auto, unfolding(crate::specs::NoStreams::are_five))]
 fn are_five(bytes: &[u8], at: usize) -> bool
     requires { at < 2 ^ 63 }
     ensures { result ≡ spec.are_five bytes.now at }
@@ -95,21 +95,50 @@ impl FiveSearch {
         }
     }
 
-    // Searches the next bytes of the first 4 MiB.
-    fn search(&mut self, next: &[u8]) -> Result<(), AllocError>
+    // Searches the next bytes of the first 4 MiB. `bytes`: the last 752 bytes before them, or all if they are fewer, and
+    // these.
+    fn search(&mut self, bytes: &[u8], next: &[u8]) -> Result<(), AllocError>
         requires { self.old.size + length next.now ≤ 4194304 }
-        ensures { (part : List ℕ) → IsSearchOf part self.old →
+        ensures size { OnOk result (self.new.size ≡ self.old.size + length next.now) }
+        ensures searched { (part : List ℕ) → IsSearchOf part self.old →
+            (self.old.found ≡ false → bytes.now ≡ drop (length part - 752) part ++ next.now) →
             OnOk result (IsSearchOf (part ++ next.now) self.new) }
     {
         if self.found {
             self.size += next.len();
             return Ok(());
         }
-        let bytes = joined(self.alloc, &self.tail, next)?;
-        let tail = Vec::from_slice(self.alloc, last_bytes(&bytes))?;
+        let tail = Vec::from_slice(self.alloc, last_bytes(bytes))?;
         self.size += next.len();
-        self.found = has_five(&bytes);
+        self.found = has_five(bytes);
         self.tail = tail;
+        Ok(())
+    }
+
+    // Searches the next bytes of the first 4 MiB, behind a copy of the last ones.
+    fn search_joined(&mut self, next: &[u8]) -> Result<(), AllocError>
+        requires { self.old.size + length next.now ≤ 4194304 }
+        ensures size { OnOk result (self.new.size ≡ self.old.size + length next.now) }
+        ensures searched { (part : List ℕ) → IsSearchOf part self.old →
+            OnOk result (IsSearchOf (part ++ next.now) self.new) }
+    {
+        let bytes = joined(self.alloc, &self.tail, next)?;
+        self.search(&bytes, next)?;
+        Ok(())
+    }
+
+    // Searches the next bytes of the first 4 MiB; all but the first 752 in place.
+    fn search_all(&mut self, next: &[u8]) -> Result<(), AllocError>
+        requires { self.old.size + length next.now ≤ 4194304 }
+        ensures { (part : List ℕ) → IsSearchOf part self.old →
+            OnOk result (IsSearchOf (part ++ next.now) self.new) }
+    {
+        if next.len() <= FOUR_PACKETS {
+            return self.search_joined(next);
+        }
+        let (front, later) = next.split_at(FOUR_PACKETS);
+        self.search_joined(front)?;
+        self.search(next, later)?;
         Ok(())
     }
 
@@ -119,8 +148,16 @@ impl FiveSearch {
             OnOk result (IsSearchOf (take 4194304 (bytes ++ piece.now)) self.new) }
     {
         let next = searched_part(piece, self.size);
-        self.search(next)?;
+        self.search_all(next)?;
         Ok(())
+    }
+
+    /// Returns whether five packets in a row are in the first 4 MiB.
+    pub(crate) fn has_five(&self) -> bool
+        ensures { (bytes : List ℕ) → IsSearchOf (take 4194304 bytes) self.now →
+            result ≡ spec.has_five (take 4194304 bytes) }
+    {
+        self.found
     }
 
     /// Returns whether the first 4 MiB came, without five packets in a row.

@@ -1,23 +1,17 @@
-//! The search for packets of 188 bytes at the front of a stream, while its bytes arrive.
+//! The search for packets at the front of an input, while its bytes arrive.
 
-ghost use Rattle.std.specs.Prelude.{◌≡◌, ◌≤◌, ◌++◌, [], List, OnOk, ℕ, is_some, length, take, true};
+ghost use Rattle.std.specs.Prelude.{◌≡◌, ◌≤◌, ◌++◌, ◌&&◌, ◌||◌, not, [], List, OnOk, ℕ, is_some, take, true};
 ghost use Rattle.packet_sync.specs.OtherPackets.{other_packets};
 ghost use Rattle.packet_sync.specs.PacketSearch.{IsSearched};
-ghost use Rattle.packet_sync.specs.WrongPackets as spec;
+ghost use Rattle.packet_sync.specs.FrontForms.{form_of};
+ghost use Rattle.packet_sync.specs.NoStreams as spec;
 
+use crate::file_form::FileForm;
 use crate::five_search::FiveSearch;
+use crate::front_form::form_of;
 use crate::packet_sizes::{FRONT, OtherPackets, other_packets};
 use std::alloc::{AllocError, Global};
 use std::marker::Model;
-
-/// Why an input is no stream of packets of 188 bytes.
-#[derive(Clone, Copy, PartialEq, Eq)]
-pub enum WrongPackets {
-    /// Packets of another size are at its front.
-    Other(OtherPackets),
-    /// Its first 4 MiB have no five packets in a row.
-    NoPackets,
-}
 
 /// The search for packets at the front of a stream. It holds the first 409 bytes, and at most 752 others.
 #[derive(Drop)]
@@ -46,27 +40,21 @@ fn lengthen_front(front: &mut Vec<u8>, piece: &[u8]) -> Result<(), AllocError>
     Ok(())
 }
 
-// Returns whether the first bytes are known to be of packets of another size.
-fn is_other(front: &[u8]) -> bool
-    ensures known { result ≡ true → (409 ≤ length front.now) × (is_some (other_packets front.now) ≡ true) }
+// Returns whether there are no packets: `lacks`: none are in the first 4 MiB; `five`: five in a row are in the bytes.
+fn lacks_by(lacks: bool, known: bool, five: bool) -> bool
+    ensures { result ≡ (lacks || known && not five) }
 {
-    front.len() >= FRONT && other_packets(front).is_some()
+    lacks || (known && !five)
 }
 
-// Returns why an input is no stream; `lacks`: its first 4 MiB have no five packets in a row.
-#[tactic(auto, unfolding(crate::specs::WrongPackets::wrong_by))]
-fn wrong_by(other: Option<OtherPackets>, lacks: bool) -> Option<WrongPackets>
-    ensures { result ≡ spec.wrong_by other lacks }
+// Returns what an input is, if it has no packets (`lacks`) and no packets of another size at its front.
+#[tactic(auto, unfolding(crate::specs::NoStreams::no_stream_by))]
+fn no_stream_by(other: Option<OtherPackets>, lacks: bool, form: FileForm) -> Option<FileForm>
+    ensures { result ≡ spec.no_stream_by other lacks form }
 {
     match other {
-        Some(packets) => Some(WrongPackets::Other(packets)),
-        None => {
-            if lacks {
-                Some(WrongPackets::NoPackets)
-            } else {
-                None
-            }
-        }
+        Some(_) => None,
+        None => { if lacks { Some(form) } else { None } }
     }
 }
 
@@ -91,21 +79,34 @@ impl PacketSearch {
         Ok(())
     }
 
-    /// Returns why the bytes are no stream of packets of 188 bytes, if they are none.
-    pub fn wrong_packets(&self) -> Option<WrongPackets>
-        ensures { (bytes : List ℕ) → IsSearched bytes self.now → result ≡ spec.wrong_packets bytes }
+    /// Returns which packets of another size are at the front, if any.
+    pub fn other_packets(&self) -> Option<OtherPackets>
+        ensures { (bytes : List ℕ) → IsSearched bytes self.now → result ≡ other_packets bytes }
     {
-        wrong_by(other_packets(&self.front), self.five.lacks_five())
+        other_packets(&self.front)
     }
 
-    /// Returns whether the bytes are known to be no stream of packets of 188 bytes, whatever bytes follow.
+    /// Returns what the bytes are, if they are no transport stream.
+    pub fn no_stream(&self) -> Option<FileForm>
+        ensures { (bytes : List ℕ) → IsSearched bytes self.now → result ≡ spec.no_stream bytes }
+    {
+        let form = form_of(&self.front);
+        let lacks = lacks_by(
+            self.five.lacks_five(),
+            form.is_known(),
+            self.five.has_five(),
+        );
+        no_stream_by(self.other_packets(), lacks, form)
+    }
+
+    /// Returns whether the bytes are known to be no transport stream, whatever bytes follow.
     pub fn is_settled(&self) -> bool
         ensures { (bytes more : List ℕ) → IsSearched bytes self.now → result ≡ true →
-            is_some (spec.wrong_packets (bytes ++ more)) ≡ true }
+            is_some (spec.no_stream (bytes ++ more)) ≡ true }
     {
-        if is_other(&self.front) {
-            return true;
+        match self.other_packets() {
+            Some(_) => false,
+            None => self.five.lacks_five(),
         }
-        self.five.lacks_five()
     }
 }

@@ -1,6 +1,6 @@
 //! Packets that are not of 188 bytes.
 
-ghost use Rattle.std.specs.Prelude.{◌≡◌, ◌≤◌, ◌++◌, List, ℕ, length};
+ghost use Rattle.std.specs.Prelude.{◌≡◌, ◌≤◌, ◌+◌, ◌++◌, List, ℕ, length};
 ghost use Rattle.packet_sync.specs.OtherPackets as spec;
 
 use crate::sync_bytes::{is_in_step, is_sync};
@@ -51,4 +51,30 @@ pub fn other_packets(bytes: &[u8]) -> Option<OtherPackets>
     ensures front { (more : List ℕ) → 409 ≤ length bytes.now → result ≡ spec.other_packets (bytes.now ++ more) }
 {
     packets_at_front(bytes)
+}
+
+/// Returns the bytes from one packet to the next.
+#[tactic(auto, unfolding(crate::specs::OtherPackets::size_of))]
+pub fn bytes_apart(other: OtherPackets) -> usize
+    ensures value { result ≡ spec.size_of other }
+    ensures least { 192 ≤ result }
+    ensures most { result ≤ 204 }
+{
+    match other {
+        OtherPackets::Timed => 192,
+        OtherPackets::Corrected => 204,
+    }
+}
+
+/// Returns the number of bytes before the 188 bytes of a packet.
+#[tactic(auto, unfolding(crate::specs::OtherPackets::front_of, crate::specs::OtherPackets::size_of))]
+pub fn bytes_before(other: OtherPackets) -> usize
+    ensures value { result ≡ spec.front_of other }
+    ensures within { result + 188 ≤ spec.size_of other }
+    ensures most { result ≤ 4 }
+{
+    match other {
+        OtherPackets::Timed => 4,
+        OtherPackets::Corrected => 0,
+    }
 }

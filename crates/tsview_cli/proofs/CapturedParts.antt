@@ -7,7 +7,7 @@ use Rattle.capture.specs.Reading.{ReaderView, Takes, TakesLast, capture_by, capt
 use Rattle.capture.specs.declared.reader.CaptureEnd.{CaptureEnd}
 use Rattle.events.specs.declared.event.Event.{Event}
 use Rattle.events.specs.declared.timed_event.TimedEvent.{TimedEvent}
-use Rattle.events.specs.declared.input_event.FileForm.{FileForm}
+use Rattle.packet_sync.specs.declared.file_form.FileForm.{FileForm}
 use Rattle.analysis.specs.Analysis.{AnalysisState, IsAnalysed, after_all, after_packet, after_stamped, events_all, events_at, stamped_events, timed, with_event}
 use Rattle.analysis.specs.declared.analyser.Analyser.{Analyser}
 use Rattle.packet_sync.specs.declared.packet_sizes.OtherPackets.{OtherPackets}

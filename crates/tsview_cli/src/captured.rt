@@ -8,12 +8,11 @@ ghost use Rattle.tsview_cli.specs.CapturedStreams.{IsEnded, IsMore, IsSoFar, Tak
 
 use analysis::Analyser;
 use arrival::Arrival;
-use capture::{CaptureEnd, CaptureReader, PartTaker, bytes_apart};
+use capture::{CaptureEnd, CaptureReader, PartTaker};
 use events::{
-    ClockTotals, Event, FileForm, InputEvent, OtherRate, ReportEnd, RestBytes, SlippedBytes,
-    TimedEvent,
+    ClockTotals, Event, InputEvent, OtherRate, ReportEnd, RestBytes, SlippedBytes, TimedEvent,
 };
-use packet_sync::{OtherPackets, Slip};
+use packet_sync::{FileForm, OtherPackets, Slip, bytes_apart};
 use std::alloc::{AllocError, Global};
 use ts_report::ViewRequest;
 

@@ -7,7 +7,7 @@ use Rattle.events.specs.declared.fault_kind.FaultSource.{FaultSource}
 use Rattle.events.specs.declared.fault_kind.FaultSource.TheVariants as sources
 use Rattle.events.specs.declared.rule_event.BufferKind.{BufferKind}
 use Rattle.events.specs.declared.rule_event.BufferKind.TheVariants as buffers
-use Rattle.events.specs.FileForms.{words}
+use Rattle.packet_sync.specs.FileForms.{words}
 use Rattle.events.specs.Checks.{name_of, number_of}
 use Rattle.page_curves.specs.Numbers.{grouped, tenths}
 use Rattle.page_curves.specs.PidLabels.{LabelsState, label_text}

@@ -1,6 +1,6 @@
 -- The cells of the row of each event of the input.
 use Rattle.std.specs.Prelude.{ℕ, List, [], ◌∷◌}
-use Rattle.events.specs.declared.input_event.FileForm.{FileForm}
+use Rattle.packet_sync.specs.declared.file_form.FileForm.{FileForm}
 use Rattle.events.specs.declared.input_event.OtherRate.{OtherRate}
 use Rattle.events.specs.declared.input_event.RestBytes.{RestBytes}
 use Rattle.events.specs.declared.input_event.SlippedBytes.{SlippedBytes}

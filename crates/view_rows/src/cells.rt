@@ -2,7 +2,8 @@
 ghost use Rattle.std.specs.Prelude.{◌≡◌, ◌++◌, OnOk, flat_map, string_bytes};
 ghost use Rattle.view_rows.specs.Cells as spec;
 
-use events::{BufferKind, Check, FaultKind, FaultSource, FileForm};
+use events::{BufferKind, Check, FaultKind, FaultSource};
+use packet_sync::FileForm;
 use page_curves::{PidLabels, write_grouped, write_label, write_tenths};
 use std::alloc::AllocError;
 use std::fmt::Write;

@@ -3,7 +3,8 @@ ghost use Rattle.std.specs.Prelude.{◌≡◌};
 ghost use Rattle.view_rows.specs.InputCells as spec;
 
 use crate::cells::{Cell, CellUnit, CellWord, short};
-use events::{FaultKind, FileForm, OtherRate, RestBytes, SlippedBytes};
+use events::{FaultKind, OtherRate, RestBytes, SlippedBytes};
+use packet_sync::FileForm;
 
 /// Returns the cells of bytes that are in no packet.
 pub(crate) fn slip_cells(e: &SlippedBytes) -> [Cell; 6]

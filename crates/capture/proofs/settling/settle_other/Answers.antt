@@ -1,5 +1,6 @@
 use Rattle.std.proofs.Common.{◌≡◌, ◌≤◌, ◌+◌, ◌∷◌, ℕ, [], Some, arith, drop, length, subst, sym}
-use Rattle.capture.specs.Captures.{part_in, size_of}
+use Rattle.capture.specs.Captures.{part_in}
+use Rattle.packet_sync.specs.OtherPackets.{size_of}
 use Rattle.capture.proofs.SettledParts.{Keeps, keeps_more, other_rest}
 use Rattle.capture.proofs.settling.settle_other.Goals as goal
 

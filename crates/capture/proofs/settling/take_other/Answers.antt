@@ -9,10 +9,10 @@ returns g c = λ first parts taken.
     let other = c.args.other in
     let bs = c.args.bytes.now in
     let at = c.args.at in
-    let f = c.front_of.result in
+    let f = c.bytes_before.result in
     let p : List ℕ = slice_range bs (at + f) (at + f + 188) in
     let e : p ≡ packet_in other (drop at bs) =
-    ap (λ (n : ℕ). slice_range bs (at + n) (at + n + 188)) c.front_of.ensures.value ∙ packet_at other bs at in
+    ap (λ (n : ℕ). slice_range bs (at + n) (at + n + 188)) c.bytes_before.ensures.value ∙ packet_at other bs at in
     let four : at + 4 - at ≡ 4 = omega arith in
     let size : length p ≡ 188 = ap length e ∙ packet_size other bs at c.requires in
     subst (λ (n : ℕ). OnOk c.take_with.result (g.T.PartTaker.has_taken first (parts ++ packet_with other n (packet_in other (drop at bs)) ∷ [])

@@ -1,7 +1,7 @@
 use Rattle.std.proofs.Common.{rules, ◌≡◌, ◌++◌, List, subst, string_bytes}
 use Rattle.std.specs.Prelude.{OnOk, codes}
 use Rattle.event_lines.specs.FieldViews.{FieldView}
-use Rattle.events.specs.FileForms.{line_word}
+use Rattle.packet_sync.specs.FileForms.{line_word}
 use Rattle.event_lines.specs.ReportLines.{line_of, word_field}
 use Rattle.event_lines.proofs.Fields.{one}
 use Rattle.event_lines.proofs.input_lines.write_no_stream.Goals as goal

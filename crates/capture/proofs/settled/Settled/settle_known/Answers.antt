@@ -1,6 +1,7 @@
 use Rattle.std.proofs.Common.{◌≡◌, ◌<◌, ◌+◌, ◌++◌, ℕ, List, true, false, None, Some, arith, drop, length}
 use Rattle.std.proofs.lemmas.List.{length-drop}
-use Rattle.capture.specs.Captures.{Part, size_of}
+use Rattle.capture.specs.Captures.{Part}
+use Rattle.packet_sync.specs.OtherPackets.{size_of}
 use Rattle.capture.specs.Reading.{IsLast, Settles, SettlesFrom, decisive}
 use Rattle.capture.specs.declared.settled.Settled.{Settled}
 use Rattle.capture.proofs.SettledParts.{if_map, known, last_short, other_last, plain_last, size_least, size_most}

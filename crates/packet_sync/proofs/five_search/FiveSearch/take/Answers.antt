@@ -7,5 +7,5 @@ pub returns : goal.returns
 returns c = λ bytes s.
     let piece = c.args.piece.now in
     let next = c.searched_part-next.result.now in
-    piece_searched bytes piece next c.args.self.now c.search.new.self
-    (c.searched_part-next.ensures ∙ ap (λ (f : FiveView). take (4194304 - f.size) piece) c.self.view_is) c.in_ok-search.ensures s
+    piece_searched bytes piece next c.args.self.now c.search_all.new.self
+    (c.searched_part-next.ensures ∙ ap (λ (f : FiveView). take (4194304 - f.size) piece) c.self.view_is) c.in_ok-search_all.ensures s

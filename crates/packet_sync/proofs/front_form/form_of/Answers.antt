@@ -1,7 +1,7 @@
 use Rattle.std.proofs.Common.{◌∙◌, ap, sym, arith}
 use Rattle.std.proofs.lemmas.List.{take_all}
-use Rattle.capture.specs.FrontForms.{form_in}
-use Rattle.capture.proofs.front_form.form_of.Goals as goal
+use Rattle.packet_sync.specs.FrontForms.{form_in}
+use Rattle.packet_sync.proofs.front_form.form_of.Goals as goal
 
 pub returns-then-bytes-lt-FRONT_BYTES : goal.returns-then-bytes-lt-FRONT_BYTES
 returns-then-bytes-lt-FRONT_BYTES c =

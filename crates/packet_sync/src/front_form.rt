@@ -1,9 +1,8 @@
 //! What an input is by its first bytes.
 ghost use Rattle.std.specs.Prelude.{◌≡◌, nat_eq};
-ghost use Rattle.std.specs.List.{list_all, starts_with};
-ghost use Rattle.capture.specs.FrontForms as spec;
+ghost use Rattle.packet_sync.specs.FrontForms as spec;
 
-use events::FileForm;
+use crate::file_form::FileForm;
 
 /// How many bytes of the front are looked at.
 const FRONT_BYTES: usize = 188;
@@ -23,6 +22,23 @@ fn is_matroska(front: &[u8]) -> bool
     ensures { result ≡ spec.is_matroska front.now }
 {
     front.starts_with(&[0x1A, 0x45, 0xDF, 0xA3])
+}
+
+#[tactic(auto, unfolding(crate::specs::FrontForms::is_riff))]
+fn is_riff(front: &[u8], kind: &[u8]) -> bool
+    ensures { result ≡ spec.is_riff front.now kind.now }
+{
+    match front.get(8..) {
+        Some(rest) => front.starts_with(b"RIFF") && rest.starts_with(kind),
+        None => false,
+    }
+}
+
+#[tactic(auto, unfolding(crate::specs::FrontForms::is_ogg))]
+fn is_ogg(front: &[u8]) -> bool
+    ensures { result ≡ spec.is_ogg front.now }
+{
+    front.starts_with(b"OggS")
 }
 
 #[tactic(auto, unfolding(crate::specs::FrontForms::is_program_stream))]
@@ -55,9 +71,27 @@ fn is_text_byte(byte: u8) -> bool
 }
 
 fn is_text(front: &[u8]) -> bool
-    ensures { result ≡ list_all spec.is_text_byte front.now }
+    ensures { result ≡ spec.is_text front.now }
 {
-    front.iter().all(|byte| is_text_byte(*byte))
+    !front.is_empty() && front.iter().all(|byte| is_text_byte(*byte))
+}
+
+// Returns the form of a front that is no file of a container.
+#[tactic(auto, unfolding(crate::specs::FrontForms::stream_form))]
+fn stream_form(front: &[u8]) -> FileForm
+    ensures { result ≡ spec.stream_form front.now }
+{
+    if is_program_stream(front) {
+        FileForm::ProgramStream
+    } else if is_elementary_stream(front) {
+        FileForm::ElementaryStream
+    } else if is_network_capture(front) {
+        FileForm::NetworkCapture
+    } else if is_text(front) {
+        FileForm::Text
+    } else {
+        FileForm::Unknown
+    }
 }
 
 #[tactic(auto, unfolding(crate::specs::FrontForms::form_in))]
@@ -68,16 +102,14 @@ fn form_in(front: &[u8]) -> FileForm
         FileForm::Mp4
     } else if is_matroska(front) {
         FileForm::Matroska
-    } else if is_program_stream(front) {
-        FileForm::ProgramStream
-    } else if is_elementary_stream(front) {
-        FileForm::ElementaryStream
-    } else if is_network_capture(front) {
-        FileForm::NetworkCapture
-    } else if is_text(front) {
-        FileForm::Text
+    } else if is_riff(front, b"AVI ") {
+        FileForm::Avi
+    } else if is_riff(front, b"WAVE") {
+        FileForm::Wave
+    } else if is_ogg(front) {
+        FileForm::Ogg
     } else {
-        FileForm::Unknown
+        stream_form(front)
     }
 }
 

@@ -1,10 +1,11 @@
--- Bytes that are no stream of packets of 188 bytes.
+-- Bytes that are no transport stream.
 use Rattle.std.specs.Prelude.{ℕ, zero, suc, ◌+◌, ◌&&◌, ◌||◌, not, nat_le, Bool, true, false, List, length, take, Option, None, Some}
+use Rattle.packet_sync.specs.FileForms.{is_known}
+use Rattle.packet_sync.specs.FrontForms.{form_of}
 use Rattle.packet_sync.specs.OtherPackets.{other_packets}
 use Rattle.packet_sync.specs.Slips.{is_in_step}
 use Rattle.packet_sync.specs.declared.packet_sizes.OtherPackets.{OtherPackets}
-use Rattle.packet_sync.specs.declared.packet_search.WrongPackets.{WrongPackets}
-use Rattle.packet_sync.specs.declared.packet_search.WrongPackets.TheVariants.{Other, NoPackets}
+use Rattle.packet_sync.specs.declared.file_form.FileForm.{FileForm}
 
 -- five packets in a row begin there
 unfoldable pub are_five : List ℕ → ℕ → Bool
@@ -27,11 +28,15 @@ searched = 4194304
 abbrev pub lacks_five : List ℕ → Bool
 lacks_five bs = nat_le searched (length bs) && not (has_five (take searched bs))
 
-unfoldable pub wrong_by : Option OtherPackets → Bool → Option WrongPackets
-wrong_by (Some packets) lacks = Some (Other packets)
-wrong_by None true = Some NoPackets
-wrong_by None false = None
+-- no five packets in a row in the first 4 MiB; nor in fewer bytes, if the first ones show another form
+abbrev pub lacks_packets : List ℕ → Bool
+lacks_packets bs = lacks_five bs || is_known (form_of bs) && not (has_five (take searched bs))
 
--- packets of another size at the front, or no packets
-abbrev pub wrong_packets : List ℕ → Option WrongPackets
-wrong_packets bs = wrong_by (other_packets bs) (lacks_five bs)
+unfoldable pub no_stream_by : Option OtherPackets → Bool → FileForm → Option FileForm
+no_stream_by (Some packets) lacks form = None
+no_stream_by None true form = Some form
+no_stream_by None false form = None
+
+-- the form of bytes that are no transport stream: they have no packets of 188 bytes, nor packets of another size at their front
+abbrev pub no_stream : List ℕ → Option FileForm
+no_stream bs = no_stream_by (other_packets bs) (lacks_packets bs) (form_of bs)
