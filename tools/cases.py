@@ -114,6 +114,10 @@ def part(folder, word, rest, program):
     if word == "times":
         count, again, rest = rest.split(" ", 2)
         return part(folder, again, rest, program) * int(count)
+    if word == "apart":
+        before, after, name = rest.split(" ", 2)
+        data = bytes_of(folder / name, program)
+        return b"".join(joined(before) + data[at: at + 188] + joined(after) for at in range(0, len(data), 188))
     raise ValueError(f"no part begins with {word}")
 
 

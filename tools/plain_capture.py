@@ -28,6 +28,14 @@ def heads(data):
     return [int.from_bytes(data[at: at + 4], "big") for at in range(0, len(data) // 192 * 192, 192)]
 
 
+def inner(data):
+    """The bytes as packets of 188 bytes; of a last packet that is cut, those that are there."""
+    size = size_of(data)
+    if size == 188:
+        return data
+    return b"".join(data[at: at + 188] for at in range(SIZES[size], len(data), size))
+
+
 def slip_at(data, at):
     """How many bytes are left out from a place on: 0 if a packet is there."""
     after = at + 188
@@ -43,13 +51,17 @@ def form_of(data):
         return "mp4"
     if front.startswith(b"\x1A\x45\xDF\xA3"):
         return "matroska"
+    if front.startswith(b"RIFF") and front[8:12] in (b"AVI ", b"WAVE"):
+        return {b"AVI ": "avi", b"WAVE": "wav"}[front[8:12]]
+    if front.startswith(b"OggS"):
+        return "ogg"
     if front.startswith(b"\0\0\1\xBA"):
         return "program_stream"
     if front.startswith((b"\0\0\1", b"\0\0\0\1")):
         return "elementary_stream"
     if front.startswith((b"\xD4\xC3\xB2\xA1", b"\xA1\xB2\xC3\xD4", b"\x0A\x0D\x0D\x0A")):
         return "network_capture"
-    return "text" if all(32 <= byte <= 126 or byte in (9, 10, 13) for byte in front) else "unknown"
+    return "text" if front and all(32 <= byte <= 126 or byte in (9, 10, 13) for byte in front) else "unknown"
 
 
 def capture(data):

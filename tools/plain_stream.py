@@ -8,6 +8,7 @@ from pathlib import Path
 sys.dont_write_bytecode = True
 TOOLS = Path(__file__).resolve().parent
 sys.path.insert(0, str(TOOLS))
+import plain_capture
 import plain_texts as texts
 syntax = SourceFileLoader("compare_demux", str(TOOLS / "compare-demux")).load_module()
 jobs = SourceFileLoader("read_job", str(TOOLS / "read-job")).load_module()
@@ -150,25 +151,21 @@ def fields_of(p):
     return told + [name for name, there in stand if there]
 
 
-def other_packets(data):
-    """The refusal of a stream whose packets are not of 188 bytes, if three of another size stand at its front."""
-    row = lambda at, size: all(data[at + k * size: at + k * size + 1] == b"\x47" for k in range(3))
-    if row(0, 188):
+AS_IT_IS, CODED = ": ffmpeg -i IN -c copy -f mpegts OUT makes one", ": ffmpeg -i IN -f mpegts OUT makes one"
+FORMS = {"mp4": ("MP4", AS_IT_IS), "matroska": ("Matroska", AS_IT_IS), "avi": ("AVI", AS_IT_IS), "wav": ("WAV", CODED), "ogg": ("Ogg", CODED),
+         "program_stream": ("MPEG program stream", AS_IT_IS), "elementary_stream": ("elementary stream of video", CODED),
+         "network_capture": ("capture of network packets", ""), "text": ("text", ""), "unknown": ("of unknown form", "")}
+
+
+def no_stream(data):
+    """The refusal of an input that is no transport stream: no five sync bytes 188 bytes apart in its first 4 MiB, or in a shorter one of a known form."""
+    front, at, form = data[:1 << 22], -1, plain_capture.form_of(data)
+    if plain_capture.size_of(data) != 188 or len(front) < 1 << 22 and form == "unknown":
         return None
-    if row(4, 192):
-        return "packets of 192 bytes: take the 4 bytes before each of 188 away"
-    return "packets of 204 bytes: take the 16 bytes after each of 188 away" if row(0, 204) else None
-
-
-def lacks_packets(data):
-    """Whether 4 MiB are there, and have no five sync bytes 188 bytes apart."""
-    front, at = data[:1 << 22], -1
-    if len(front) < 1 << 22:
-        return False
     while (at := front.find(b"\x47", at + 1)) >= 0:
         if front[at: at + 753: 188] == b"\x47" * 5:
-            return False
-    return True
+            return None
+    return "{}, not a transport stream{}".format(*FORMS[form])
 
 
 class Stream:

@@ -91,7 +91,7 @@ unfoldable pub lacking_line : ℕ → ℕ → StreamKind → List ℕ
 lacking_line program pid kind = lacking_program program ++ (kind_text kind ++ lenient_text pid)
 
 unfoldable pub refusal_line : JobRefusal → List ℕ
-refusal_line NoPackets = codes "not a stream of 188-byte packets\n"
+refusal_line NoPackets = codes "not a transport stream\n"
 refusal_line NoAssociation = codes "no PAT: the stream is empty, or names no programs\n"
 refusal_line (NoProgram there) = codes "no PMT: no program that is asked for has one with a stream; the PAT names " ++ named_text there
 refusal_line NoStream = codes "no stream\n"

@@ -1,11 +1,8 @@
--- The lines for packets that are out of step or of another size.
-use Rattle.std.specs.Prelude.{ℕ, List, ◌++◌, flat_map, codes, decimal}
-use Rattle.job_lines.specs.RefusalLine.{refusal_line}
-use Rattle.job_programs.specs.declared.refusal.JobRefusal.TheVariants as refusals
-use Rattle.packet_sync.specs.declared.packet_search.WrongPackets.{WrongPackets}
-use Rattle.packet_sync.specs.declared.packet_search.WrongPackets.TheVariants.{Other, NoPackets}
-use Rattle.packet_sync.specs.declared.packet_sizes.OtherPackets.{OtherPackets}
-use Rattle.packet_sync.specs.declared.packet_sizes.OtherPackets.TheVariants.{Timed, Corrected}
+-- The lines for packets that are out of step, and for inputs that are no transport stream.
+use Rattle.std.specs.Prelude.{ℕ, List, [], ◌++◌, flat_map, codes, decimal}
+use Rattle.packet_sync.specs.FileForms.{words}
+use Rattle.packet_sync.specs.declared.file_form.FileForm.{FileForm}
+use Rattle.packet_sync.specs.declared.file_form.FileForm.TheVariants.{Mp4, Matroska, Avi, Wave, Ogg, ProgramStream, ElementaryStream, NetworkCapture, Text, Unknown}
 use Rattle.packet_sync.specs.declared.slip.Slip.{Slip}
 
 unfoldable pub slip_line : Slip → List ℕ
@@ -15,12 +12,19 @@ slip_line s = codes "packet " ++ decimal s.packet ++ codes " slip of " ++ decima
 abbrev pub slip_lines : List Slip → List ℕ
 slip_lines slips = flat_map slip_line slips
 
--- a stream of other packets
-unfoldable pub packets_line : OtherPackets → List ℕ
-packets_line Timed = codes "packets of 192 bytes: take the 4 bytes before each of 188 away\n"
-packets_line Corrected = codes "packets of 204 bytes: take the 16 bytes after each of 188 away\n"
+-- how ffmpeg makes a transport stream of a file: with its streams as they are, or coded again
+unfoldable pub remedy : FileForm → List ℕ
+remedy Mp4 = codes ": ffmpeg -i IN -c copy -f mpegts OUT makes one"
+remedy Matroska = codes ": ffmpeg -i IN -c copy -f mpegts OUT makes one"
+remedy Avi = codes ": ffmpeg -i IN -c copy -f mpegts OUT makes one"
+remedy ProgramStream = codes ": ffmpeg -i IN -c copy -f mpegts OUT makes one"
+remedy Wave = codes ": ffmpeg -i IN -f mpegts OUT makes one"
+remedy Ogg = codes ": ffmpeg -i IN -f mpegts OUT makes one"
+remedy ElementaryStream = codes ": ffmpeg -i IN -f mpegts OUT makes one"
+remedy NetworkCapture = []
+remedy Text = []
+remedy Unknown = []
 
--- an input that is no stream of packets of 188 bytes
-unfoldable pub wrong_line : WrongPackets → List ℕ
-wrong_line (Other packets) = packets_line packets
-wrong_line NoPackets = refusal_line refusals.NoPackets
+-- an input that is no transport stream
+abbrev pub no_stream_line : FileForm → List ℕ
+no_stream_line form = words form ++ codes ", not a transport stream" ++ remedy form ++ codes "\n"

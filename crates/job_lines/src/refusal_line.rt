@@ -276,7 +276,7 @@ pub fn write_refusal(refusal: JobRefusal, text: &mut String) -> Result<(), Alloc
     ensures { OnOk result (string_bytes text.new ≡ string_bytes text.old ++ spec.refusal_line refusal) }
 {
     match refusal {
-        JobRefusal::NoPackets => text.push_str("not a stream of 188-byte packets\n"),
+        JobRefusal::NoPackets => text.push_str("not a transport stream\n"),
         JobRefusal::NoAssociation => {
             text.push_str("no PAT: the stream is empty, or names no programs\n")
         },

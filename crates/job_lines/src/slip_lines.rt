@@ -1,11 +1,9 @@
-//! The lines for packets that are not in step, and for packets of other sizes.
+//! The lines for packets that are not in step, and for inputs that are no transport stream.
 
 ghost use Rattle.std.specs.Prelude.{◌≡◌, ◌++◌, OnOk, string_bytes};
 ghost use Rattle.job_lines.specs.SlipLines as spec;
 
-use crate::refusal_line::write_refusal;
-use job_programs::JobRefusal;
-use packet_sync::{OtherPackets, Slip, WrongPackets};
+use packet_sync::{FileForm, Slip};
 use std::alloc::AllocError;
 use std::fmt::Write;
 
@@ -28,28 +26,29 @@ pub fn write_slips(slips: &[Slip], text: &mut String) -> Result<(), AllocError>
     Ok(())
 }
 
-// Appends the line for a stream whose packets have not 188 bytes.
-#[tactic(auto, unfolding(crate::specs::SlipLines::packets_line))]
-fn write_packets(packets: OtherPackets, text: &mut String) -> Result<(), AllocError>
-    ensures { OnOk result (string_bytes text.new ≡ string_bytes text.old ++ spec.packets_line packets) }
+// Returns how ffmpeg makes a transport stream of a file of this form: with its streams as they are, if most such files
+// have streams of codings that a transport stream carries.
+#[tactic(auto, unfolding(crate::specs::SlipLines::remedy))]
+fn remedy(form: FileForm) -> &'static str
+    ensures { result.now ≡ spec.remedy form }
 {
-    match packets {
-        OtherPackets::Timed => text.push_str(
-            "packets of 192 bytes: take the 4 bytes before each of 188 away\n",
-        ),
-        OtherPackets::Corrected => text.push_str(
-            "packets of 204 bytes: take the 16 bytes after each of 188 away\n",
-        ),
+    match form {
+        FileForm::Mp4 | FileForm::Matroska | FileForm::Avi | FileForm::ProgramStream => {
+            ": ffmpeg -i IN -c copy -f mpegts OUT makes one"
+        }
+        FileForm::Wave | FileForm::Ogg | FileForm::ElementaryStream => {
+            ": ffmpeg -i IN -f mpegts OUT makes one"
+        }
+        FileForm::NetworkCapture | FileForm::Text | FileForm::Unknown => "",
     }
 }
 
-/// Appends the line for an input that is no stream of packets of 188 bytes.
-#[tactic(auto, unfolding(crate::specs::SlipLines::wrong_line))]
-pub fn write_wrong_packets(wrong: WrongPackets, text: &mut String) -> Result<(), AllocError>
-    ensures { OnOk result (string_bytes text.new ≡ string_bytes text.old ++ spec.wrong_line wrong) }
+/// Appends the line for an input that is no transport stream but of this form.
+pub fn write_no_stream(form: FileForm, text: &mut String) -> Result<(), AllocError>
+    ensures { OnOk result (string_bytes text.new ≡ string_bytes text.old ++ spec.no_stream_line form) }
 {
-    match wrong {
-        WrongPackets::Other(packets) => write_packets(packets, text),
-        WrongPackets::NoPackets => write_refusal(JobRefusal::NoPackets, text),
-    }
+    text.push_str(form.words())?;
+    text.push_str(", not a transport stream")?;
+    text.push_str(remedy(form))?;
+    text.push_str("\n")
 }

@@ -18,7 +18,7 @@ use Rattle.packet_sync.specs.declared.slip.Slip.{Slip}
 use Rattle.packet_sync.specs.declared.stretch.Stretch.{Stretch}
 use Rattle.packet_sync.proofs.Noted.{all_noted}
 use Rattle.packet_sync.proofs.Stretches.{carried_few}
-use Rattle.job_run.specs.Streams.{CarriedView, IsCarriedTo, IsOfStream, PacketsView, with_bytes}
+use Rattle.job_run.specs.Streams.{CarriedView, IsCarriedTo, IsOfPackets, PacketsView, with_bytes}
 
 -- 1. The notes
 
@@ -128,7 +128,7 @@ pub stream_ended : (bytes held : List ℕ) (at : ℕ) (p : PacketsView) (lost : 
     (falling : List ℕ) (references : List FoundPcr) (demux : StreamState) → lost ≡ p.notes.slips →
     fields ≡ p.notes.fields → length held ≤ at → IsCarriedTo bytes true (record { held = drop at held; packets = p }) → recodings ≡ [] → jumps ≡ [] → falling ≡ [] → references ≡ p.log.found →
     demux ≡ finished p.demux →
-    IsOfStream bytes (record { slips = lost; fields = fields; recodings = recodings; jumps = jumps; falling = falling }) references demux.found p.size
+    IsOfPackets bytes (record { slips = lost; fields = fields; recodings = recodings; jumps = jumps; falling = falling }) references demux.found p.size
 stream_ended bytes held at p lost fields recodings jumps falling references demux a b past so e j g r f =
     let none : drop at held ≡ [] = drop_all at held past in
     let whole : bytes ++ [] ≡ bytes = append-nil bytes in

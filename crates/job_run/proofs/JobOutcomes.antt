@@ -30,19 +30,18 @@ use Rattle.devices.proofs.Performances.{no_room, performed, unwritten}
 use Rattle.job_run.specs.declared.job_arguments.Subcommand.{Subcommand}
 use Rattle.job_run.specs.declared.job_arguments.Subcommand.TheVariants.{Whole, Describe, Units, Why}
 use Rattle.job_run.specs.JobArguments.{JobArgumentsView}
-use Rattle.packet_sync.specs.Slips.{carried}
-use Rattle.packet_sync.specs.WrongPackets.{searched, wrong_packets}
-use Rattle.packet_sync.specs.declared.packet_search.WrongPackets.{WrongPackets}
-use Rattle.job_lines.specs.SlipLines.{wrong_line}
+use Rattle.packet_sync.specs.NoStreams.{searched, no_stream}
+use Rattle.packet_sync.specs.declared.file_form.FileForm.{FileForm}
+use Rattle.job_lines.specs.SlipLines.{no_stream_line}
 use Rattle.job_run.specs.Outcomes.{BytesLead, FindingsLead, Gives, GivesJob, GivesReasons, GivesUnits, IsFound, IsReasonOutput, IsWritten, Leads, InputLeads}
 use Rattle.job_run.specs.Outcomes.{LeadsWhole, PerformsJob, ReportsRefusal, ReportsWhy, Withholds, found_line}
 use Rattle.std.specs.Int.{bytes_high_first}
 use Rattle.unit_records.specs.Records.{private_bytes, private_size, record_head, word_of}
 use Rattle.es_feed.specs.Records.{records_of, written}
 use Rattle.job_run.specs.SeveralInputs.{GivesJobIn}
-use Rattle.job_run.specs.Streams.{IsOfStream, IsRead, PacketNotesView, ReadingView, ReadsStream, asked_findings, findings_by, findings_for, notes_by}
+use Rattle.job_run.specs.Streams.{IsOfStream, IsRead, PacketNotesView, ReadingView, ReadsStream, asked_findings, findings_by, findings_for, in_step, notes_by}
 use Rattle.job_run.specs.Streams.{notes_for}
-use Rattle.job_run.proofs.Readings.{wrong_stays}
+use Rattle.job_run.proofs.Readings.{form_stays}
 use Rattle.job_programs.specs.FoundUnits.{FitsQueue}
 
 -- 1. The output of a subcommand
@@ -221,25 +220,25 @@ carried_lead arguments bytes notes said references size at_times marked findings
     let notes_are : said ≡ notes_for arguments.options bytes =
     reports ∙ ap (λ (x : JobOptionsView). notes_by x.joined references marked notes) asked
     ∙ ap₂ (λ (r : List FoundPcr) (x : List FindingView). notes_by arguments.options.joined r x notes) t.references_are asked_are
-    ∙ ap (λ (n : PacketNotesView). notes_by arguments.options.joined (references_in (carried bytes)) (asked_findings arguments.options bytes) n) t.notes_are in
-    subst (λ (x : PacketNotesView). FindingsLead arguments x (length (carried bytes) / 188) (findings_for arguments.options bytes) o) notes_are
-    (subst (λ (x : List FindingView). FindingsLead arguments said (length (carried bytes) / 188) x o) all
+    ∙ ap (λ (n : PacketNotesView). notes_by arguments.options.joined (references_in (in_step bytes)) (asked_findings arguments.options bytes) n) t.notes_are in
+    subst (λ (x : PacketNotesView). FindingsLead arguments x (length (in_step bytes) / 188) (findings_for arguments.options bytes) o) notes_are
+    (subst (λ (x : List FindingView). FindingsLead arguments said (length (in_step bytes) / 188) x o) all
     (subst (λ (n : ℕ). FindingsLead arguments said (n / 188) at_times o) t.size_is l))
 
-pub none_lead : (arguments : JobArgumentsView) (bytes : List ℕ) (o : Outcome) → None ≡ wrong_packets bytes → BytesLead arguments bytes None o →
+pub none_lead : (arguments : JobArgumentsView) (bytes : List ℕ) (o : Outcome) → None ≡ no_stream bytes → BytesLead arguments bytes None o →
     Leads arguments bytes o
-none_lead arguments bytes o e l = subst (λ (x : Option WrongPackets). BytesLead arguments bytes x o) e l
+none_lead arguments bytes o e l = subst (λ (x : Option FileForm). BytesLead arguments bytes x o) e l
 
-pub wrong_lead : (arguments : JobArgumentsView) (bytes : List ℕ) (wrong : WrongPackets) (o : Outcome) → Some wrong ≡ wrong_packets bytes →
-    o ≡ reported (wrong_line wrong) → Leads arguments bytes o
-wrong_lead arguments bytes wrong o e l = subst (λ (x : Option WrongPackets). BytesLead arguments bytes x o) e l
+pub form_lead : (arguments : JobArgumentsView) (bytes : List ℕ) (form : FileForm) (o : Outcome) → Some form ≡ no_stream bytes →
+    o ≡ reported (no_stream_line form) → Leads arguments bytes o
+form_lead arguments bytes form o e l = subst (λ (x : Option FileForm). BytesLead arguments bytes x o) e l
 
 -- The first 4 MiB show that bytes are no stream, whatever bytes follow.
-leads_on : (arguments : JobArgumentsView) (front more : List ℕ) (w : Option WrongPackets) (o : Outcome) → length front ≡ searched →
-    wrong_packets front ≡ w → is_some w ≡ true → BytesLead arguments front w o → Leads arguments (front ++ more) o
+leads_on : (arguments : JobArgumentsView) (front more : List ℕ) (w : Option FileForm) (o : Outcome) → length front ≡ searched →
+    no_stream front ≡ w → is_some w ≡ true → BytesLead arguments front w o → Leads arguments (front ++ more) o
 leads_on arguments front more None o size e some l = absurd cc
-leads_on arguments front more (Some wrong) o size e some l =
-    subst (λ (x : Option WrongPackets). BytesLead arguments (front ++ more) x o) (sym (wrong_stays front more size ∙ e)) l
+leads_on arguments front more (Some form) o size e some l =
+    subst (λ (x : Option FileForm). BytesLead arguments (front ++ more) x o) (sym (form_stays front more size ∙ e)) l
 
 pub outcome_written : (arguments : JobArgumentsView) (r : ReadingView) (o : Outcome) (input output faults : Device) (status : ℕ) → ReadsStream input (Ok r) →
     ((bytes : List ℕ) → IsRead bytes r → Leads arguments bytes o) → IsWritten o output faults status → PerformsJob arguments input output faults status
@@ -253,7 +252,7 @@ outcome_written arguments r o input output faults status (inr f) l w = inr (reco
   read = f.has.read;
   clean = f.has.clean;
   outcome = o;
-  leads = λ more. leads_on arguments f.front more (wrong_packets f.front) o f.has.size_is refl f.wrong (l f.front f.has.is);
+  leads = λ more. leads_on arguments f.front more (no_stream f.front) o f.has.size_is refl f.form (l f.front f.has.is);
   written = w;
 })
 

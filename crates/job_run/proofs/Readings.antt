@@ -1,5 +1,5 @@
 -- A stream that is being read: whether it is refused, and how much of it is read.
-use Rattle.std.proofs.Common.{◌≡◌, ◌≤◌, ◌<◌, ◌==◌, ◌&&◌, Bool, true, false, not, nat_le, List, [], ◌++◌, ℕ, ◌+◌, length, take, drop, min, refl, sym, ap, ap₂}
+use Rattle.std.proofs.Common.{◌≡◌, ◌≤◌, ◌<◌, ◌==◌, ◌&&◌, ◌⊎◌, Bool, true, false, not, nat_le, List, [], ◌++◌, ℕ, ◌+◌, length, take, drop, min, refl, sym, ap, ap₂}
 use Rattle.std.proofs.Common.{subst, ◌∙◌, append_assoc, append-nil, length-append, Option, Some, None, is_some, Result, Ok, Err, inl, inr}
 use Rattle.std.proofs.Common.{arith, eq-eqb, eqb-true, leb-false, leb-true, ◌||◌, if◌then◌else◌, ◌-◌}
 use Rattle.std.proofs.lemmas.List.{length-take-le, take-append-drop, take-append-le}
@@ -12,10 +12,16 @@ use Rattle.devices.specs.declared.halt.Halt.{Halt}
 use Rattle.devices.specs.declared.halt.Halt.TheVariants.{Read, Write, Memory}
 use Rattle.devices.proofs.TakenInput.{front_end, front_none}
 use Rattle.packet_sync.specs.PacketSearch.{IsSearched, SearchView}
-use Rattle.packet_sync.specs.WrongPackets.{has_five, searched, wrong_by, wrong_packets}
-use Rattle.packet_sync.specs.declared.packet_search.WrongPackets.{WrongPackets}
+use Rattle.packet_sync.specs.FileForms.{is_known}
+use Rattle.packet_sync.specs.FrontForms.{form_in, form_of}
+use Rattle.packet_sync.specs.NoStreams.{has_five, lacks_five, no_stream, no_stream_by, searched}
+use Rattle.packet_sync.specs.OtherPackets.{other_packets}
+use Rattle.packet_sync.specs.PacketBytes.{inner_bytes, packet_bytes, packets_in}
+use Rattle.packet_sync.specs.declared.packet_sizes.OtherPackets.{OtherPackets}
+use Rattle.packet_sync.specs.declared.file_form.FileForm.{FileForm}
 use Rattle.packet_sync.proofs.FrontBytes.{other_front}
-use Rattle.job_run.specs.Streams.{CarriedView, HasFront, HasPackets, IsCarriedTo, IsRead, ReadingView, ReadsFront, ReadsStream, TakesFront, whole_stream}
+use Rattle.packet_sync.proofs.PacketBytes.{inner_append}
+use Rattle.job_run.specs.Streams.{CarriedView, HasFront, HasPackets, InnerView, IsCarriedTo, IsInner, IsRead, ReadingView, ReadsFront, ReadsStream, TakesFront, whole_stream}
 
 -- 1. More bytes
 
@@ -24,22 +30,22 @@ pub still_refused : (bytes piece : List ℕ) (search : SearchView) (r : ReadingV
     IsRead (bytes ++ piece) (record { search = search; refused = r.refused; stream = r.stream })
 still_refused bytes piece search r is_so s so = record {
   searched = s;
-  settled = λ e more. subst (λ (x : List ℕ). is_some (wrong_packets x) ≡ true) (sym (append_assoc bytes piece more)) (so.settled is_so (piece ++ more));
+  settled = λ e more. subst (λ (x : List ℕ). is_some (no_stream x) ≡ true) (sym (append_assoc bytes piece more)) (so.settled is_so (piece ++ more));
   so_far = λ e. absurd (let both : true ≡ false = sym is_so ∙ e in cc);
 }
 
 -- that are known to be no stream
-pub refused_now : (bytes : List ℕ) (search : SearchView) (stream : CarriedView) → IsSearched bytes search →
-    ((more : List ℕ) → is_some (wrong_packets (bytes ++ more)) ≡ true) → IsRead bytes (record { search = search; refused = true; stream = stream })
-refused_now bytes search stream s wrong = record {
+pub refused_now : (bytes : List ℕ) (search : SearchView) (stream : InnerView) → IsSearched bytes search →
+    ((more : List ℕ) → is_some (no_stream (bytes ++ more)) ≡ true) → IsRead bytes (record { search = search; refused = true; stream = stream })
+refused_now bytes search stream s no_packets = record {
   searched = s;
-  settled = λ e more. wrong more;
+  settled = λ e more. no_packets more;
   so_far = λ e. absurd cc;
 }
 
 -- that are carried
-pub read_on : (bytes : List ℕ) (search : SearchView) (refused : Bool) (stream : CarriedView) → refused ≡ false → IsSearched bytes search →
-    IsCarriedTo bytes false stream → IsRead bytes (record { search = search; refused = refused; stream = stream })
+pub read_on : (bytes : List ℕ) (search : SearchView) (refused : Bool) (stream : InnerView) → refused ≡ false → IsSearched bytes search →
+    IsInner bytes stream → IsRead bytes (record { search = search; refused = refused; stream = stream })
 read_on bytes search refused stream off s so = record {
   searched = s;
   settled = λ is_so. absurd (let both : false ≡ true = sym off ∙ is_so in cc);
@@ -48,14 +54,14 @@ read_on bytes search refused stream off s so = record {
 
 -- 2. A stream of packets of 188 bytes
 
-unrefused_by : (bytes : List ℕ) (r : ReadingView) → IsRead bytes r → wrong_packets bytes ≡ None → (b : Bool) → r.refused ≡ b → r.refused ≡ false
+unrefused_by : (bytes : List ℕ) (r : ReadingView) → IsRead bytes r → no_stream bytes ≡ None → (b : Bool) → r.refused ≡ b → r.refused ≡ false
 unrefused_by bytes r so none false t = t
 unrefused_by bytes r so none true t =
-    let wrong : is_some (wrong_packets bytes) ≡ true =
-    subst (λ (x : List ℕ). is_some (wrong_packets x) ≡ true) (append-nil bytes) (so.settled t []) in
-    absurd (let no : false ≡ true = sym (ap is_some none) ∙ wrong in cc)
+    let no_packets : is_some (no_stream bytes) ≡ true =
+    subst (λ (x : List ℕ). is_some (no_stream x) ≡ true) (append-nil bytes) (so.settled t []) in
+    absurd (let no : false ≡ true = sym (ap is_some none) ∙ no_packets in cc)
 
-pub unrefused : (bytes : List ℕ) (r : ReadingView) → IsRead bytes r → wrong_packets bytes ≡ None → r.refused ≡ false
+pub unrefused : (bytes : List ℕ) (r : ReadingView) → IsRead bytes r → no_stream bytes ≡ None → r.refused ≡ false
 unrefused bytes r so none = unrefused_by bytes r so none r.refused refl
 
 -- 3. More bytes after the first ones
@@ -68,10 +74,59 @@ any_more limit bytes more long =
     let all : nat_le limit (length (bytes ++ more)) ≡ true = search (arith, longer) in
     ap₂ (λ (x y : Bool). x && y) (all ∙ sym some) (ap (λ (r : List ℕ). not (has_five r)) (take-append-le limit bytes more long))
 
--- The first 4 MiB determine whether bytes are no stream of packets of 188 bytes.
-pub wrong_stays : (front more : List ℕ) → length front ≡ searched → wrong_packets (front ++ more) ≡ wrong_packets front
-wrong_stays front more size =
-    ap₂ wrong_by (sym (other_front front more (omega (arith, size)))) (any_more 4194304 front more (omega (arith, size)))
+-- The first 4 MiB determine whether bytes are no transport stream.
+pub form_stays : (front more : List ℕ) → length front ≡ searched → no_stream (front ++ more) ≡ no_stream front
+form_stays front more size =
+    let same : take 4194304 (front ++ more) ≡ take 4194304 front = take-append-le 4194304 front more (omega (arith, size)) in
+    let form : form_of (front ++ more) ≡ form_of front = ap form_in (take-append-le 188 front more (omega (arith, size))) in
+    ap₂
+    (λ (o : Option OtherPackets) (lacks : Bool). no_stream_by o (lacks || is_known (form_of (front ++ more)) && not (has_five (take 4194304 (front ++ more))))
+    (form_of (front ++ more)))
+    (sym (other_front front more (omega (arith, size)))) (any_more 4194304 front more (omega (arith, size)))
+    ∙ ap₂ (λ (f : FileForm) (r : List ℕ). no_stream_by (other_packets front) (lacks_five front || is_known f && not (has_five r)) f) form same
+
+-- The packets of more bytes, after none or after all that show their size
+none_inner : (other : Option OtherPackets) → packet_bytes other 0 [] ≡ []
+unfolding packet_bytes inner_bytes
+none_inner None = refl
+none_inner (Some packets) = refl
+
+more_inner : (other : Option OtherPackets) (bytes piece : List ℕ) →
+    packet_bytes other 0 (bytes ++ piece) ≡ packet_bytes other 0 bytes ++ packet_bytes other (length bytes) piece
+unfolding packet_bytes
+more_inner None bytes piece = refl
+more_inner (Some packets) bytes piece = inner_append packets 0 bytes piece
+
+pub plain_is : (place : ℕ) (piece : List ℕ) → piece ≡ packet_bytes None place piece
+unfolding packet_bytes
+plain_is place piece = refl
+
+pub inner_is : (other : OtherPackets) (place : ℕ) (piece : List ℕ) → inner_bytes other place piece ≡ packet_bytes (Some other) place piece
+unfolding packet_bytes
+inner_is other place piece = refl
+
+pub none_yet : (bytes : List ℕ) → bytes ≡ [] → packets_in bytes ≡ []
+unfolding packets_in
+none_yet bytes none = subst (λ (r : List ℕ). packet_bytes (other_packets r) 0 r ≡ []) (sym none) (none_inner (other_packets []))
+
+inner_so : (bytes piece : List ℕ) → (bytes ≡ []) ⊎ (409 ≤ length bytes) → packets_in bytes ≡ packet_bytes (other_packets (bytes ++ piece)) 0 bytes
+unfolding packets_in
+inner_so bytes piece (inl none) =
+    subst (λ (r : List ℕ). packet_bytes (other_packets r) 0 r ≡ packet_bytes (other_packets (r ++ piece)) 0 r) (sym none)
+    (none_inner (other_packets []) ∙ sym (none_inner (other_packets piece)))
+inner_so bytes piece (inr long) = ap (λ (o : Option OtherPackets). packet_bytes o 0 bytes) (other_front bytes piece long)
+
+all_more : (bytes piece : List ℕ) → packets_in (bytes ++ piece) ≡
+    packet_bytes (other_packets (bytes ++ piece)) 0 bytes ++ packet_bytes (other_packets (bytes ++ piece)) (length bytes) piece
+unfolding packets_in
+all_more bytes piece = more_inner (other_packets (bytes ++ piece)) bytes piece
+
+pub packets_more : (bytes piece : List ℕ) (other : Option OtherPackets) (place : ℕ) → (bytes ≡ []) ⊎ (409 ≤ length bytes) → other ≡ other_packets (bytes ++ piece) →
+    place ≡ length bytes → packets_in (bytes ++ piece) ≡ packets_in bytes ++ packet_bytes other place piece
+packets_more bytes piece other place known is at =
+    all_more bytes piece
+    ∙ ap₂ (λ (x y : List ℕ). x ++ y) (sym (inner_so bytes piece known))
+    (ap₂ (λ (o : Option OtherPackets) (n : ℕ). packet_bytes o n piece) (sym is) (sym at))
 
 -- 4. The first 4 MiB of an input
 
@@ -105,8 +160,8 @@ short_of old new piece n r few room f is =
     (omega (arith, few, room)) (omega arith, omega (arith, few)) tt in
     inl (record { bytes = all.bytes; read = all.read; is = all.taken })
 
-taken_by : (old new : Port) (piece : List ℕ) (n : ℕ) (r : ReadingView) (result : Bool) (w : Option WrongPackets) (b : Bool) → length piece ≡ searched →
-    rooms.ReadsFront (between old new) piece n → IsRead (take n piece) r → wrong_packets (take n piece) ≡ w → (n == searched) ≡ b →
+taken_by : (old new : Port) (piece : List ℕ) (n : ℕ) (r : ReadingView) (result : Bool) (w : Option FileForm) (b : Bool) → length piece ≡ searched →
+    rooms.ReadsFront (between old new) piece n → IsRead (take n piece) r → no_stream (take n piece) ≡ w → (n == searched) ≡ b →
     result ≡ (not b || is_some w) → TakesFront (between old new) r (Ok result)
 taken_by old new piece n r result w false room f is e at same =
     subst (λ (x : Bool). TakesFront (between old new) r (Ok x)) (sym same)
@@ -117,13 +172,13 @@ taken_by old new piece n r result None true room f is e at same =
     subst (λ (x : Bool). TakesFront (between old new) r (Ok x)) (sym same) (take n piece, (front_of old new piece n r (eqb-true n searched at) f is, e))
 taken_by old new piece n r result (Some w) true room f is e at same =
     subst (λ (x : Bool). TakesFront (between old new) r (Ok x)) (sym same)
-    (inr (record { front = take n piece; has = front_of old new piece n r (eqb-true n searched at) f is; wrong = ap is_some e }))
+    (inr (record { front = take n piece; has = front_of old new piece n r (eqb-true n searched at) f is; form = ap is_some e }))
 
 pub front_taken : (old new : Port) (piece : List ℕ) (n : ℕ) (r : ReadingView) (result : Bool) → length piece ≡ searched →
-    rooms.ReadsFront (between old new) piece n → IsRead (take n piece) r → result ≡ (not (n == searched) || is_some (wrong_packets (take n piece))) →
+    rooms.ReadsFront (between old new) piece n → IsRead (take n piece) r → result ≡ (not (n == searched) || is_some (no_stream (take n piece))) →
     TakesFront (between old new) r (Ok result)
 front_taken old new piece n r result room f is same =
-    taken_by old new piece n r result (wrong_packets (take n piece)) (n == searched) room f is refl refl same
+    taken_by old new piece n r result (no_stream (take n piece)) (n == searched) room f is refl refl same
 
 -- 5. The bytes after them
 
@@ -165,7 +220,7 @@ later_failed a b c e f = subst (λ (n : ℕ). Failed n c) e f
 
 -- The whole input was read, if it is not too long.
 rest_taken : (old mid new : Port) (front : List ℕ) (s r : ReadingView) (size : ℕ) (b : Bool) → HasFront (between old mid) front s →
-    wrong_packets front ≡ None → TakesAll (λ bytes. (before : List ℕ) → IsRead before s → IsRead (before ++ bytes) r) (between mid new) size →
+    no_stream front ≡ None → TakesAll (λ bytes. (before : List ℕ) → 409 ≤ length before → IsRead before s → IsRead (before ++ bytes) r) (between mid new) size →
     nat_le size (longest_input - searched) ≡ b → ReadsStream (between old new) (if b then Ok r else Err Read)
 rest_taken old mid new front s r size true has none all within =
     let few : size ≤ longest_input - searched = leb-true size (longest_input - searched) within in
@@ -181,7 +236,7 @@ rest_taken old mid new front s r size true has none all within =
           clean = all.read.1.clean ∙ has.clean;
         },
       );
-      is = (all.taken front has.is, λ long. wrong_stays front all.bytes has.size_is ∙ none);
+      is = (all.taken front (omega (arith, has.size_is)) has.is, λ long. form_stays front all.bytes has.size_is ∙ none);
     })
 rest_taken old mid new front s r size false has none all within =
     let many : longest_input - searched < size = leb-false size (longest_input - searched) within in
@@ -195,7 +250,7 @@ rest_failed old mid new front s Write has f = absurd f
 rest_failed old mid new front s Memory has clean = clean ∙ has.clean
 
 pub rest_read : (old mid new : Port) (s r : ReadingView) (read : Result ℕ Halt) → TakesFront (between old mid) s (Ok false) →
-    TakesInput (λ bytes. (before : List ℕ) → IsRead before s → IsRead (before ++ bytes) r) (between mid new) read →
+    TakesInput (λ bytes. (before : List ℕ) → 409 ≤ length before → IsRead before s → IsRead (before ++ bytes) r) (between mid new) read →
     ReadsStream (between old new) (whole_stream read r)
 unfolding whole_stream
 rest_read old mid new s r (Ok size) t all = rest_taken old mid new t.0 s r size (nat_le size (longest_input - searched)) t.1.0 t.1.1 all refl

@@ -21,12 +21,11 @@ use Rattle.devices.specs.WholeInput.{IsWhole, ReadsInput}
 use Rattle.devices.specs.declared.halt.Halt.{Halt}
 use Rattle.devices.specs.declared.halt.Halt.TheVariants as Halted
 use Rattle.devices.proofs.NamedReaders.{is_unread}
-use Rattle.packet_sync.specs.Slips.{carried}
-use Rattle.packet_sync.specs.WrongPackets.{searched, wrong_packets}
-use Rattle.packet_sync.specs.declared.packet_search.WrongPackets.{WrongPackets}
+use Rattle.packet_sync.specs.NoStreams.{searched, no_stream}
+use Rattle.packet_sync.specs.declared.file_form.FileForm.{FileForm}
 use Rattle.job_lines.specs.InputLines.{are_lost, input_line, name_of, note_lines}
 use Rattle.job_lines.specs.RefusalLine.{refusal_in}
-use Rattle.job_lines.specs.SlipLines.{wrong_line}
+use Rattle.job_lines.specs.SlipLines.{no_stream_line}
 use Rattle.job_programs.specs.Answers.{Answers, Refuses}
 use Rattle.stamp_repair.specs.References.{references_in}
 use Rattle.packet_pcr.specs.declared.pcr_reading.FoundPcr.{FoundPcr}
@@ -38,14 +37,14 @@ use Rattle.job_programs.specs.declared.refusal.JobError.{JobError}
 use Rattle.job_programs.specs.declared.refusal.JobError.TheVariants.{Memory, Refused}
 use Rattle.job_programs.specs.declared.refusal.JobRefusal.{JobRefusal}
 use Rattle.job_inputs.proofs.JoinedStreams.{joined_found}
-use Rattle.job_run.proofs.Readings.{wrong_stays}
+use Rattle.job_run.proofs.Readings.{form_stays}
 use Rattle.job_run.specs.JobArguments.{JobArgumentsView}
 use Rattle.job_run.specs.Outcomes.{ReportsRefusal, ReportsWhy, Withholds, reports_loss, status_of, reported_lines, unless_quiet}
 use Rattle.job_run.specs.SeveralInputs.{GivesIn, InputsLead, JoinedLead, NamedStream, all_findings, all_joined, are_streams_less, input_or_line, names_of}
 use Rattle.job_run.specs.SeveralInputs.{packets_input, stream_input, stream_inputs, streams_lines, under, with_first}
 use Rattle.job_run.specs.StreamFiles.{AreNamedInputs, AreTaken, EndsAt, FilesLead, HasRead, IsInput, IsInputIn, IsInputOf, IsLedTo, IsNamedInput, IsRefusalOf}
 use Rattle.job_run.specs.StreamFiles.{IsTakenFrom, IsTakenOf, JoinedLeads, TakenLead, TakenView, read_line, stopped_by, taken_lines, headed_outcome}
-use Rattle.job_run.specs.Streams.{IsOfStream, IsRead, PacketNotesView, ReadingView, ReadsStream, asked_findings, findings_by, findings_for, notes_by, notes_for}
+use Rattle.job_run.specs.Streams.{IsOfStream, IsRead, PacketNotesView, ReadingView, ReadsStream, asked_findings, findings_by, findings_for, in_step, notes_by, notes_for}
 
 -- 1. One stream
 
@@ -72,10 +71,10 @@ is_refusal_of a notes count findings Memory o is outcome_is = absurd outcome_is
 is_refusal_of a notes count findings (Refused refusal) o is outcome_is = record { refusal = refusal; refused = is; is = outcome_is }
 
 -- A stream of packets of 188 bytes
-plain_input : (a : JobArgumentsView) (bytes : List ℕ) (x : Result JobInputView JobRefusal) → wrong_packets bytes ≡ None →
-    job_input a.options (length (carried bytes) / 188) (findings_for a.options bytes) ≡ x → stream_input a.options bytes ≡ input_or_line (notes_for a.options bytes).falling x
+plain_input : (a : JobArgumentsView) (bytes : List ℕ) (x : Result JobInputView JobRefusal) → no_stream bytes ≡ None →
+    job_input a.options (length (in_step bytes) / 188) (findings_for a.options bytes) ≡ x → stream_input a.options bytes ≡ input_or_line (notes_for a.options bytes).falling x
 unfolding packets_input
-plain_input a bytes x none is = ap (λ (p : Option WrongPackets). packets_input a.options bytes p) none
+plain_input a bytes x none is = ap (λ (p : Option FileForm). packets_input a.options bytes p) none
     ∙ ap (λ (r : Result JobInputView JobRefusal). input_or_line (notes_for a.options bytes).falling r) is
 
 of_value : (falling : List ℕ) (m : JobInputView) → input_or_line falling (Ok m) ≡ Ok m
@@ -86,8 +85,8 @@ of_refusal : (falling : List ℕ) (refusal : JobRefusal) → input_or_line falli
 unfolding input_or_line
 of_refusal falling refusal = refl
 
-of_bytes : (a : JobArgumentsView) (bytes : List ℕ) (r : Result TakenView Outcome) → wrong_packets bytes ≡ None →
-    IsInputOf a (notes_for a.options bytes) (length (carried bytes) / 188) (findings_for a.options bytes) r → IsInput a bytes r
+of_bytes : (a : JobArgumentsView) (bytes : List ℕ) (r : Result TakenView Outcome) → no_stream bytes ≡ None →
+    IsInputOf a (notes_for a.options bytes) (length (in_step bytes) / 188) (findings_for a.options bytes) r → IsInput a bytes r
 of_bytes a bytes (Ok t) none is = record {
   input_is = plain_input a bytes (Ok t.input) none is.input_is ∙ of_value (notes_for a.options bytes).falling t.input;
   streams = is.streams;
@@ -102,7 +101,7 @@ of_bytes a bytes (Err o) none is = record {
 
 pub carried_is_input : (a : JobArgumentsView) (bytes : List ℕ) (notes said : PacketNotesView) (references : List FoundPcr) (size : ℕ)
     (at_times marked findings found : List FindingView) (w : JobOptionsView) (r : Result TakenView Outcome) →
-    IsOfStream bytes notes references found size → findings ≡ found → wrong_packets bytes ≡ None → w ≡ a.options → marked ≡ as_asked w findings →
+    IsOfStream bytes notes references found size → findings ≡ found → no_stream bytes ≡ None → w ≡ a.options → marked ≡ as_asked w findings →
     said ≡ notes_by w.joined references marked notes → at_times ≡ findings_by w.joined references marked → IsInputOf a said (size / 188) at_times r →
     IsInput a bytes r
 carried_is_input a bytes notes said references size at_times marked findings found w r of same none asked marks outcome_is times is =
@@ -114,32 +113,32 @@ carried_is_input a bytes notes said references size at_times marked findings fou
     let notes_are : said ≡ notes_for a.options bytes =
     outcome_is ∙ ap (λ (x : JobOptionsView). notes_by x.joined references marked notes) asked
     ∙ ap₂ (λ (r : List FoundPcr) (x : List FindingView). notes_by a.options.joined r x notes) of.references_are asked_are
-    ∙ ap (λ (n : PacketNotesView). notes_by a.options.joined (references_in (carried bytes)) (asked_findings a.options bytes) n) of.notes_are in
+    ∙ ap (λ (n : PacketNotesView). notes_by a.options.joined (references_in (in_step bytes)) (asked_findings a.options bytes) n) of.notes_are in
     of_bytes a bytes r none
-    (subst (λ (x : PacketNotesView). IsInputOf a x (length (carried bytes) / 188) (findings_for a.options bytes) r) notes_are
-    (subst (λ (x : List FindingView). IsInputOf a said (length (carried bytes) / 188) x r) all
+    (subst (λ (x : PacketNotesView). IsInputOf a x (length (in_step bytes) / 188) (findings_for a.options bytes) r) notes_are
+    (subst (λ (x : List FindingView). IsInputOf a said (length (in_step bytes) / 188) x r) all
     (subst (λ (n : ℕ). IsInputOf a said (n / 188) at_times r) of.size_is is)))
 
 -- No stream of packets of 188 bytes
-pub wrong_is_input : (a : JobArgumentsView) (bytes : List ℕ) (wrong : WrongPackets) (o : Outcome) → Some wrong ≡ wrong_packets bytes →
-    o ≡ reported (wrong_line wrong) → IsInput a bytes (Err o)
+pub form_is_input : (a : JobArgumentsView) (bytes : List ℕ) (form : FileForm) (o : Outcome) → Some form ≡ no_stream bytes →
+    o ≡ reported (no_stream_line form) → IsInput a bytes (Err o)
 unfolding packets_input
-wrong_is_input a bytes wrong o is outcome_is = record {
-  line = wrong_line wrong;
-  refused = ap (λ (p : Option WrongPackets). packets_input a.options bytes p) (sym is);
+form_is_input a bytes form o is outcome_is = record {
+  line = no_stream_line form;
+  refused = ap (λ (p : Option FileForm). packets_input a.options bytes p) (sym is);
   is = outcome_is;
 }
 
 -- More bytes after the first 4 MiB, which show that they are no stream
-still_input : (a : JobArgumentsView) (front more : List ℕ) (w : Option WrongPackets) (x : Result TakenView Outcome) → length front ≡ searched →
-    wrong_packets front ≡ w → is_some w ≡ true → IsInput a front x → IsInput a (front ++ more) x
+still_input : (a : JobArgumentsView) (front more : List ℕ) (w : Option FileForm) (x : Result TakenView Outcome) → length front ≡ searched →
+    no_stream front ≡ w → is_some w ≡ true → IsInput a front x → IsInput a (front ++ more) x
 unfolding packets_input
 still_input a front more None x size e some is = absurd cc
-still_input a front more (Some wrong) (Ok t) size e some is =
+still_input a front more (Some form) (Ok t) size e some is =
     let no : false ≡ true = ap (λ (r : Result JobInputView (List ℕ)). is_ok r) (sym (ap (packets_input a.options front) e) ∙ is.input_is) in absurd cc
-still_input a front more (Some wrong) (Err o) size e some is = record {
+still_input a front more (Some form) (Err o) size e some is = record {
   line = is.line;
-  refused = ap (packets_input a.options (front ++ more)) (wrong_stays front more size ∙ e) ∙ sym (ap (packets_input a.options front) e) ∙ is.refused;
+  refused = ap (packets_input a.options (front ++ more)) (form_stays front more size ∙ e) ∙ sym (ap (packets_input a.options front) e) ∙ is.refused;
   is = is.is;
 }
 
@@ -171,7 +170,7 @@ named_read a files name input r x opened same (inr f) of =
     let l = lengthened input.before.bytes input.after.bytes f.front f.has.read in
     named_of a files name l.bytes x opened (subst (λ (k : Option (List ℕ)). IsWhole k l.bytes) same l.whole)
     (subst (λ (b : List ℕ). IsInput a b x) l.bytes_are
-    (still_input a f.front l.more (wrong_packets f.front) x f.has.size_is refl f.wrong (of f.front f.has.is)))
+    (still_input a f.front l.more (no_stream f.front) x f.has.size_is refl f.form (of f.front f.has.is)))
 
 -- The file can't be read to its end.
 pub named_unread : (a : JobArgumentsView) (files : Files) (name : List ℕ) (input : Device) (halt : Halt) (o : Outcome) → IsOpened files name →

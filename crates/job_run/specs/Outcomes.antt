@@ -20,8 +20,8 @@ use Rattle.other_tables.specs.declared.tables.OtherTable.{OtherTable}
 use Rattle.packet_sync.specs.Fields.{is_loss as is_field_loss}
 use Rattle.packet_sync.specs.Slips.{carried}
 use Rattle.packet_sync.specs.declared.left_out.FieldLeftOut.{FieldLeftOut}
-use Rattle.packet_sync.specs.WrongPackets.{searched, wrong_packets}
-use Rattle.packet_sync.specs.declared.packet_search.WrongPackets.{WrongPackets}
+use Rattle.packet_sync.specs.NoStreams.{searched, no_stream}
+use Rattle.packet_sync.specs.declared.file_form.FileForm.{FileForm}
 use Rattle.packet_sync.specs.declared.slip.Slip.{Slip}
 use Rattle.job_programs.specs.Warnings.{are_damaged}
 use Rattle.job_programs.specs.declared.warning.Warning.{Warning}
@@ -43,11 +43,11 @@ use Rattle.job_run.specs.JobArguments.{JobArgumentsView}
 use Rattle.job_lines.specs.FieldLines.{field_lines, reported_fields}
 use Rattle.es_feed.specs.Records.{records_of, written}
 use Rattle.job_lines.specs.RefusalLine.{refusal_in, refusal_line}
-use Rattle.job_lines.specs.SlipLines.{slip_lines, wrong_line}
+use Rattle.job_lines.specs.SlipLines.{slip_lines, no_stream_line}
 use Rattle.job_run.specs.JumpLines.{any_jump, jump_lines}
 use Rattle.job_run.specs.LeftOutCount.{count_line}
 use Rattle.job_run.specs.RecodingLines.{recodings_text}
-use Rattle.job_run.specs.Streams.{HasPackets, PacketNotesView, findings_for, notes_for}
+use Rattle.job_run.specs.Streams.{HasPackets, PacketNotesView, findings_for, in_step, notes_for}
 use Rattle.job_lines.specs.TableLines.{other_table_lines, reported_tables}
 use Rattle.job_lines.specs.WarningLines.{reported_warnings, warning_lines}
 
@@ -179,14 +179,14 @@ InputLeads arguments notes findings (Err refusal) o = o ≡ reported (refusal_in
 abbrev pub FindingsLead : JobArgumentsView → PacketNotesView → ℕ → List FindingView → Outcome → Type 0
 FindingsLead arguments notes count findings o = InputLeads arguments notes findings (job_input arguments.options count findings) o
 
--- for the bytes of a stream that are in no slip; bytes that are no stream of packets of 188 bytes are refused
-abbrev pub BytesLead : JobArgumentsView → List ℕ → Option WrongPackets → Outcome → Type 0
-BytesLead arguments bytes (Some wrong) o = o ≡ reported (wrong_line wrong)
+-- for the packets of a stream that are in no slip; bytes that are no transport stream are refused
+abbrev pub BytesLead : JobArgumentsView → List ℕ → Option FileForm → Outcome → Type 0
+BytesLead arguments bytes (Some form) o = o ≡ reported (no_stream_line form)
 BytesLead arguments bytes None o =
-    FindingsLead arguments (notes_for arguments.options bytes) (length (carried bytes) / 188) (findings_for arguments.options bytes) o
+    FindingsLead arguments (notes_for arguments.options bytes) (length (in_step bytes) / 188) (findings_for arguments.options bytes) o
 
 abbrev pub Leads : JobArgumentsView → List ℕ → Outcome → Type 0
-Leads arguments bytes o = BytesLead arguments bytes (wrong_packets bytes) o
+Leads arguments bytes o = BytesLead arguments bytes (no_stream bytes) o
 
 -- the line of the refusal, unless the error is out of memory
 abbrev pub ReportsWhy : JobError → Outcome → Type 0

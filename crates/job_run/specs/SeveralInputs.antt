@@ -8,9 +8,8 @@ use Rattle.description_parts.specs.Described.{Described}
 use Rattle.slot_plan.specs.Conditions.{IsServing}
 use Rattle.slot_plan.specs.Planned.{Planned, plan_error}
 use Rattle.slot_plan.specs.Text.{plan_text}
-use Rattle.packet_sync.specs.Slips.{carried}
-use Rattle.packet_sync.specs.WrongPackets.{wrong_packets}
-use Rattle.packet_sync.specs.declared.packet_search.WrongPackets.{WrongPackets}
+use Rattle.packet_sync.specs.NoStreams.{no_stream}
+use Rattle.packet_sync.specs.declared.file_form.FileForm.{FileForm}
 use Rattle.stream_jobs.specs.Jobs.{AllAgree, IsDescription, IsJob}
 use Rattle.job_inputs.specs.JobInput.{JobInputView, job_input}
 use Rattle.job_programs.specs.JobOptions.{JobOptionsView}
@@ -21,13 +20,13 @@ use Rattle.job_programs.specs.declared.refusal.JobRefusal.TheVariants.{NoStream}
 use Rattle.devices.specs.Outcomes.{Outcome, reported}
 use Rattle.job_lines.specs.InputLines.{are_lost, input_line, note_lines}
 use Rattle.job_lines.specs.RefusalLine.{refusal_in, refusal_line}
-use Rattle.job_lines.specs.SlipLines.{wrong_line}
+use Rattle.job_lines.specs.SlipLines.{no_stream_line}
 use Rattle.es_feed.specs.Records.{written}
 use Rattle.job_run.specs.declared.job_arguments.Subcommand.{Subcommand}
 use Rattle.job_run.specs.declared.job_arguments.Subcommand.TheVariants.{Whole, Describe, Units, Why}
 use Rattle.job_run.specs.JobArguments.{JobArgumentsView}
 use Rattle.job_run.specs.Outcomes.{GivesReasons, GivesUnits, Withholds, reports_loss, status_of, reported_lines, unless_quiet}
-use Rattle.job_run.specs.Streams.{findings_for, notes_for}
+use Rattle.job_run.specs.Streams.{findings_for, in_step, notes_for}
 
 -- a stream: the name of its file, and its bytes
 pub record NamedStream : Type 0 where
@@ -47,13 +46,13 @@ unfoldable pub input_or_line : List ℕ → Result JobInputView JobRefusal → R
 input_or_line falling (Ok m) = Ok m
 input_or_line falling (Err refusal) = Err (refusal_in falling refusal)
 
-unfoldable pub packets_input : JobOptionsView → List ℕ → Option WrongPackets → Result JobInputView (List ℕ)
-packets_input options bytes (Some wrong) = Err (wrong_line wrong)
+unfoldable pub packets_input : JobOptionsView → List ℕ → Option FileForm → Result JobInputView (List ℕ)
+packets_input options bytes (Some form) = Err (no_stream_line form)
 packets_input options bytes None =
-    input_or_line (notes_for options bytes).falling (job_input options (length (carried bytes) / 188) (findings_for options bytes))
+    input_or_line (notes_for options bytes).falling (job_input options (length (in_step bytes) / 188) (findings_for options bytes))
 
 abbrev pub stream_input : JobOptionsView → List ℕ → Result JobInputView (List ℕ)
-stream_input options bytes = packets_input options bytes (wrong_packets bytes)
+stream_input options bytes = packets_input options bytes (no_stream bytes)
 
 -- one input before the others; a line comes below the number and the name of its input
 unfoldable pub with_first : ℕ → List ℕ → Result JobInputView (List ℕ) → Result (List JobInputView) (List ℕ) → Result (List JobInputView) (List ℕ)

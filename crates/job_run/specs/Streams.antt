@@ -21,10 +21,11 @@ use Rattle.packet_sync.specs.FieldsLeftOut.{fields_left_out}
 use Rattle.packet_sync.specs.declared.field.Field.{Field}
 use Rattle.packet_sync.specs.declared.field.Field.TheVariants.{Alignment, Flags, LongHeader}
 use Rattle.packet_sync.specs.Notes.{NotesView, SayAlike, no_notes}
+use Rattle.packet_sync.specs.PacketBytes.{packets_in}
 use Rattle.packet_sync.specs.PacketSearch.{IsSearched, SearchView}
 use Rattle.packet_sync.specs.Slips.{carried, slips}
 use Rattle.packet_sync.specs.declared.left_out.FieldLeftOut.{FieldLeftOut}
-use Rattle.packet_sync.specs.WrongPackets.{searched, wrong_packets}
+use Rattle.packet_sync.specs.NoStreams.{searched, no_stream}
 use Rattle.packet_sync.specs.declared.slip.Slip.{Slip}
 use Rattle.job_inputs.specs.AskedMarks.{as_asked}
 use Rattle.job_programs.specs.JobOptions.{JobOptionsView}
@@ -35,9 +36,13 @@ use Rattle.job_programs.specs.JobOptions.{JobOptionsView}
 abbrev pub findings_of : List ℕ → List FindingView
 findings_of bytes = (finished (pushed start bytes)).found
 
--- the findings in the bytes outside slips, with the marks that are asked for
+-- the bytes of its packets outside slips, 188 bytes of each packet
+abbrev pub in_step : List ℕ → List ℕ
+in_step bytes = carried (packets_in bytes)
+
+-- the findings in these, with the marks that are asked for
 abbrev pub asked_findings : JobOptionsView → List ℕ → List FindingView
-asked_findings options bytes = as_asked options (findings_of (carried bytes))
+asked_findings options bytes = as_asked options (findings_of (in_step bytes))
 
 -- the clock references and these findings; if asked for, the references and findings of the parts of a joined recording in order, with the tables
 -- and the clock of one recording
@@ -60,7 +65,7 @@ findings_by joined references findings =
     lone_damaged (falling_by joined references findings) (timed (references_by joined references findings) (parts_by joined references findings))
 
 abbrev pub findings_for : JobOptionsView → List ℕ → List FindingView
-findings_for options bytes = findings_by options.joined (references_in (carried bytes)) (asked_findings options bytes)
+findings_for options bytes = findings_by options.joined (references_in (in_step bytes)) (asked_findings options bytes)
 
 -- notes on the packets of a stream: its slips, the fields that are not written again, the changes of codings in a joined recording, and in any other
 -- stream the jumps ahead of its clocks, and the PIDs of streams whose clocks go back
@@ -71,8 +76,9 @@ pub record PacketNotesView : Type 0 where
   pub jumps : List Cut
   pub falling : List ℕ
 
+-- notes on packets of 188 bytes
 abbrev pub notes_of : List ℕ → PacketNotesView
-notes_of bytes = record { slips = slips bytes; fields = fields_left_out bytes; recodings = []; jumps = []; falling = [] }
+notes_of packets = record { slips = slips packets; fields = fields_left_out packets; recodings = []; jumps = []; falling = [] }
 
 unfoldable pub recodings_by : Bool → List FindingView → List Recoding
 recodings_by false findings = []
@@ -103,14 +109,18 @@ notes_by joined references findings notes =
     (jumps_by joined references findings) (falling_by joined references findings) notes
 
 abbrev pub notes_for : JobOptionsView → List ℕ → PacketNotesView
-notes_for options bytes = notes_by options.joined (references_in (carried bytes)) (asked_findings options bytes) (notes_of bytes)
+notes_for options bytes = notes_by options.joined (references_in (in_step bytes)) (asked_findings options bytes) (notes_of (packets_in bytes))
 
--- the notes on a stream, the references and the findings in its bytes outside slips, and the number of these bytes
-pub record IsOfStream (bytes : List ℕ) (notes : PacketNotesView) (references : List FoundPcr) (found : List FindingView) (size : ℕ) : Type 0 where
-  pub notes_are : notes ≡ notes_of bytes
-  pub references_are : references ≡ references_in (carried bytes)
-  pub found_is : found ≡ findings_of (carried bytes)
-  pub size_is : size ≡ length (carried bytes)
+-- the notes on packets of 188 bytes, the references and the findings in their bytes outside slips, and the number of these bytes
+pub record IsOfPackets (packets : List ℕ) (notes : PacketNotesView) (references : List FoundPcr) (found : List FindingView) (size : ℕ) : Type 0 where
+  pub notes_are : notes ≡ notes_of packets
+  pub references_are : references ≡ references_in (carried packets)
+  pub found_is : found ≡ findings_of (carried packets)
+  pub size_is : size ≡ length (carried packets)
+
+-- the same of the packets of a stream
+abbrev pub IsOfStream : List ℕ → PacketNotesView → List FoundPcr → List FindingView → ℕ → Type 0
+IsOfStream bytes notes references found size = IsOfPackets (packets_in bytes) notes references found size
 
 -- 2. A stream that comes
 
@@ -142,23 +152,33 @@ pub record IsCarriedTo (bytes : List ℕ) (ended : Bool) (s : CarriedView) : Typ
   pub demux_is : s.packets.demux ≡ pushed start gone
   pub size_is : s.packets.size ≡ length gone
 
+-- the number of bytes of a stream so far, and the state after its packets
+pub record InnerView : Type 0 where
+  pub size : ℕ
+  pub stream : CarriedView
+
+-- the state after these bytes of a stream
+pub record IsInner (bytes : List ℕ) (s : InnerView) : Type 0 where
+  pub size_is : s.size ≡ length bytes
+  pub so_far : IsCarriedTo (packets_in bytes) false s.stream
+
 -- the search for packets, whether the bytes are known to be no stream, and the state if they are not
 pub record ReadingView : Type 0 where
   pub search : SearchView
   pub refused : Bool
-  pub stream : CarriedView
+  pub stream : InnerView
 
 -- these bytes came
 pub record IsRead (bytes : List ℕ) (r : ReadingView) : Type 0 where
   pub searched : IsSearched bytes r.search
-  pub settled : r.refused ≡ true → (more : List ℕ) → is_some (wrong_packets (bytes ++ more)) ≡ true
-  pub so_far : r.refused ≡ false → IsCarriedTo bytes false r.stream
+  pub settled : r.refused ≡ true → (more : List ℕ) → is_some (no_stream (bytes ++ more)) ≡ true
+  pub so_far : r.refused ≡ false → IsInner bytes r.stream
 
 -- 3. A stream that is read
 
--- the first 4 MiB, if there are so many bytes, do not show that they are no stream of packets of 188 bytes
+-- the first 4 MiB, if there are so many bytes, do not show that they are no transport stream
 abbrev pub HasPackets : List ℕ → Type 0
-HasPackets bytes = searched ≤ length bytes → wrong_packets bytes ≡ None
+HasPackets bytes = searched ≤ length bytes → no_stream bytes ≡ None
 
 -- the first 4 MiB of the input were read
 pub record HasFront (input : Device) (front : List ℕ) (r : ReadingView) : Type 0 where
@@ -167,11 +187,11 @@ pub record HasFront (input : Device) (front : List ℕ) (r : ReadingView) : Type
   pub clean : IsClean input
   pub is : IsRead front r
 
--- they show that it is no stream of packets of 188 bytes: no more is read
+-- they show that it is no transport stream: no more is read
 pub record ReadsFront (input : Device) (r : ReadingView) : Type 0 where
   pub front : List ℕ
   pub has : HasFront input front r
-  pub wrong : is_some (wrong_packets front) ≡ true
+  pub form : is_some (no_stream front) ≡ true
 
 -- otherwise the whole input was read; or a call of the reader failed, or the input is too long; or there was no memory for it
 abbrev pub ReadsStream : Device → Result ReadingView Halt → Type 0
@@ -181,7 +201,7 @@ ReadsStream input (Err halt) = ReadsInput input (Err halt)
 -- whether no more is to be read after the first 4 MiB
 abbrev pub TakesFront : Device → ReadingView → Result Bool Halt → Type 0
 TakesFront input r (Ok true) = ReadsStream input (Ok r)
-TakesFront input r (Ok false) = (front : List ℕ) × (HasFront input front r × (wrong_packets front ≡ None))
+TakesFront input r (Ok false) = (front : List ℕ) × (HasFront input front r × (no_stream front ≡ None))
 TakesFront input r (Err halt) = ReadsStream input (Err halt)
 
 -- the stream, if as many bytes after its first 4 MiB were read, and it is not too long

@@ -196,7 +196,7 @@ impl CarriedStream {
     /// Ends the stream.
     pub(crate) fn end(self) -> Result<ReadStream, AllocError>
         ensures { (bytes : List ℕ) → spec.IsCarriedTo bytes false self →
-            IfOk result (λ r. spec.IsOfStream bytes r.notes r.references.items r.demux.found r.size) }
+            IfOk result (λ r. spec.IsOfPackets bytes r.notes r.references.items r.demux.found r.size) }
     {
         let alloc = self.alloc;
         let mut packets = self.packets;

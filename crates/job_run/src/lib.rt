@@ -1,7 +1,8 @@
 //! What `tsjob` makes of a transport stream: a job or a part of it, or why there is none, its lines, and the status.
 //!
 //! `job_arguments` is the request. `reading` takes the bytes of a stream piece by piece (only the first 4 MiB of an
-//! input that has no packets), and `carried_stream` puts the packets in step through a demultiplexer (`specs/Streams`);
+//! input that has no packets), `inner_stream` takes its packets, of 188, 192 or 204 bytes, and `carried_stream` puts
+//! those in step through a demultiplexer (`specs/Streams`);
 //! `outcome` makes the job of its findings, and `reason_output` says why there is no plan (`specs/Outcomes`). `written`
 //! reads a stream, makes its outcome and writes it to the program's writers. `stream_files` takes streams from named
 //! files (`specs/StreamFiles`), and `files_outcome` makes one job of all of them (`specs/SeveralInputs`). `job_lines`
@@ -11,6 +12,7 @@
 
 mod carried_stream;
 mod files_outcome;
+mod inner_stream;
 mod job_arguments;
 mod jump_lines;
 mod laws;

@@ -5,7 +5,7 @@ ghost use Rattle.std.specs.Prelude.{string_bytes};
 ghost use Rattle.pid_findings.specs.Shown.{finding_view};
 ghost use Rattle.pid_findings.specs.Views.{FindingView};
 ghost use Rattle.other_tables.specs.OtherTables as found;
-ghost use Rattle.packet_sync.specs.WrongPackets.{wrong_packets};
+ghost use Rattle.packet_sync.specs.NoStreams.{no_stream};
 ghost use Rattle.slot_plan.specs.Planned.{plan_error};
 ghost use Rattle.slot_plan.specs.Text.{plan_text};
 ghost use Rattle.stream_jobs.specs.Jobs.{IsDescription};
@@ -19,7 +19,7 @@ ghost use Rattle.job_run.specs.RecodingLines.{recodings_text};
 ghost use Rattle.job_run.specs.SeveralInputs.{GivesIn, GivesJobIn};
 ghost use Rattle.job_run.specs.Streams.{IsRead};
 ghost use Rattle.devices.specs.Outcomes.{reported};
-ghost use Rattle.job_lines.specs.SlipLines.{wrong_line};
+ghost use Rattle.job_lines.specs.SlipLines.{no_stream_line};
 ghost use Rattle.job_inputs.specs.JobInput.{AreStreams};
 
 use crate::carried_stream::{PacketNotes, ReadStream};
@@ -33,12 +33,12 @@ use crate::timed_text::job_findings;
 use job_inputs::{JobInput, job_input, mark_as_asked};
 use job_lines::{
     Reporting, are_missed, are_needed, is_damaged, reported_fields, reported_tables,
-    reported_warnings, write_fields, write_other_tables, write_refusal, write_refusal_in,
-    write_slips, write_warnings, write_wrong_packets,
+    reported_warnings, write_fields, write_no_stream, write_other_tables, write_refusal,
+    write_refusal_in, write_slips, write_warnings,
 };
 use job_programs::{JobError, JobOptions, Warning};
 use other_tables::{OtherTable, other_tables};
-use packet_sync::{FieldLeftOut, Slip, WrongPackets};
+use packet_sync::{FieldLeftOut, FileForm, Slip};
 use pes_packet::Unit;
 use pid_findings::Finding;
 use slot_plan::Plan;
@@ -387,23 +387,23 @@ fn findings_outcome(
     }
 }
 
-// Returns the outcome for an input that is no stream of packets of 188 bytes.
-pub(crate) fn wrong_outcome(alloc: Global, wrong: WrongPackets) -> Result<JobOutcome, AllocError>
-    ensures { IfOk result (λ a. a ≡ reported (wrong_line wrong)) }
+// Returns the outcome for an input that is no transport stream but of this form.
+pub(crate) fn no_stream_outcome(alloc: Global, form: FileForm) -> Result<JobOutcome, AllocError>
+    ensures { IfOk result (λ a. a ≡ reported (no_stream_line form)) }
 {
     let mut report = String::new(alloc);
-    write_wrong_packets(wrong, &mut report)?;
+    write_no_stream(form, &mut report)?;
     Ok(without_output(alloc, report))
 }
 
-// Returns the outcome for a stream that was read, of packets of 188 bytes.
+// Returns the outcome for a transport stream that was read.
 #[tactic(auto, using(crate::proofs::JobOutcomes::carried_lead))]
 fn carried_outcome(
     alloc: Global,
     arguments: &JobArguments<'_>,
     stream: StreamReading,
 ) -> Result<JobOutcome, AllocError>
-    ensures { (bytes : List ℕ) → IsRead bytes stream → wrong_packets bytes ≡ None →
+    ensures { (bytes : List ℕ) → IsRead bytes stream → no_stream bytes ≡ None →
         IfOk result (λ a. spec.BytesLead arguments.now bytes None a) }
 {
     let ReadStream {
@@ -421,7 +421,7 @@ fn carried_outcome(
 }
 
 /// Returns the outcome for a stream that was read.
-#[tactic(auto, using(crate::proofs::JobOutcomes::none_lead, crate::proofs::JobOutcomes::wrong_lead))]
+#[tactic(auto, using(crate::proofs::JobOutcomes::none_lead, crate::proofs::JobOutcomes::form_lead))]
 pub(crate) fn stream_outcome(
     alloc: Global,
     arguments: &JobArguments<'_>,
@@ -429,11 +429,11 @@ pub(crate) fn stream_outcome(
 ) -> Result<JobOutcome, AllocError>
     ensures { (bytes : List ℕ) → IsRead bytes stream → IfOk result (λ a. spec.Leads arguments.now bytes a) }
 {
-    match stream.wrong_packets() {
-        Some(wrong) => {
+    match stream.no_stream() {
+        Some(form) => {
             // By a call: at the end of a function the drop of each part would be a step of its proof.
             drop(stream);
-            Ok(wrong_outcome(alloc, wrong)?)
+            Ok(no_stream_outcome(alloc, form)?)
         }
         None => Ok(carried_outcome(alloc, arguments, stream)?),
     }

@@ -1,28 +1,29 @@
 //! A transport stream, read piece by piece.
-ghost use Rattle.std.specs.Prelude.{◌≡◌, ◌==◌, ◌||◌, not, is_some, ◌++◌, [], IfErr, IfOk, List, None, Ok, OnOk, ℕ, length};
+ghost use Rattle.std.specs.Prelude.{◌≡◌, ◌⊎◌, ◌≤◌, ◌==◌, ◌||◌, not, is_some, ◌++◌, [], IfErr, IfOk, List, None, Ok, OnOk, ℕ, length};
 ghost use Rattle.devices.specs.Devices.{Port, between, reads};
-ghost use Rattle.packet_sync.specs.WrongPackets.{searched, wrong_packets};
+ghost use Rattle.packet_sync.specs.NoStreams.{searched, no_stream};
 ghost use Rattle.job_run.specs.Streams as spec;
 
-use crate::carried_stream::{CarriedStream, ReadStream};
+use crate::carried_stream::ReadStream;
+use crate::inner_stream::InnerStream;
 use counted_io::Source;
 use devices::{Halt, LONGEST_INPUT, PieceTaker, new_piece, read_piece, take_input};
-use packet_sync::{PacketSearch, WrongPackets};
+use packet_sync::{FileForm, PacketSearch};
 use std::alloc::{AllocError, Global};
 use std::marker::Model;
 
-/// How many bytes at the front of an input show whether it is a stream of packets of 188 bytes.
+/// How many bytes at the front of an input show whether it is a transport stream.
 const FRONT: usize = 1 << 22;
 
 /// The size of a piece of the other bytes.
 const PIECE: usize = 1 << 18;
 
-/// A stream that is being read. Once its bytes are known to be no stream of packets of 188 bytes, no more are kept.
+/// A stream that is being read. Once its bytes are known to be no transport stream, no more are kept.
 #[derive(Drop)]
 pub(crate) struct StreamReading {
     search: PacketSearch,
     refused: bool,
-    stream: CarriedStream,
+    stream: InnerStream,
 }
 
 // A contract sees its parts.
@@ -42,13 +43,13 @@ impl StreamReading {
         StreamReading {
             search: PacketSearch::new(alloc),
             refused: false,
-            stream: CarriedStream::new(alloc),
+            stream: InnerStream::new(alloc),
         }
     }
 
-    // Takes the next bytes.
+    // Takes the next bytes: the first bytes, or bytes after all that show the size of the packets.
     fn take(&mut self, piece: &[u8]) -> Result<(), AllocError>
-        ensures { (bytes : List ℕ) → spec.IsRead bytes self.old →
+        ensures { (bytes : List ℕ) → (bytes ≡ []) ⊎ (409 ≤ length bytes) → spec.IsRead bytes self.old →
             OnOk result (spec.IsRead (bytes ++ piece.now) self.new) }
     {
         self.search.take(piece)?;
@@ -59,20 +60,21 @@ impl StreamReading {
             self.refused = true;
             return Ok(());
         }
-        self.stream.take(piece)?;
+        let other = self.search.other_packets();
+        self.stream.take(other, piece)?;
         Ok(())
     }
 
-    /// Returns why the bytes are no stream of packets of 188 bytes, if they are none.
-    pub(crate) fn wrong_packets(&self) -> Option<WrongPackets>
-        ensures { (bytes : List ℕ) → spec.IsRead bytes self.now → result ≡ wrong_packets bytes }
+    /// Returns what the bytes are, if they are no transport stream.
+    pub(crate) fn no_stream(&self) -> Option<FileForm>
+        ensures { (bytes : List ℕ) → spec.IsRead bytes self.now → result ≡ no_stream bytes }
     {
-        self.search.wrong_packets()
+        self.search.no_stream()
     }
 
-    /// Ends the stream, which has packets of 188 bytes.
+    /// Ends the stream, which is a transport stream.
     pub(crate) fn end(self) -> Result<ReadStream, AllocError>
-        ensures { (bytes : List ℕ) → spec.IsRead bytes self → wrong_packets bytes ≡ None →
+        ensures { (bytes : List ℕ) → spec.IsRead bytes self → no_stream bytes ≡ None →
             IfOk result (λ r. spec.IsOfStream bytes r.notes r.references.items r.demux.found r.size) }
     {
         self.stream.end()
@@ -83,7 +85,7 @@ impl PieceTaker for StreamReading {
     ghost unit = { 1 };
 
     ghost has_taken = { λ first bytes now.
-        (before : List ℕ) → spec.IsRead before first → spec.IsRead (before ++ bytes) now };
+        (before : List ℕ) → 409 ≤ length before → spec.IsRead before first → spec.IsRead (before ++ bytes) now };
 
     fn take_piece(&mut self, piece: &[u8]) -> Result<(), Halt> {
         match self.take(piece) {
@@ -93,20 +95,20 @@ impl PieceTaker for StreamReading {
     }
 }
 
-// Returns whether no more is to be read after the first `size` bytes: the input has ended, or these 4 MiB are no stream
-// of packets of 188 bytes.
-fn is_over(size: usize, wrong: Option<WrongPackets>) -> bool
-    ensures { result ≡ (not (size == searched) || is_some wrong) }
+// Returns whether no more is to be read after the first `size` bytes: the input has ended, or these 4 MiB are no
+// transport stream.
+fn is_over(size: usize, form: Option<FileForm>) -> bool
+    ensures { result ≡ (not (size == searched) || is_some form) }
 {
-    size != FRONT || wrong.is_some()
+    size != FRONT || form.is_some()
 }
 
 // Returns whether no more is to be read after the first `size` bytes, which the stream took.
 fn has_ended(size: usize, stream: &StreamReading) -> bool
     ensures { (bytes : List ℕ) → spec.IsRead bytes stream.now →
-        result ≡ (not (size == searched) || is_some (wrong_packets bytes)) }
+        result ≡ (not (size == searched) || is_some (no_stream bytes)) }
 {
-    is_over(size, stream.wrong_packets())
+    is_over(size, stream.no_stream())
 }
 
 // Takes the first 4 MiB of the input, or all of it if it is shorter. Returns whether no more is to be read.
@@ -175,8 +177,7 @@ fn take_rest<R: Source>(
     whole_stream(read, stream)
 }
 
-/// Reads the whole input, of 2^40 bytes at most; only its first 4 MiB if these show that it is no stream of packets of
-/// 188 bytes.
+/// Reads the whole input, of 2^40 bytes at most; only its first 4 MiB if these show that it is no transport stream.
 pub(crate) fn read_stream<R: Source>(alloc: Global, input: &mut R) -> Result<StreamReading, Halt>
     ensures { spec.ReadsStream (reads R.Source input.old input.new) result }
 {

@@ -5,14 +5,14 @@ ghost use Rattle.pid_findings.specs.Shown.{finding_view};
 ghost use Rattle.pid_findings.specs.Views.{FindingView};
 ghost use Rattle.devices.specs.Files.{files_of};
 ghost use Rattle.other_tables.specs.OtherTables as tables;
-ghost use Rattle.packet_sync.specs.WrongPackets.{wrong_packets};
+ghost use Rattle.packet_sync.specs.NoStreams.{no_stream};
 ghost use Rattle.job_run.specs.Outcomes.{reports_loss, reported_lines};
 ghost use Rattle.job_run.specs.StreamFiles as spec;
 ghost use Rattle.job_run.specs.Streams.{IsRead};
 
 use crate::carried_stream::{PacketNotes, ReadStream};
 use crate::job_arguments::JobArguments;
-use crate::outcome::{JobOutcome, only_text, refused_stream, reported_of, wrong_outcome};
+use crate::outcome::{JobOutcome, no_stream_outcome, only_text, refused_stream, reported_of};
 use crate::reading::{StreamReading, read_stream};
 use crate::timed_text::job_findings;
 use devices::{Halt, NamedFiles};
@@ -77,14 +77,14 @@ fn taken_or_refused(
     }
 }
 
-// Returns what a job takes of a stream that was read, of packets of 188 bytes.
+// Returns what a job takes of a transport stream that was read.
 #[tactic(auto, using(crate::proofs::StreamFiles::carried_is_input))]
 fn carried_input(
     alloc: Global,
     arguments: &JobArguments<'_>,
     stream: StreamReading,
 ) -> Result<Result<TakenStream, JobOutcome>, AllocError>
-    ensures { (bytes : List ℕ) → IsRead bytes stream → wrong_packets bytes ≡ None →
+    ensures { (bytes : List ℕ) → IsRead bytes stream → no_stream bytes ≡ None →
         IfOk result (spec.IsInput arguments.now bytes) }
 {
     let ReadStream {
@@ -102,7 +102,7 @@ fn carried_input(
 }
 
 // Returns what a job takes of a stream that was read.
-#[tactic(auto, using(crate::proofs::StreamFiles::wrong_is_input))]
+#[tactic(auto, using(crate::proofs::StreamFiles::form_is_input))]
 fn read_input(
     alloc: Global,
     arguments: &JobArguments<'_>,
@@ -110,11 +110,11 @@ fn read_input(
 ) -> Result<Result<TakenStream, JobOutcome>, AllocError>
     ensures { (bytes : List ℕ) → IsRead bytes stream → IfOk result (spec.IsInput arguments.now bytes) }
 {
-    match stream.wrong_packets() {
-        Some(wrong) => {
+    match stream.no_stream() {
+        Some(form) => {
             // By a call: at the end of a function the drop of each part would be a step of its proof.
             drop(stream);
-            Ok(Err(wrong_outcome(alloc, wrong)?))
+            Ok(Err(no_stream_outcome(alloc, form)?))
         }
         None => Ok(carried_input(alloc, arguments, stream)?),
     }

@@ -5,9 +5,8 @@ use Rattle.std.specs.Prelude.{is_ok}
 use Rattle.std.specs.List.{AllZip}
 use Rattle.clap.specs.Words.{Text}
 use Rattle.pid_findings.specs.Views.{FindingView}
-use Rattle.packet_sync.specs.Slips.{carried}
-use Rattle.packet_sync.specs.WrongPackets.{wrong_packets}
-use Rattle.packet_sync.specs.declared.packet_search.WrongPackets.{WrongPackets}
+use Rattle.packet_sync.specs.NoStreams.{no_stream}
+use Rattle.packet_sync.specs.declared.file_form.FileForm.{FileForm}
 use Rattle.es_units.proofs.KeptDeclarations.{units_kept}
 use Rattle.job_inputs.specs.JobInput.{JobInputView, job_input}
 use Rattle.job_programs.specs.JobOptions.{JobOptionsView}
@@ -28,7 +27,7 @@ use Rattle.job_run.specs.Outcomes.{IsWritten}
 use Rattle.job_run.specs.SeveralInputs.{GivesIn, GivesJobIn, InputsLead, JoinedLead, NamedStream, all_findings, all_joined, input_or_line, packets_input}
 use Rattle.job_run.specs.SeveralInputs.{stream_input, stream_inputs, with_first}
 use Rattle.job_run.specs.StreamFiles.{FilesLead, HasRead, IsStop, PerformsFiles, headed_outcome}
-use Rattle.job_run.specs.Streams.{findings_for, notes_for}
+use Rattle.job_run.specs.Streams.{findings_for, in_step, notes_for}
 use Rattle.tsjob_cli.specs.Arguments.{arguments_in}
 use Rattle.tsjob_cli.specs.FileWords.{file_arguments, file_words, option_words, unless_streamed}
 use Rattle.checked_jobs.specs.declared.multiplexing.MuxOptions.{MuxOptions}
@@ -89,14 +88,14 @@ unfolding input_or_line
 its_input falling (Ok x) m e = let same : x ≡ m = cc in ap (λ (y : JobInputView). Ok y) same
 its_input falling (Err refusal) m e = absurd cc
 
-of_packets : (w : JobOptionsView) (bytes : List ℕ) (p : Option WrongPackets) (m : JobInputView) → packets_input w bytes p ≡ Ok m →
-    job_input w (length (carried bytes) / 188) (findings_for w bytes) ≡ Ok m
+of_packets : (w : JobOptionsView) (bytes : List ℕ) (p : Option FileForm) (m : JobInputView) → packets_input w bytes p ≡ Ok m →
+    job_input w (length (in_step bytes) / 188) (findings_for w bytes) ≡ Ok m
 unfolding packets_input
-of_packets w bytes (Some wrong) m e = absurd cc
-of_packets w bytes None m e = its_input (notes_for w bytes).falling (job_input w (length (carried bytes) / 188) (findings_for w bytes)) m e
+of_packets w bytes (Some form) m e = absurd cc
+of_packets w bytes None m e = its_input (notes_for w bytes).falling (job_input w (length (in_step bytes) / 188) (findings_for w bytes)) m e
 
 its_findings : (w : JobOptionsView) (bytes : List ℕ) (m : JobInputView) → stream_input w bytes ≡ Ok m → TakesInput w (findings_for w bytes) m
-its_findings w bytes m e = record { count = length (carried bytes) / 188; is = of_packets w bytes (wrong_packets bytes) m e }
+its_findings w bytes m e = record { count = length (in_step bytes) / 188; is = of_packets w bytes (no_stream bytes) m e }
 
 record FirstOf (r : Result JobInputView (List ℕ)) (rest : Result (List JobInputView) (List ℕ)) (ms : List JobInputView) : Type 0 where
   first : JobInputView

@@ -9,7 +9,6 @@ use Rattle.stamp_repair.proofs.OtherPids.{others_stay}
 use Rattle.stamp_repair.specs.LoneStamps.{damaged, is_on}
 use Rattle.stamp_repair.specs.declared.search.LonePes.{LonePes}
 use Rattle.stamp_repair.proofs.DamagedFindings.{unfound_stay}
-use Rattle.packet_sync.specs.Slips.{carried}
 use Rattle.es_moments.specs.ApartUnits.{apart_units}
 use Rattle.es_units.specs.CarriedUnits.{Ignored, carried_units, role_of, apart_wire_units}
 use Rattle.es_units.proofs.CarriedUnits.{same_units}
@@ -17,7 +16,7 @@ use Rattle.es_feed.specs.EachStream.{if_start, next_starts, one_by_one, starts_n
 use Rattle.es_units.specs.Marking.{MarkingView, all_marked, is_aligned, type_of}
 use Rattle.es_units.proofs.MarkedFindings.{marked_by_pid}
 use Rattle.job_inputs.specs.AskedMarks.{marking_of}
-use Rattle.job_run.specs.Streams.{findings_of}
+use Rattle.job_run.specs.Streams.{findings_of, in_step}
 use Rattle.tsjob_cli.specs.StreamedUnits.{access_of}
 use Rattle.laws_pipe.specs.StreamedUnits.{AreMarkedAlike, AskAlike}
 use Rattle.es_moments.specs.WireUnits.{CarriedUnit}
@@ -117,7 +116,7 @@ wire_ordered lone pid fs none =
 pub ask_alike : AskAlike
 unfolding marking_of access_of
 ask_alike a w d bytes pid none other aligned =
-    let whole : (marking_of a.options (findings_of (carried bytes))).access ≡ [] = rw none refl in
+    let whole : (marking_of a.options (findings_of (in_step bytes))).access ≡ [] = rw none refl in
     let streamed : access_of w.mark_access d.streams ≡ [] = rw other refl in
     record {
       typed = ap (type_of pid) (whole ∙ sym streamed);

@@ -4,9 +4,8 @@ use Rattle.std.proofs.Common.{subst, arith, is_some, inl, inr, All}
 use Rattle.std.specs.Io.KnownBytes.{Appends}
 use Rattle.clap.specs.Words.{Text}
 use Rattle.pid_findings.specs.Views.{FindingView}
-use Rattle.packet_sync.specs.Slips.{carried}
-use Rattle.packet_sync.specs.WrongPackets.{wrong_packets}
-use Rattle.packet_sync.specs.declared.packet_search.WrongPackets.{WrongPackets}
+use Rattle.packet_sync.specs.NoStreams.{no_stream}
+use Rattle.packet_sync.specs.declared.file_form.FileForm.{FileForm}
 use Rattle.es_units.proofs.KeptDeclarations.{units_kept}
 use Rattle.job_inputs.specs.JobInput.{JobInputView, job_input}
 use Rattle.job_programs.specs.Information.{information_of}
@@ -28,7 +27,7 @@ use Rattle.job_run.specs.declared.job_arguments.Subcommand.{Subcommand}
 use Rattle.job_run.specs.JobArguments.{JobArgumentsView}
 use Rattle.tsjob_cli.specs.Arguments.{arguments_in}
 use Rattle.job_run.specs.Outcomes.{BytesLead, Gives, GivesJob, InputLeads, Leads}
-use Rattle.job_run.specs.Streams.{findings_for, notes_for}
+use Rattle.job_run.specs.Streams.{findings_for, in_step, notes_for}
 use Rattle.checked_jobs.specs.declared.multiplexing.MuxOptions.{MuxOptions}
 use Rattle.checked_jobs.specs.MuxJobs.{MuxJobView, mux_job_of}
 use Rattle.checked_jobs.specs.Multiplexing.{IsKept, KeepsPromises, KeptUnlessRefused, Muxes, cause_of, multiplexed, packets_of, unless_refused, with_job}
@@ -87,24 +86,24 @@ taken (Some xs) (Some ys) bytes output b a e =
 -- The stream led to a job.
 pub record GivenOf (a : JobArgumentsView) (bytes output : List ℕ) : Type 0 where
   pub input : JobInputView
-  pub input_is : job_input a.options (length (carried bytes) / 188) (findings_for a.options bytes) ≡ Ok input
+  pub input_is : job_input a.options (length (in_step bytes) / 188) (findings_for a.options bytes) ≡ Ok input
   pub gives : Gives a.subcommand a.options (findings_for a.options bytes) input output
 
 pub none_written : (o : Outcome) (line : List ℕ) → o ≡ reported line → 0 < length o.output → ⊥
 none_written o line e some = let none : length o.output ≡ 0 = ap (λ (x : Outcome). length x.output) e in absurd (omega (arith, none, some))
 
 given_by : (a : JobArgumentsView) (bytes : List ℕ) (o : Outcome) (r : Result JobInputView JobRefusal) →
-    job_input a.options (length (carried bytes) / 188) (findings_for a.options bytes) ≡ r →
+    job_input a.options (length (in_step bytes) / 188) (findings_for a.options bytes) ≡ r →
     InputLeads a (notes_for a.options bytes) (findings_for a.options bytes) r o → 0 < length o.output →
     GivenOf a bytes o.output
 given_by a bytes o (Err refusal) e leads some = absurd (none_written o _ leads some)
 given_by a bytes o (Ok m) e (inl given) some = record { input = m; input_is = e; gives = given.gives }
 given_by a bytes o (Ok m) e (inr refused) some = absurd (none_written o _ refused.is some)
 
-given_of : (a : JobArgumentsView) (bytes : List ℕ) (o : Outcome) (p : Option WrongPackets) → BytesLead a bytes p o → 0 < length o.output →
+given_of : (a : JobArgumentsView) (bytes : List ℕ) (o : Outcome) (p : Option FileForm) → BytesLead a bytes p o → 0 < length o.output →
     GivenOf a bytes o.output
-given_of a bytes o (Some wrong) leads some = absurd (none_written o _ leads some)
-given_of a bytes o None leads some = given_by a bytes o (job_input a.options (length (carried bytes) / 188) (findings_for a.options bytes)) refl leads some
+given_of a bytes o (Some form) leads some = absurd (none_written o _ leads some)
+given_of a bytes o None leads some = given_by a bytes o (job_input a.options (length (in_step bytes) / 188) (findings_for a.options bytes)) refl leads some
 
 pub given_by_run : (a : JobArgumentsView) (bytes output : List ℕ) (stream job job_reports : Device) (status : ℕ) → stream.before.bytes ≡ Some bytes →
     Ends (Leads a) stream job job_reports status →
@@ -112,7 +111,7 @@ pub given_by_run : (a : JobArgumentsView) (bytes output : List ℕ) (stream job 
 given_by_run a bytes output stream job job_reports status known ends empty output_is some =
     let same : ends.outcome.output ≡ output = taken job.before.bytes job.after.bytes ends.outcome.output output empty output_is ends.written in
     let leads = known_lead (Leads a) bytes ends.outcome stream ends.leads known in
-    subst (GivenOf a bytes) same (given_of a bytes ends.outcome (wrong_packets bytes) leads (subst (λ (xs : List ℕ). 0 < length xs) (sym same) some))
+    subst (GivenOf a bytes) same (given_of a bytes ends.outcome (no_stream bytes) leads (subst (λ (xs : List ℕ). 0 < length xs) (sym same) some))
 
 -- 3. The effect of `mux` on the output
 
@@ -154,16 +153,16 @@ muxed o output j job packets faults status m read none =
 through : AcceptedLaw → FoundAgainLaw → (words : List Text) (a : JobArgumentsView) (o : MuxOptions) (bytes output : List ℕ) (job_again packets faults : Device)
     (status : ℕ) →
     arguments_in words ≡ Some a → MuxesAll o output job_again packets faults status → (input : JobInputView) →
-    job_input a.options (length (carried bytes) / 188) (findings_for a.options bytes) ≡ Ok input →
+    job_input a.options (length (in_step bytes) / 188) (findings_for a.options bytes) ≡ Ok input →
     GivesJob a.options (findings_for a.options bytes) input output →
     GoesThrough a o bytes output packets faults status
 through accepted again words a o bytes output job_again packets faults status asked m input input_is job =
     let ranges = text_in_range job.description job.text job.job.read in
-    let from = moved_of a.options (length (carried bytes) / 188) (findings_for a.options bytes) input input_is in
+    let from = moved_of a.options (length (in_step bytes) / 188) (findings_for a.options bytes) input input_is in
     let read = written_is_read words a from.id (findings_for a.options bytes) input output asked from.information_is job in
     let none = none_refused accepted a.options.make_dts (findings_for a.options bytes) o (as_mux_job job) refl m.all_slots ranges job.found in
     let done = muxed o output (as_mux_job job) job_again packets faults status m read none in
-    let constants = constants_of a.options (length (carried bytes) / 188) (findings_for a.options bytes) input input_is in
+    let constants = constants_of a.options (length (in_step bytes) / 188) (findings_for a.options bytes) input input_is in
     record {
       input = input;
       input_is = input_is;

@@ -13,7 +13,6 @@ use Rattle.description_parts.specs.Ranges.{IsInRange}
 use Rattle.description.proofs.Pids.{pid_positions, pids_apart}
 use Rattle.description_parts.specs.Tables.{table_count}
 use Rattle.pid_findings.specs.Views.{FindingView}
-use Rattle.packet_sync.specs.Slips.{carried}
 use Rattle.stamp_repair.specs.DataTimes.{is_unstamped, seen_in}
 use Rattle.stamp_repair.specs.References.{references_in}
 use Rattle.stamp_repair.specs.LoneStamps.{damaged, is_on, lone_damaged}
@@ -42,7 +41,11 @@ use Rattle.job_run.specs.declared.job_arguments.Subcommand.{Subcommand}
 use Rattle.job_run.specs.declared.job_arguments.Subcommand.TheVariants.{Units}
 use Rattle.job_run.specs.JobArguments.{JobArgumentsView}
 use Rattle.job_run.specs.Outcomes.{Gives, GivesUnits}
-use Rattle.job_run.specs.Streams.{asked_findings, findings_for, findings_of, parts_by, references_by}
+use Rattle.packet_sync.specs.OtherPackets.{other_packets}
+use Rattle.packet_sync.specs.PacketBytes.{packet_bytes, packets_in}
+use Rattle.packet_sync.specs.Slips.{carried}
+use Rattle.packet_sync.specs.declared.packet_sizes.OtherPackets.{OtherPackets}
+use Rattle.job_run.specs.Streams.{asked_findings, findings_for, findings_of, in_step, parts_by, references_by}
 use Rattle.tsjob_cli.specs.StreamedUnits.{GoesBy, earliest, feed_of, maps_of, marking_by, pids_of, streams_from}
 use Rattle.laws_pipe.specs.StreamedUnits.{AreAlike, AreLaterByOne, AreMarkedAlike, TheSameUnits, lone_found, timed_findings}
 use Rattle.laws_pipe.proofs.MarkedUnits.{alone_ordered, alone_timed, wire_ordered, wire_timed, alone_alike, wire_alike}
@@ -202,10 +205,10 @@ at_place P xs i x all at =
 
 -- The marks for the whole stream, and for the stream as it arrives
 abbrev whole_marking : JobArgumentsView → List ℕ → MarkingView
-whole_marking a bytes = marking_of a.options (findings_of (carried bytes))
+whole_marking a bytes = marking_of a.options (findings_of (in_step bytes))
 
 abbrev streamed_findings : JobOptionsView → Described → List ℕ → List FindingView
-streamed_findings w d bytes = all_marked (marking_by w d) (findings_of (carried bytes))
+streamed_findings w d bytes = all_marked (marking_by w d) (findings_of (in_step bytes))
 
 marks_of : (a : JobArgumentsView) (w : JobOptionsView) (d : Described) (bytes : List ℕ) (input : JobInputView) (k : ℕ) (t : TimedStreamView) →
     AreAlike a w d bytes input →
@@ -237,15 +240,15 @@ same_wire : (a : JobArgumentsView) (w : JobOptionsView) (d : Described) (bytes :
 same_wire a w d bytes input k t alike at =
     ap (λ (fs : List FindingView). apart_wire_units t.pid fs) (as_found a bytes alike.unjoined)
     ∙ wire_ordered (lone_found a bytes) t.pid (timed_findings a bytes) (ordered_of a w d bytes input k t alike at)
-    ∙ wire_timed (references_in (carried bytes)) t.pid (asked_findings a.options bytes) (stamps_of a w d bytes input k t alike at)
-    ∙ wire_alike (whole_marking a bytes) (marking_by w d) t.pid (findings_of (carried bytes)) (marks_of a w d bytes input k t alike at)
+    ∙ wire_timed (references_in (in_step bytes)) t.pid (asked_findings a.options bytes) (stamps_of a w d bytes input k t alike at)
+    ∙ wire_alike (whole_marking a bytes) (marking_by w d) t.pid (findings_of (in_step bytes)) (marks_of a w d bytes input k t alike at)
 
 same_alone : (a : JobArgumentsView) (w : JobOptionsView) (d : Described) (bytes : List ℕ) (input : JobInputView) (k : ℕ) (t : TimedStreamView) →
     AreAlike a w d bytes input →
     slice_get input.streams k ≡ Some t → one_by_one t.pid (streamed_findings w d bytes) ≡ true
 same_alone a w d bytes input k t alike at =
-    sym (alone_alike (whole_marking a bytes) (marking_by w d) t.pid (findings_of (carried bytes)) (marks_of a w d bytes input k t alike at))
-    ∙ sym (alone_timed (references_in (carried bytes)) t.pid (asked_findings a.options bytes) (stamps_of a w d bytes input k t alike at))
+    sym (alone_alike (whole_marking a bytes) (marking_by w d) t.pid (findings_of (in_step bytes)) (marks_of a w d bytes input k t alike at))
+    ∙ sym (alone_timed (references_in (in_step bytes)) t.pid (asked_findings a.options bytes) (stamps_of a w d bytes input k t alike at))
     ∙ sym (alone_ordered (lone_found a bytes) t.pid (timed_findings a bytes) (ordered_of a w d bytes input k t alike at))
     ∙ sym (ap (λ (fs : List FindingView). one_by_one t.pid fs) (as_found a bytes alike.unjoined))
     ∙ at_place (λ t. one_by_one t.pid (findings_for a.options bytes) ≡ true) input.streams k t alike.alone at
@@ -324,16 +327,22 @@ whole_streams a w d bytes input constants alike =
 
 -- 7. Both modes
 
+plain_packets : (bytes : List ℕ) → other_packets bytes ≡ None → in_step bytes ≡ carried bytes
+unfolding packets_in packet_bytes
+plain_packets bytes plain = ap (λ (o : Option OtherPackets). carried (packet_bytes o 0 bytes)) plain
+
 alike_units : (a : JobArgumentsView) (w : JobOptionsView) (d : Described) (bytes : List ℕ) (input : JobInputView) (units : List (ℕ × AccessUnit)) →
     HasConstants a.options (findings_for a.options bytes) input →
     IsInRange d → have_fault (fed_of (feed_of w d) bytes) ≡ false → AreMerged (map (λ t. t.units) input.streams) units → AreAlike a w d bytes input →
     AreLaterByOne (length d.streams) (fed_of (feed_of w d) bytes) units
 alike_units a w d bytes input units constants ranges silent merged alike =
     let whole = findings_for a.options bytes in
-    let streamed = streamed_findings w d bytes in
+    let plain = plain_packets bytes alike.plain in
+    let streamed = all_marked (marking_by w d) (findings_of (carried bytes)) in
     let base = constants.constant alike.clock in
     let apart = fed_apart earliest base (marking_by w d) (maps_of d) (streams_from 0 d.streams) bytes (omega arith) (first_streams d ranges) silent
-    (whole_streams a w d bytes input constants alike) in
+    (subst (λ (r : List ℕ). AreWhole base earliest (streams_from 0 d.streams) (all_marked (marking_by w d) (findings_of r))) plain
+    (whole_streams a w d bytes input constants alike)) in
     record {
       here = apart.here;
       there = apart.there;
@@ -345,7 +354,8 @@ alike_units a w d bytes input units constants ranges silent merged alike =
           fed_at 0 k d.streams b.described b.described_is ∙ ap (λ (n : ℕ). Some (fed_stream n b.described.pid)) number in
           let timed : t.units ≡ moved base None (apart_wire_units t.pid whole) = (by_one a w d bytes input k t constants alike b.timed_is).are in
           let wire : apart_wire_units t.pid whole ≡ apart_wire_units b.described.pid streamed =
-          same_wire a w d bytes input k t alike b.timed_is ∙ ap (λ (p : ℕ). apart_wire_units p streamed) (sym b.pid) in
+          same_wire a w d bytes input k t alike b.timed_is ∙ ap (λ (p : ℕ). apart_wire_units p (streamed_findings w d bytes)) (sym b.pid)
+          ∙ ap (λ (r : List ℕ). apart_wire_units b.described.pid (all_marked (marking_by w d) (findings_of r))) plain in
           let same : units_of k units ≡ moved base None (apart_wire_units b.described.pid streamed) =
           merged.each k t.units (slice_get-map (λ t. t.units) input.streams k ∙ ap (option_map (λ t. t.units)) b.timed_is)
           ∙ timed ∙ ap (λ (us : List AccessUnit). moved base None us) wire in
@@ -360,7 +370,7 @@ the_same_units words a v d bytes whole streamed one records job_reports status o
     let given = given_by_run a bytes whole one records job_reports status w.known w.ends w.empty w.output_is w.some in
     let units = given_units a bytes whole given w.units in
     let fed = gone v d bytes streamed other passed silent s.known s.empty s.output_is s.goes in
-    let constants = constants_of a.options (length (carried bytes) / 188) (findings_for a.options bytes) given.input given.input_is in
+    let constants = constants_of a.options (length (in_step bytes) / 188) (findings_for a.options bytes) given.input given.input_is in
     record {
       input = given.input;
       input_is = given.input_is;

@@ -4,7 +4,6 @@ use Rattle.clap.specs.Words.{Text}
 use Rattle.pes_packet.specs.AccessUnits.{AccessUnit}
 use Rattle.description_parts.specs.Described.{DescribedStream}
 use Rattle.pid_findings.specs.Views.{FindingView}
-use Rattle.packet_sync.specs.Slips.{carried}
 use Rattle.es_units.specs.CarriedUnits.{wire_units, apart_wire_units}
 use Rattle.job_programs.specs.FoundUnits.{KeepDts}
 use Rattle.job_programs.specs.Information.{information_of}
@@ -20,7 +19,7 @@ use Rattle.job_run.specs.declared.job_arguments.Subcommand.TheVariants.{Whole}
 use Rattle.job_run.specs.JobArguments.{JobArgumentsView}
 use Rattle.tsjob_cli.specs.Arguments.{arguments_in}
 use Rattle.job_run.specs.Outcomes.{GivesJob, Leads}
-use Rattle.job_run.specs.Streams.{findings_for, findings_of}
+use Rattle.job_run.specs.Streams.{findings_for, findings_of, in_step}
 use Rattle.checked_jobs.specs.declared.multiplexing.MuxOptions.{MuxOptions}
 use Rattle.checked_jobs.specs.MuxJobs.{MuxJobView, greatest_dts, mux_job_of}
 use Rattle.checked_jobs.specs.Multiplexing.{IsKept, Muxes, packets_of}
@@ -65,7 +64,7 @@ AreLater time before after = after ≡ map (later_by time) before
 pub record GoesThrough (a : JobArgumentsView) (o : MuxOptions) (bytes output : List ℕ) (packets faults : Device) (status : ℕ) : Type 0 where
   -- the input that a job takes from the stream, and the job that `tsjob` wrote
   pub input : JobInputView
-  pub input_is : job_input a.options (length (carried bytes) / 188) (findings_for a.options bytes) ≡ Ok input
+  pub input_is : job_input a.options (length (in_step bytes) / 188) (findings_for a.options bytes) ≡ Ok input
   pub job : GivesJob a.options (findings_for a.options bytes) input output
   -- `mux` read that job, refused nothing and reported nothing
   pub read : mux_job_of false output ≡ Ok (as_mux_job job)

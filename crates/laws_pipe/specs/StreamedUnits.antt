@@ -1,5 +1,5 @@
 -- The output of `tsjob units --stream` for a stream while it comes, compared with the output of `tsjob units` for the whole stream.
-use Rattle.std.specs.Prelude.{◌≡◌, ◌≤◌, ◌<◌, ℕ, ◌+◌, ◌/◌, true, false, List, [], length, map, slice_get, Some, Ok, All}
+use Rattle.std.specs.Prelude.{◌≡◌, ◌≤◌, ◌<◌, ℕ, ◌+◌, ◌/◌, true, false, List, [], length, map, slice_get, None, Some, Ok, All}
 use Rattle.std.specs.List.{list_any}
 use Rattle.clap.specs.Words.{Text}
 use Rattle.pes_packet.specs.AccessUnits.{AccessUnit}
@@ -7,7 +7,6 @@ use Rattle.pes_packet.specs.Units.{units_of}
 use Rattle.description_parts.specs.Described.{Described}
 use Rattle.description_parts.specs.Ranges.{IsInRange}
 use Rattle.pid_findings.specs.Views.{FindingView}
-use Rattle.packet_sync.specs.Slips.{carried}
 use Rattle.stamp_repair.specs.DataTimes.{is_unstamped, seen_in, timed}
 use Rattle.stamp_repair.specs.References.{references_in}
 use Rattle.stamp_repair.specs.LoneStamps.{is_on, lone_in}
@@ -31,7 +30,8 @@ use Rattle.devices.specs.Runs.{Ends}
 use Rattle.job_run.specs.declared.job_arguments.Subcommand.TheVariants.{Units}
 use Rattle.job_run.specs.JobArguments.{JobArgumentsView}
 use Rattle.job_run.specs.Outcomes.{Leads}
-use Rattle.job_run.specs.Streams.{asked_findings, falling_by, findings_for, findings_of}
+use Rattle.packet_sync.specs.OtherPackets.{other_packets}
+use Rattle.job_run.specs.Streams.{asked_findings, falling_by, findings_for, findings_of, in_step}
 use Rattle.tsjob_cli.specs.Arguments.{arguments_in}
 use Rattle.tsjob_cli.specs.StreamedUnits.{GoesBy, earliest, marking_by}
 
@@ -58,11 +58,11 @@ pub record StreamsUnits (w : JobOptionsView) (d : Described) (bytes output : Lis
 
 -- the findings of a job, before PES packets with stamps that are alone out of order are damaged ones, and these PES packets
 abbrev pub timed_findings : JobArgumentsView → List ℕ → List FindingView
-timed_findings a bytes = timed (references_in (carried bytes)) (asked_findings a.options bytes)
+timed_findings a bytes = timed (references_in (in_step bytes)) (asked_findings a.options bytes)
 
 abbrev pub lone_found : JobArgumentsView → List ℕ → List LonePes
 lone_found a bytes =
-    lone_in (falling_by a.options.joined (references_in (carried bytes)) (asked_findings a.options bytes)) (timed_findings a bytes)
+    lone_in (falling_by a.options.joined (references_in (in_step bytes)) (asked_findings a.options bytes)) (timed_findings a bytes)
 
 -- for a PID both ask for the same marks: with the same stream_type, if access points are marked at all, and aligned or not
 pub record AreMarkedAlike (whole streamed : MarkingView) (pid : ℕ) : Type 0 where
@@ -75,6 +75,8 @@ pub record AreAlike (a : JobArgumentsView) (w : JobOptionsView) (d : Described) 
   -- the DTS are the stream's own: none are made, neither asked for nor because they do not rise
   pub own : a.options.make_dts ≡ false
   pub keep : All (λ t. KeepDts t.pid (findings_for a.options bytes)) input.streams
+  -- its packets have 188 bytes
+  pub plain : other_packets bytes ≡ None
   -- no parts are joined
   pub unjoined : a.options.joined ≡ false
   -- the programs of the streams are on one clock
@@ -87,7 +89,7 @@ pub record AreAlike (a : JobArgumentsView) (w : JobOptionsView) (d : Described) 
   -- no stamps of a stream are alone out of order
   pub ordered : All (λ t. list_any (is_on t.pid) (lone_found a bytes) ≡ false) input.streams
   -- the same marks are asked for
-  pub marks : All (λ t. AreMarkedAlike (marking_of a.options (findings_of (carried bytes))) (marking_by w d) t.pid) input.streams
+  pub marks : All (λ t. AreMarkedAlike (marking_of a.options (findings_of (in_step bytes))) (marking_by w d) t.pid) input.streams
   -- the first unit of a stream is due no later than three seconds after the first unit of another stream
   pub near : (j k : ℕ) (s t : TimedStreamView) (u v : AccessUnit) → slice_get input.streams j ≡ Some s → slice_get input.streams k ≡ Some t →
       slice_get s.units 0 ≡ Some u → slice_get t.units 0 ≡ Some v → u.dts ≤ v.dts + earliest
@@ -101,7 +103,7 @@ pub record AreLaterByOne (count : ℕ) (fed : List Fed) (units : List (ℕ × Ac
 pub record WriteTheSame (a : JobArgumentsView) (w : JobOptionsView) (d : Described) (bytes whole streamed : List ℕ) : Type 0 where
   -- the input that a job takes from the stream, and its units, whose records `tsjob units` wrote
   pub input : JobInputView
-  pub input_is : job_input a.options (length (carried bytes) / 188) (findings_for a.options bytes) ≡ Ok input
+  pub input_is : job_input a.options (length (in_step bytes) / 188) (findings_for a.options bytes) ≡ Ok input
   pub units : List (ℕ × AccessUnit)
   pub merged : AreMerged (map (λ t. t.units) input.streams) units
   pub whole_is : whole ≡ records_of units
@@ -120,4 +122,4 @@ TheSameUnits =
 -- both ask for the same marks if neither asks for marks of access points, and both for the same alignment or for none
 abbrev pub AskAlike : Type 0
 AskAlike = (a : JobArgumentsView) (w : JobOptionsView) (d : Described) (bytes : List ℕ) (pid : ℕ) → a.options.mark_access ≡ false → w.mark_access ≡ false →
-    a.options.aligned ≡ w.aligned → AreMarkedAlike (marking_of a.options (findings_of (carried bytes))) (marking_by w d) pid
+    a.options.aligned ≡ w.aligned → AreMarkedAlike (marking_of a.options (findings_of (in_step bytes))) (marking_by w d) pid

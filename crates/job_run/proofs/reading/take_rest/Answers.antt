@@ -11,7 +11,7 @@ returns-then-over g c = λ first t.
     subst (λ (x : Bool). TakesFront (between first mid) c.args.stream (Ok x)) c.if-over.true t
 
 pub take_input-read-requires-clause-start : goal.take_input-read-requires-clause-start
-take_input-read-requires-clause-start g c = λ before so. subst (λ (x : List ℕ). IsRead x c.args.stream) (sym (append-nil before)) so
+take_input-read-requires-clause-start g c = λ before long so. subst (λ (x : List ℕ). IsRead x c.args.stream) (sym (append-nil before)) so
 
 pub returns : goal.returns
 returns g c = λ first t.
