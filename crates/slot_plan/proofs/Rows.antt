@@ -13,6 +13,7 @@ use Rattle.slot_plan.specs.Entries.{Entry, at_most, equal_counts, first_failing}
 use Rattle.slot_plan.specs.Conditions.{entries}
 use Rattle.slot_plan.specs.SwitchConditions.{switch_entries}
 use Rattle.unit_timing.specs.declared.allowance.Allowance.TheVariants.{Groups, Pace}
+use Rattle.unit_timing.specs.declared.framing.LastBytes.TheVariants.{Each}
 use Rattle.description_parts.specs.Described.{Described, DescribedStream}
 use Rattle.slot_plan.proofs.BaseService.{base, base_stream, base_plan, base_slots, claims}
 
@@ -179,7 +180,7 @@ late_by_the_leak = refl
 -- Units of two access units, 1,080 units of 90 kHz apart: when the first access unit has been removed, the 288 bytes of the second are in the
 -- buffer, and two packets of the next unit, which may arrive 1,600 before it is due.
 framed : ℕ → Described
-framed main = with_stream (record base_stream { main = main; framing = Some (record { frames = 2; frame = 1080; frame_size = 288 }) })
+framed main = with_stream (record base_stream { main = main; framing = Some (record { frames = 2; frame = 1080; rest = 1080; left = Each 288 }) })
 
 removed_in_turn : answer (framed 656) base_plan ≡ None
 unfolding answer framed with_stream
