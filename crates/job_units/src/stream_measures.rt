@@ -62,12 +62,13 @@ impl Model for StreamMeasures {
 fn framing_of(rest: u32, frames: UnitFrames) -> Option<FrameCounts>
     ensures { result ≡ spec.framing_of rest frames }
 {
+    let left = frames.left;
     if frames.count <= 64 && frames.time < 1 << 32 {
         Some(FrameCounts {
             frames: frames.count as u8,
             frame: frames.time as u32,
             rest,
-            left: frames.left,
+            left,
         })
     } else {
         None
