@@ -19,7 +19,7 @@ use fed_streams::{ClockJump, CutCause, CutUnits, FeedFault, Loss, NewMap, Packet
 use pes_packet::Unit;
 
 // Puts the record of a unit that is fed, where it has a moment.
-#[tactic(auto, unfolding(es_feed::specs::FedLines::fed_record))]
+#[tactic(auto, unfolding(crate::specs::FedLines::fed_record))]
 fn put_fed<W: Sink>(
     to: &mut W,
     pending: &mut PendingBytes,
@@ -67,7 +67,7 @@ pub(crate) fn write_fed<W: Sink>(
 }
 
 // Reports why a unit of a PID has no moment.
-#[tactic(auto, unfolding(es_feed::specs::FedLines::stamp_line))]
+#[tactic(auto, unfolding(crate::specs::FedLines::stamp_line))]
 fn report_stamp<E: Sink>(faults: &mut E, pid: u16, fault: StampFault)
     ensures { Reports (writes E.Sink faults.old faults.new) (spec.stamp_line pid fault) }
 {
@@ -99,7 +99,7 @@ fn report_loss<E: Sink>(faults: &mut E, pid: u16, loss: Loss)
 }
 
 // The name of what cuts units.
-#[tactic(auto, unfolding(es_feed::specs::FedLines::cut_name))]
+#[tactic(auto, unfolding(crate::specs::FedLines::cut_name))]
 fn cut_name(cause: CutCause) -> &'static str
     ensures value { result.now ≡ spec.cut_name cause }
     ensures bound { length result.now ≤ 40 }
@@ -162,7 +162,7 @@ fn report_jump<E: Sink>(faults: &mut E, jump: ClockJump)
 }
 
 // Reports that a packet is not read, or that bytes are left at the end.
-#[tactic(auto, unfolding(es_feed::specs::FedLines::packet_line))]
+#[tactic(auto, unfolding(crate::specs::FedLines::packet_line))]
 fn report_packet<E: Sink>(faults: &mut E, fault: PacketFault)
     ensures { Reports (writes E.Sink faults.old faults.new) (spec.packet_line fault) }
 {
@@ -213,7 +213,7 @@ fn report_silence<E: Sink>(faults: &mut E, dts: u64)
 }
 
 // Writes the line of a report on the stream of a PID, a map, the clock, or an encoder.
-#[tactic(auto, unfolding(es_feed::specs::FedLines::fault_line))]
+#[tactic(auto, unfolding(crate::specs::FedLines::fault_line))]
 fn report_fault<E: Sink>(faults: &mut E, pid: u16, fault: FeedFault)
     ensures { Reports (writes E.Sink faults.old faults.new) (spec.fault_line pid fault) }
 {
@@ -263,7 +263,7 @@ fn report_by<E: Sink>(faults: &mut E, fell: u8, pid: u16, fault: FeedFault)
 }
 
 // Writes the line of a report, if it has one, and returns whether it is a report and no unit.
-#[tactic(auto, unfolding(crate::specs::StreamLines::lines_of, es_feed::specs::EachStream::has_fault))]
+#[tactic(auto, unfolding(crate::specs::StreamLines::lines_of, crate::specs::EachStream::has_fault))]
 fn report_one<E: Sink>(
     faults: &mut E,
     lines: &StreamLines<'_>,
