@@ -1,5 +1,5 @@
 //! The packets of a transport stream that is being read, whatever their size.
-ghost use Rattle.std.specs.Prelude.{◌≡◌, ◌⊎◌, ◌≤◌, ◌++◌, [], IfOk, List, OnOk, ℕ, false, length};
+ghost use Rattle.std.specs.Prelude.{◌≡◌, ◌⊎◌, ◌≤◌, ◌+◌, ◌++◌, [], IfOk, List, OnOk, ℕ, false, length};
 ghost use Rattle.packet_sync.specs.OtherPackets.{other_packets};
 ghost use Rattle.packet_sync.specs.PacketBytes.{packet_bytes};
 ghost use Rattle.job_run.specs.Streams as spec;
@@ -24,6 +24,16 @@ impl Model for InnerStream {
     ghost Value = { InnerView };
 
     ghost view = { λ s. record { size = s.size; stream = s.stream } };
+}
+
+// Returns the sum of two numbers. Refused from 2^64 on, since no memory holds a stream of that size.
+fn sum(number: usize, by: usize) -> Result<usize, AllocError>
+    ensures { IfOk result (λ sum. sum ≡ number + by) }
+{
+    match number.checked_add(by) {
+        Some(sum) => Ok(sum),
+        None => Err(AllocError),
+    }
 }
 
 // Takes the packets of the next bytes, before which `place` bytes came.
@@ -72,9 +82,7 @@ impl InnerStream {
         ensures { (bytes : List ℕ) → (bytes ≡ []) ⊎ (409 ≤ length bytes) → other ≡ other_packets (bytes ++ piece.now) →
             spec.IsInner bytes self.old → OnOk result (spec.IsInner (bytes ++ piece.now) self.new) }
     {
-        let Some(size) = self.size.checked_add(piece.len()) else {
-            return Err(AllocError);
-        };
+        let size = sum(self.size, piece.len())?;
         take_packets(self.alloc, other, self.size, piece, &mut self.stream)?;
         self.size = size;
         Ok(())
