@@ -1,5 +1,6 @@
 //! What an input is by its first bytes.
 ghost use Rattle.std.specs.Prelude.{◌≡◌, nat_eq};
+ghost use Rattle.std.specs.List.{list_all};
 ghost use Rattle.packet_sync.specs.FrontForms as spec;
 
 use crate::file_form::FileForm;
@@ -70,10 +71,16 @@ fn is_text_byte(byte: u8) -> bool
     (byte >= 32 && byte <= 126) || byte == 9 || byte == 10 || byte == 13
 }
 
+fn all_text(front: &[u8]) -> bool
+    ensures { result ≡ list_all spec.is_text_byte front.now }
+{
+    front.iter().all(|byte| is_text_byte(*byte))
+}
+
 fn is_text(front: &[u8]) -> bool
     ensures { result ≡ spec.is_text front.now }
 {
-    !front.is_empty() && front.iter().all(|byte| is_text_byte(*byte))
+    !front.is_empty() && all_text(front)
 }
 
 // Returns the form of a front that is no file of a container.
