@@ -30,10 +30,10 @@ mod text_laws;
 mod timing;
 
 pub use damage::damage_lone_stamps;
-pub use laws::{
+pub use lone_laws::{
     all_else_stays, each_is_alone, each_pid_alone, limit_is_exact, lone_is_found, ordered_stays,
-    others_stay,
 };
 pub use pes_stamps::{PesStamp, begin_of, stamp_at};
 pub use references::ReferenceLog;
+pub use text_laws::others_stay;
 pub use timing::{TextTimes, pcr_of, programs_in, stream_on, text_times};

@@ -27,10 +27,10 @@ mod program;
 mod stuffing;
 
 pub use arguments::writes_bytes;
-pub use fault::FrameFault;
-pub use feed::FrameFeed;
 pub use frame::OpenFrame;
-pub use laws::writers_are_read;
-pub use passing::pass_frames;
+pub use frame_fault::FrameFault;
+pub use frame_feed::FrameFeed;
+pub use frame_laws::writers_are_read;
+pub use frame_passing::pass_frames;
 pub use program::{report_usage, run};
 pub use stuffing::{MARK, stuffed_byte};
