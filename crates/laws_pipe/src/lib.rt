@@ -9,8 +9,8 @@
 //!   `tsjob` makes of a stream, or of streams in files, and they give the units back; the units that are written while
 //!   a stream arrives are the units of the whole stream.
 //!
-//! `tsair` writes what `tsmux mux` writes for the same job, byte for byte: `specs/AiredAsMuxed` says when two command lines
-//! ask for the same, and what records in order are.
+//! `tsair` writes what `tsmux mux` writes for the same job, byte for byte: `specs/AiredAsMuxed` says when two command
+//! lines ask for the same, and what records in order are.
 //!
 //! - [`air_laws`]: a run that ends with status 0 wrote what `mux` writes; records in order are not refused.
 #![tactic(auto)]

@@ -12,12 +12,12 @@
 //! when; `WorkedService`, `WorkedBytes` and `WorkedRun` are a run that meets all premises, `WorkedVideo` and
 //! `WorkedSwitch` one of two plans with video and sound.
 //!
-//! The same of one PID: of what the slots of an output carry on it, what a demultiplexer finds. Slot s carries a payload, a
-//! clock reference or nothing (`slot_contents/specs/Contents`), and is packet number s of the bytes. A PID carries the
-//! payloads of access units or sections in order, in any slots: `specs/Sent` says which packets carry which PES packet or
-//! section, `Units` and `Sections` the findings of each, `CleanPids` which findings never occur, `PidLaws` the laws of any
-//! PID, `Rounds` of tables and streams in own slots. `specs/ReasonNumbers` defines when a reason why no plan serves goes at
-//! a number.
+//! The same of one PID: of what the slots of an output carry on it, what a demultiplexer finds. Slot s carries a
+//! payload, a clock reference or nothing (`slot_contents/specs/Contents`), and is packet number s of the bytes. A PID
+//! carries the payloads of access units or sections in order, in any slots: `specs/Sent` says which packets carry which
+//! PES packet or section, `Units` and `Sections` the findings of each, `CleanPids` which findings never occur,
+//! `PidLaws` the laws of any PID, `Rounds` of tables and streams in own slots. `specs/ReasonNumbers` defines when a
+//! reason why no plan serves goes at a number.
 //!
 //! - [`pid_laws`]: a PID that carries units, sections, or no payload; and that nothing is found outside a PID.
 //! - [`carried`]: the same for the packets of `unit_queue` and `table_rounds`.

@@ -28,15 +28,16 @@
 //!   unit, and no excess of a main buffer; nor a break of a counter, a wrong check word, a late table that is not
 //!   ready-made, or an error of a clock reference.
 //!
-//! Which rows are kept around a greatest excess (`KeptRows`: the ring, and the rows kept of a buffer after any rows), and when
-//! the bytes of a stream arrive (ISO/IEC 13818-1, 2.4.2.2): `Times` has the arrival time of each byte, whatever each
-//! packet's timing source, and `TimedPackets` how each packet arrives by clock references, once it no longer waits for its
-//! line; `Leads` is about packets within which another line begins, `Between` about the bytes between two references.
+//! Which rows are kept around a greatest excess (`KeptRows`: the ring, and the rows kept of a buffer after any rows),
+//! and when the bytes of a stream arrive (ISO/IEC 13818-1, 2.4.2.2): `Times` has the arrival time of each byte,
+//! whatever each packet's timing source, and `TimedPackets` how each packet arrives by clock references, once it no
+//! longer waits for its line; `Leads` is about packets within which another line begins, `Between` about the bytes
+//! between two references.
 //!
-//! - [`trace_laws`]: a ring holds the last 64 rows in order; the rows kept of a buffer are the last 64 up to 32 rows after
-//!   its first greatest excess.
-//! - [`arrival_laws`]: by clock references no byte arrives before an earlier one, also from one line to the next and where
-//!   the clock restarts; the bytes between two references lie on the line through both, if the clock continues.
+//! - [`trace_laws`]: a ring holds the last 64 rows in order; the rows kept of a buffer are the last 64 up to 32 rows
+//!   after its first greatest excess.
+//! - [`arrival_laws`]: by clock references no byte arrives before an earlier one, also from one line to the next and
+//!   where the clock restarts; the bytes between two references lie on the line through both, if the clock continues.
 #![tactic(auto)]
 
 pub mod arrival_laws;

@@ -9,8 +9,8 @@
 //! Frames of unit records: a reader finds the next record after a cut record, for example of a feeder that was killed.
 //! `pass_frames` reads frames as they arrive and writes their whole records; a line says where it drops bytes. An
 //! `OpenFrame` takes one byte after another, a `FrameFeed` keeps the records and drops that follow. `stuffed_byte` is a
-//! byte of a record as a frame has it, after `MARK`. `specs/Frames` is the format, `specs/FramePassing` what `pass_frames`
-//! does; the law `writers_are_read` says that no byte of a half record gets into another.
+//! byte of a record as a frame has it, after `MARK`. `specs/Frames` is the format, `specs/FramePassing` what
+//! `pass_frames` does; the law `writers_are_read` says that no byte of a half record gets into another.
 #![tactic(auto)]
 
 mod arguments;

@@ -7,8 +7,8 @@
 //! writes in memory. `command` is `run_command`, for words as people type them (`specs/Command`). `rows` has the rows
 //! of options that `tsremux` shares.
 //!
-//! `reading` returns the bytes of files that a command line names, one after another (`specs/ReadFiles`), `saving` writes a
-//! new file whole or not at all (`specs/Saving`), and `reports` names a file and its fault (`specs/Reports`).
+//! `reading` returns the bytes of files that a command line names, one after another (`specs/ReadFiles`), `saving`
+//! writes a new file whole or not at all (`specs/Saving`), and `reports` names a file and its fault (`specs/Reports`).
 #![tactic(auto)]
 
 mod arguments;
