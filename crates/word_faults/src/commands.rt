@@ -2,6 +2,7 @@
 ghost use Rattle.std.specs.Prelude.{◌≡◌, ◌++◌, IfOk, OnOk, find, map, option_map};
 ghost use Rattle.std.specs.Str.{bytes_eq};
 ghost use Rattle.word_faults.specs.Commands as spec;
+ghost use Rattle.word_faults.specs.SortedWords as sorted;
 ghost use Rattle.word_faults.specs.KnownWords.{known_of};
 
 use crate::faults::word_beside;
@@ -96,6 +97,36 @@ fn push_command<'a>(found: &mut Vec<&'a str>, command: Option<&'a str>) -> Resul
     }
 }
 
+// Appends the options, each with its value.
+fn push_options<'a>(
+    alloc: Global,
+    known: KnownWords,
+    words: &[&'a str],
+    found: &mut Vec<&'a str>,
+) -> Result<(), AllocError>
+    ensures { OnOk result (map (λ s. s.now) found.new.items
+        ≡ map (λ s. s.now) found.old.items ++ sorted.option_words (known_of known) (map (λ s. s.now) words.now)) }
+{
+    let options = option_words(alloc, known, words)?;
+    push_words(found, &options)
+}
+
+// Appends the names of files after `--`: the words beside the options without the subcommand.
+fn push_names<'a>(
+    alloc: Global,
+    known: KnownWords,
+    words: &[&'a str],
+    command: Option<&str>,
+    found: &mut Vec<&'a str>,
+) -> Result<(), AllocError>
+    ensures { OnOk result (map (λ s. s.now) found.new.items
+        ≡ map (λ s. s.now) found.old.items ++ sorted.marked (spec.names_after (option_map (λ s. s.now) command.entry)
+        (sorted.name_words (known_of known) (map (λ s. s.now) words.now)))) }
+{
+    let names = name_words(alloc, known, words)?;
+    push_marked(found, names_after(command, &names))
+}
+
 /// Returns the subcommand, then the options, each with its value, then the names of files after `--`; no names if the
 /// stream is on standard input.
 pub fn sorted_command<'a>(
@@ -107,11 +138,9 @@ pub fn sorted_command<'a>(
         ≡ spec.sorted_command (known_of known) (map (λ s. s.now) words.now)) }
 {
     let command = command_of(known, words);
-    let names = name_words(alloc, known, words)?;
-    let options = option_words(alloc, known, words)?;
     let mut sorted = Vec::new(alloc);
     push_command(&mut sorted, command)?;
-    push_words(&mut sorted, &options)?;
-    push_marked(&mut sorted, names_after(command, &names))?;
+    push_options(alloc, known, words, &mut sorted)?;
+    push_names(alloc, known, words, command, &mut sorted)?;
     Ok(sorted)
 }
