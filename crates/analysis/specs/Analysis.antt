@@ -188,8 +188,9 @@ ended s left = with_events (view_ended s) (last_found s left)
 abbrev pub is_faultless : AnalysisState → Bool
 is_faultless s = summaries.is_good s.summary
 
+-- totals and the verdict are no faults
 abbrev pub all_untimed : List Event → List TimedEvent
-all_untimed events = map (λ event. record { event = event; fault = fault_of event None }) events
+all_untimed events = map (λ event. record { event = event; fault = None }) events
 
 abbrev pub conclusion : AnalysisState → Bool → List TimedEvent
 conclusion s good = all_untimed (summaries.end_events s.summary good (is_clocked s.view))

@@ -352,13 +352,12 @@ impl Analyser {
     }
 }
 
-// Appends events that have no moment.
+// Appends events that are no faults.
 fn push_untimed(found: Vec<Event>, events: &mut Vec<TimedEvent>) -> Result<(), AllocError>
     ensures { OnOk result (events.new.items ≡ events.old.items ++ spec.all_untimed found.items) }
 {
     for event in found {
-        let fault = fault_of(&event, None);
-        events.push(TimedEvent { event, fault })?;
+        events.push(TimedEvent { event, fault: None })?;
     }
     Ok(())
 }

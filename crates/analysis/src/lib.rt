@@ -1,6 +1,6 @@
 //! A transport stream, analysed as it arrives.
 //!
-//! - [`Analyser`]: takes packets, and appends the events that they settle, with their moments, to a list; `end` appends
+//! - [`Analyser`]: takes packets, and appends the events that they settle, with their faults, to a list; `end` appends
 //!   the last events, and `conclude` the summary: a row for each check of ETSI TR 101 290, faults by kind and stream,
 //!   and a verdict (`fault_summary`).
 //!
