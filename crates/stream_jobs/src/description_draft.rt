@@ -166,6 +166,7 @@ fn write_stream(
     ensures { OnOk result (string_bytes text.new ≡ string_bytes text.old
         ++ stream_text (spec.stream_part (stream.now, (unit_counts.now, choice)))) }
 {
+    let framing = framing_if_any(&choice.framing);
     let entry = StreamPart {
         program: stream.program,
         pid: stream.pid,
@@ -181,7 +182,7 @@ fn write_stream(
         allowance: choice.choice.allowance,
         shared_with: &stream.shared_with,
         multiplexing: choice.multiplexing,
-        framing: framing_if_any(&choice.framing),
+        framing,
         said: said_profile(stream),
     };
     entry.write_text(text)
