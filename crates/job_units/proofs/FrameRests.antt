@@ -1,5 +1,6 @@
 -- The time from the last frame of a unit to the next unit, from the first unit on
-use Rattle.std.proofs.Common.{◌≡◌, ◌≤◌, ◌<◌, ℕ, ◌+◌, ◌-◌, min, List, [], ◌∷◌, length, drop, get_or, refl, sym, add-one, arith}
+use Rattle.std.proofs.Common.{◌≡◌, ◌≤◌, ◌<◌, ℕ, ◌+◌, ◌-◌, ◌*◌, min, List, [], ◌∷◌, length, drop, get_or, refl, sym, add-one, arith}
+use Rattle.std.proofs.Math.Nat.{mul-le-mul_left, mul-le-mul_right}
 use Rattle.std.proofs.Math.Seq.{drop-cons}
 use Rattle.std.proofs.lemmas.List.{drop_all}
 use Rattle.pes_packet.specs.AccessUnits.{AccessUnit}
@@ -39,3 +40,10 @@ apart kind time rest due (u ∷ us) some le = (omega (arith, some, le), apart ki
 pub apart_by_least : RestLaw
 unfolding least_rest
 apart_by_least kind time u us some = apart kind time (rest_after kind time (last_due kind time u) us) (last_due kind time u) us some (omega arith)
+
+-- the product of two numbers of 64 bits
+pub product_fits : (a b : ℕ) → a ≤ 18446744073709551615 → b ≤ 18446744073709551615 → a * b ≤ 18446744073709551615 * 18446744073709551615
+product_fits a b first second =
+    let one = mul-le-mul_right b first in
+    let two = mul-le-mul_left 18446744073709551615 second in
+    omega (arith, one, two)

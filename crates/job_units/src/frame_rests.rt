@@ -1,6 +1,6 @@
 //! The time from the last frame of a unit of sound to the next unit.
 
-ghost use Rattle.std.specs.Prelude.{◌≡◌, ◌≤◌, min};
+ghost use Rattle.std.specs.Prelude.{◌≡◌, ◌≤◌, ◌-◌, min};
 ghost use Rattle.job_units.specs.FrameRests as spec;
 
 use pes_packet::Unit;
@@ -17,13 +17,20 @@ fn count_of(frames: Option<UnitFrames>) -> usize
     }
 }
 
+// Returns the decoding time stamp of a unit.
+fn due(unit: &Unit) -> u64
+    ensures { result ≡ unit.now.dts }
+{
+    unit.dts
+}
+
 // Returns when the last frame of a unit leaves its buffer, if each frame is `time` after the frame before it.
 fn last_due(kind: FrameKind, time: u64, unit: &Unit) -> u128
     ensures { result ≡ spec.last_due kind time unit.now }
 {
     let count = count_of(unit_frames(kind, unit.bytes.as_slice()));
     let others = count.saturating_sub(1) as u128;
-    u128::from(unit.dts) + others * u128::from(time)
+    u128::from(due(unit)) + others * u128::from(time)
 }
 
 // Returns the shorter of two times.
