@@ -157,17 +157,17 @@ fn framing_if_any(framing: &Option<FrameCounts>) -> Option<FramingPart<'_>>
 }
 
 #[tactic(auto, unfolding(crate::specs::Texts::stream_part))]
-fn write_stream(
-    stream: &TimedStream,
-    unit_counts: &UnitCounts,
-    choice: StreamChoice,
+fn write_stream<'a>(
+    stream: &'a TimedStream,
+    unit_counts: &'a UnitCounts,
+    choice: &'a StreamChoice,
     text: &mut String,
 ) -> Result<(), AllocError>
     ensures { OnOk result (string_bytes text.new ≡ string_bytes text.old
-        ++ stream_text (spec.stream_part (stream.now, (unit_counts.now, choice)))) }
+        ++ stream_text (spec.stream_part (stream.now, (unit_counts.now, choice.now)))) }
 {
-    let framing = framing_if_any(&choice.framing);
-    let entry = StreamPart {
+    let framing: Option<FramingPart<'a>> = framing_if_any(&choice.framing);
+    let entry: StreamPart<'a> = StreamPart {
         program: stream.program,
         pid: stream.pid,
         stream_id: stream.stream_id,
@@ -189,10 +189,10 @@ fn write_stream(
 }
 
 // Appends the lines of all streams.
-fn write_streams(
-    streams: &[TimedStream],
-    unit_counts: &[UnitCounts],
-    choices: &[StreamChoice],
+fn write_streams<'a>(
+    streams: &'a [TimedStream],
+    unit_counts: &'a [UnitCounts],
+    choices: &'a [StreamChoice],
     text: &mut String,
 ) -> Result<(), AllocError>
     ensures { OnOk result (string_bytes text.new ≡ string_bytes text.old
@@ -208,7 +208,7 @@ fn write_streams(
         let Some((choice, later_choices)) = choices.split_first() else {
             return Ok(());
         };
-        write_stream(stream, count, *choice, text)?;
+        write_stream(stream, count, choice, text)?;
         streams = later_streams;
         unit_counts = later_counted;
         choices = later_choices;
