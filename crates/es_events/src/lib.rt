@@ -10,8 +10,8 @@
 //!
 //! - [`TraceRow`]: what a packet of the stream, or a part of it, found in the buffers.
 //! - [`Ring`]: the last 64 rows.
-//! - [`Traces`]: takes each row ([`Traces::add`]), and keeps of each buffer the 64 rows that end 32 rows after its
-//!   greatest excess.
+//! - [`Traces`]: takes each row ([`Traces::add`]), and keeps of each buffer the 64 rows that end 32 rows after its greatest
+//!   excess.
 #![tactic(auto)]
 
 pub mod clocks;

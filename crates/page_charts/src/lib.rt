@@ -8,9 +8,9 @@
 //! A page has only this crate's texts, decimal numbers, and the names given to `PidLabels`.
 //!
 //! Pictures of buffers around their greatest excesses are drawn while events arrive: [`TracePictures`] takes events
-//! (`TracePictures::take`), and writes the pictures at the end (`TracePictures::write`), each with its numbers as a
-//! table. `points` draws a packet, `pictures` the title, the scale and the size around all packets of a buffer; `links`
-//! has links to the pictures that are there.
+//! (`TracePictures::take`), and writes the pictures at the end (`TracePictures::write`), each with its numbers as a table.
+//! `points` draws a packet, `pictures` the title, the scale and the size around all packets of a buffer; `links` has links
+//! to the pictures that are there.
 #![tactic(auto)]
 
 mod branch;

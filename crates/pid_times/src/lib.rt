@@ -2,8 +2,8 @@
 //!
 //! ETSI TR 101 290, 5.2.1, 1.6 PID_error: video and audio may be without a packet for 5 s.
 //!
-//! - [`PidGaps`]: the place of the last packet of each PID; `take` returns a time that is too long, `push_stopped`
-//!   appends each that is too long at the end.
+//! - [`PidGaps`]: the place of the last packet of each PID; `take` returns a time that is too long, `push_stopped` appends
+//!   each that is too long at the end.
 //! - [`push_gap_if`], [`push_gaps`]: their events, of PIDs that the first tables name as video or audio.
 //! - [`windows`]: the references of each PID in the last window, and the drift of its clock from the clock of arrival.
 #![tactic(auto)]
