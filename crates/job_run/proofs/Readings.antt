@@ -21,7 +21,7 @@ use Rattle.packet_sync.specs.declared.packet_sizes.OtherPackets.{OtherPackets}
 use Rattle.packet_sync.specs.declared.file_form.FileForm.{FileForm}
 use Rattle.packet_sync.proofs.FrontBytes.{other_front}
 use Rattle.packet_sync.proofs.PacketBytes.{inner_append}
-use Rattle.job_run.specs.Streams.{CarriedView, HasFront, HasPackets, InnerView, IsCarriedTo, IsInner, IsRead, ReadingView, ReadsFront, ReadsStream, TakesFront, whole_stream}
+use Rattle.job_run.specs.Streams.{HasFront, HasPackets, InnerView, IsInner, IsRead, ReadingView, ReadsFront, ReadsStream, TakesFront, whole_stream}
 
 -- 1. More bytes
 
@@ -95,7 +95,9 @@ more_inner : (other : Option OtherPackets) (bytes piece : List ℕ) →
     packet_bytes other 0 (bytes ++ piece) ≡ packet_bytes other 0 bytes ++ packet_bytes other (length bytes) piece
 unfolding packet_bytes
 more_inner None bytes piece = refl
-more_inner (Some packets) bytes piece = inner_append packets 0 bytes piece
+more_inner (Some packets) bytes piece =
+    let size : 0 + length bytes ≡ length bytes = omega arith in
+    inner_append packets 0 bytes piece ∙ ap (λ (n : ℕ). inner_bytes packets 0 bytes ++ inner_bytes packets n piece) size
 
 pub plain_is : (place : ℕ) (piece : List ℕ) → piece ≡ packet_bytes None place piece
 unfolding packet_bytes

@@ -1,4 +1,4 @@
-use Rattle.std.proofs.Common.{◌++◌, ◌∙◌, List, ℕ, false, sym, subst}
+use Rattle.std.proofs.Common.{◌++◌, ◌∙◌, List, ℕ, false, subst}
 use Rattle.job_run.specs.Streams.{IsCarriedTo}
 use Rattle.job_run.proofs.Readings.{inner_is, plain_is}
 use Rattle.job_run.proofs.inner_stream.take_packets.Goals as goal
