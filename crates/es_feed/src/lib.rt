@@ -8,10 +8,10 @@
 //! fed what the whole stream feeds, and at each moment a beginning of it. A `WatchedFeed` finds where packets are out
 //! of step, too (`specs/Watching`). `specs/FedLines` says which records the feed writes.
 //!
-//! Records of units are written on an output in large pieces: [`write_job`] writes a job's texts and the records of
-//! units that are given (`specs/Records`); [`pass_stream`] reads a stream as it arrives, and writes all units that a
-//! read makes whole before the next read, with a report on each unit that has no moment. `specs/Passing` says what has
-//! gone out of a stream at each end.
+//! Records of units are written on an output in large pieces: [`write_job`] writes a job's texts and the records of units
+//! that are given (`specs/Records`); [`pass_stream`] reads a stream as it arrives, and writes all units that a read makes
+//! whole before the next read, with a report on each unit that has no moment. `specs/Passing` says what has gone out of a
+//! stream at each end.
 #![tactic(auto)]
 
 mod clock_feed;
