@@ -11,7 +11,7 @@ invariant-records g l = record {
   reads : g.R.Source.fault_count l.input ≡ g.R.Source.fault_count l.fn.input;
   writes : g.W.Sink.fault_count l.output ≡ g.W.Sink.fault_count l.fn.output;
   stops : l.fn.stop ≡ true → l.has_refused ≡ false;
-  known : (run : Run) (start : Option (List ℕ)) → l.fn.streams.now ≡ limits_in run → IsOnAir run silence start (g.W.Write.contents l.fn.output) l.fn.on_air →
+  known : (run : Run) (start : Option (List ℕ)) → l.fn.streams ≡ limits_in run → IsOnAir run silence start (g.W.Write.contents l.fn.output) l.fn.on_air →
       Midway run (g.R.Read.remaining l.fn.input) (g.R.Read.remaining l.input) start (g.W.Write.contents l.output)
       (between (record { bytes = g.E.Write.contents l.fn.faults; failed = g.E.Sink.fault_count l.fn.faults })
       (record { bytes = g.E.Write.contents l.faults; failed = g.E.Sink.fault_count l.faults })) l.has_refused l.on_air;
