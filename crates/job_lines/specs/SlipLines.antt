@@ -25,6 +25,14 @@ remedy NetworkCapture = []
 remedy Text = []
 remedy Unknown = []
 
+-- what an input is that is no transport stream
+abbrev pub form_text : FileForm → List ℕ
+form_text form = words form ++ codes ", not a transport stream"
+
+-- what makes one
+abbrev pub remedy_text : FileForm → List ℕ
+remedy_text form = remedy form ++ codes "\n"
+
 -- an input that is no transport stream
 abbrev pub no_stream_line : FileForm → List ℕ
-no_stream_line form = words form ++ codes ", not a transport stream" ++ remedy form ++ codes "\n"
+no_stream_line form = form_text form ++ remedy_text form

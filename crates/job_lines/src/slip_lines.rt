@@ -43,12 +43,26 @@ fn remedy(form: FileForm) -> &'static str
     }
 }
 
+// Appends the form of an input that is no transport stream.
+fn write_form(form: FileForm, text: &mut String) -> Result<(), AllocError>
+    ensures { OnOk result (string_bytes text.new ≡ string_bytes text.old ++ spec.form_text form) }
+{
+    text.push_str(form.words())?;
+    text.push_str(", not a transport stream")
+}
+
+// Appends what makes a transport stream of it, if something does, and ends the line.
+fn write_remedy(form: FileForm, text: &mut String) -> Result<(), AllocError>
+    ensures { OnOk result (string_bytes text.new ≡ string_bytes text.old ++ spec.remedy_text form) }
+{
+    text.push_str(remedy(form))?;
+    text.push_str("\n")
+}
+
 /// Appends the line for an input that is no transport stream but of this form.
 pub fn write_no_stream(form: FileForm, text: &mut String) -> Result<(), AllocError>
     ensures { OnOk result (string_bytes text.new ≡ string_bytes text.old ++ spec.no_stream_line form) }
 {
-    text.push_str(form.words())?;
-    text.push_str(", not a transport stream")?;
-    text.push_str(remedy(form))?;
-    text.push_str("\n")
+    write_form(form, text)?;
+    write_remedy(form, text)
 }
