@@ -9,12 +9,12 @@ pub returns-in_ok-take-in-None : goal.returns-in_ok-take-in-None
 returns-in_ok-take-in-None c = λ packets so.
     subst (λ (r : List ℕ). IsCarriedTo (packets ++ r) false c.take.new.self)
     (plain_is c.args.place c.args.piece.now
-        ∙ ap (λ (o : Option OtherPackets). packet_bytes o c.args.place c.args.piece.now) (sym c.in-None.is))
+    ∙ ap (λ (o : Option OtherPackets). packet_bytes o c.args.place c.args.piece.now) (sym c.in-None.is))
     (c.in_ok-take-in-None.ensures packets so)
 
 pub returns-in_ok-take-in-Some : goal.returns-in_ok-take-in-Some
 returns-in_ok-take-in-Some c = λ packets so.
     subst (λ (r : List ℕ). IsCarriedTo (packets ++ r) false c.take-in-Some.new.self)
     (c.deref.ensures.value ∙ c.in_ok-inner-in-Some.ensures ∙ inner_is c.in-Some.size c.args.place c.args.piece.now
-        ∙ ap (λ (o : Option OtherPackets). packet_bytes o c.args.place c.args.piece.now) (sym c.in-Some.is))
+    ∙ ap (λ (o : Option OtherPackets). packet_bytes o c.args.place c.args.piece.now) (sym c.in-Some.is))
     (c.in_ok-take-in-Some.ensures packets so)
