@@ -20,7 +20,7 @@ drawn_page bytes (Err fault) text is = absurd is
 faulty_job : (bytes : List ℕ) (wanted : Result JobView JobFaultView) (fault : JobFaultView) (line : List ℕ) → Err fault ≡ wanted →
     IsFaultLine bytes fault line → IsOutcome bytes wanted (reported line)
 faulty_job bytes wanted fault line is said =
-    subst (λ (w : Result JobView JobFaultView). IsOutcome bytes w (reported line)) is (line, (said, refl))
+    subst (λ (w : Result JobView JobFaultView). IsOutcome bytes w (reported line)) is (line, said, refl)
 
 pub page_written : (bytes text : List ℕ) (input output faults : Device) (status : ℕ) → ReadsInput input (Ok bytes) → IsPageOf (job_of false bytes) text →
     Takes output text → IsClean output → IsUntouched faults → status ≡ 0 → Performs DrawsPlan input output faults status
