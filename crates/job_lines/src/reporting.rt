@@ -1,7 +1,7 @@
 //! Which lines are reported.
 
 /// Which lines are reported.
-#[derive(Clone, Copy, Debug, PartialEq, Eq)]
+#[derive(Clone, Copy)]
 pub struct Reporting {
     /// Whether the input is declared to end with its last PES packets: then an unknown end is no warning.
     pub whole: bool,

@@ -10,14 +10,14 @@ use std::alloc::{AllocError, AllocFailed};
 
 /// Buffers that `--buffers` can give a stream: the rate out of its transport buffer in bits a second, and its main
 /// buffer in bytes.
-#[derive(Clone, Copy, PartialEq, Eq)]
+#[derive(Clone, Copy)]
 pub struct GreaterBuffers {
     pub rx: u32,
     pub main: u32,
 }
 
 /// Programs that a transport stream names: the numbers of the first four, and how many there are.
-#[derive(Clone, Copy, PartialEq, Eq)]
+#[derive(Clone, Copy)]
 pub struct NamedNumbers {
     pub first: Option<u16>,
     pub second: Option<u16>,
@@ -27,7 +27,7 @@ pub struct NamedNumbers {
 }
 
 /// Why the only picture or the only sound of a program can't be carried, as a refusal of the stream says it.
-#[derive(Clone, Copy, PartialEq, Eq)]
+#[derive(Clone, Copy)]
 pub enum LeftOutCause {
     Scrambled,
     StreamId {
@@ -57,7 +57,7 @@ pub enum LeftOutCause {
 }
 
 /// Why a transport stream is refused: then nothing is written; or why a stream of it is left out.
-#[derive(Clone, Copy, PartialEq, Eq)]
+#[derive(Clone, Copy)]
 pub enum JobRefusal {
     /// More than half of its packets of 188 bytes are no packets.
     NoPackets,
@@ -142,7 +142,7 @@ pub enum JobRefusal {
 }
 
 /// Why a call fails.
-#[derive(Clone, Copy, PartialEq, Eq)]
+#[derive(Clone, Copy)]
 pub enum JobError {
     /// No memory was left.
     Memory,

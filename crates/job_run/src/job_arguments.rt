@@ -9,7 +9,7 @@ use job_programs::JobOptions;
 use std::marker::Model;
 
 /// The kind of output.
-#[derive(Clone, Copy, Debug, PartialEq, Eq)]
+#[derive(Clone, Copy)]
 pub enum Subcommand {
     /// The whole job.
     Whole,

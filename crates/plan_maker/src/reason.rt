@@ -18,7 +18,7 @@ use streams::{drain_reason, lead_reason, leak_reason, main_reason};
 
 /// A number of the description that no plan can keep, with the least number that is no longer a reason. There may be
 /// more reasons, and a plan may need a greater number.
-#[derive(Clone, Copy, Debug, PartialEq, Eq)]
+#[derive(Clone, Copy)]
 pub enum Reason {
     /// The PCR limit of a program is shorter than a slot: the least limit in ms.
     PcrLimit(u8, u64),

@@ -8,7 +8,7 @@ use crate::leaving::Leaving;
 use arrival::Row;
 
 /// A time when a buffer was not empty.
-#[derive(Clone, Copy, Debug, PartialEq, Eq)]
+#[derive(Clone, Copy)]
 pub struct Stay {
     pub begin: u128,
     pub end: u128,

@@ -13,7 +13,7 @@ use crate::transport_buffer::TransportBuffer;
 use arrival::Row;
 
 /// A time when a buffer is full: it begins when a byte arrives that finds no room, and ends when there is room again.
-#[derive(Clone, Copy, Debug, PartialEq, Eq)]
+#[derive(Clone, Copy)]
 pub struct Excess {
     pub begin: u128,
     pub end: u128,

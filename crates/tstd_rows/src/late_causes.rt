@@ -6,7 +6,7 @@ use crate::unit_seen::UnitSeen;
 
 /// Why a unit is not whole in the elementary stream buffer when it is decoded (ISO/IEC 13818-1, 2.4.2.3, the leak
 /// method).
-#[derive(Clone, Copy, Debug, PartialEq, Eq)]
+#[derive(Clone, Copy)]
 pub enum LateCause {
     /// The multiplexing buffer alone makes it late: the multiplex sent its bytes too late, or too many of them at a
     /// time.
@@ -32,7 +32,7 @@ pub fn late_cause(deadline: u128, alone: u128, room: u128) -> Option<LateCause>
 
 /// A unit of video, as far as it has arrived. Its last byte leaves the multiplexing buffer at `seen.left` if the
 /// elementary stream buffer is never full.
-#[derive(Clone, Copy, Debug, PartialEq, Eq)]
+#[derive(Clone, Copy)]
 pub struct VideoUnit {
     pub seen: UnitSeen,
     /// When its last byte goes to the elementary stream buffer (no byte goes while that is full); 0 if no byte has

@@ -5,7 +5,7 @@ ghost use Rattle.tstd_rows.specs.DueTimes.{due_on};
 use clock27::units::BYTE_TICKS_AT_1BPS;
 
 /// When a unit is due, in whole units of time at the buffer of its stream.
-#[derive(Clone, Copy, Debug, PartialEq, Eq)]
+#[derive(Clone, Copy)]
 pub struct DueTime {
     /// The first moment at which its bytes are no longer in the main buffer.
     pub until: u128,
@@ -30,7 +30,7 @@ impl DueTime {
 }
 
 /// A unit, as far as it has arrived.
-#[derive(Clone, Copy, Debug, PartialEq, Eq)]
+#[derive(Clone, Copy)]
 pub struct UnitSeen {
     pub due: DueTime,
     /// The number of its bytes.
