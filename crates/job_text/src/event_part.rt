@@ -8,7 +8,7 @@ use crate::key_line::{write_header, write_number, write_numbers, write_string};
 use std::alloc::{AllocError, Allocator};
 
 /// An event of a service in a description (EN 300 468, 5.2.4 and 6.2.37).
-#[derive(Clone, Copy, PartialEq, Eq)]
+#[derive(Clone, Copy)]
 pub struct EventPart<'a> {
     /// The number of its program.
     pub program: u16,

@@ -8,7 +8,7 @@ use crate::key_line::{write_number, write_numbers, write_sums};
 use std::alloc::{AllocError, Allocator};
 
 /// The access units of a stream's units, if these are PES packets that hold several (ISO/IEC 13818-1, 2.4.2.3).
-#[derive(Clone, Copy, PartialEq, Eq)]
+#[derive(Clone, Copy)]
 pub struct FramingPart<'a> {
     /// The most access units of a unit.
     pub frames: u8,

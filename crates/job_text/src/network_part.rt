@@ -8,7 +8,7 @@ use crate::key_line::{write_hex, write_number, write_string, write_table_header}
 use std::alloc::{AllocError, Allocator};
 
 /// The network of a description's network information table (EN 300 468, 5.2.1).
-#[derive(Clone, Copy, PartialEq, Eq)]
+#[derive(Clone, Copy)]
 pub struct NetworkPart<'a> {
     /// network_id.
     pub id: u16,

@@ -18,7 +18,7 @@ use unit_timing::multiplexing_buffer::MultiplexingBuffer;
 
 /// An elementary stream and its units in a description (ISO/IEC 13818-1, 2.4.2 and 2.4.4.8). It has no component_tag
 /// and no language of its own: their descriptors are among `descriptors`.
-#[derive(Clone, Copy, PartialEq, Eq)]
+#[derive(Clone, Copy)]
 pub struct StreamPart<'a> {
     /// The number of its program.
     pub program: u16,

@@ -19,7 +19,7 @@ use std::alloc::{AllocError, Global};
 const INFORMATION_PIDS: [u16; 4] = [0x10, 0x11, 0x12, 0x14];
 
 /// A warning: what of the service information of a stream is left out.
-#[derive(Clone, Copy, PartialEq, Eq)]
+#[derive(Clone, Copy)]
 pub enum InformationWarning {
     /// A section of present and following events of the stream itself ends in this packet and is not carried unchanged:
     /// not in force, not readable, or with an event that is not taken or has other descriptors than a short event
