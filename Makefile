@@ -125,7 +125,7 @@ edits: ## Try all wrong bodies, also those that the gate does not try (after mak
 	tools/try-edits
 
 # Needs python3 and cc.
-bench: binary tsjob tsair tsview ## Measure speed and how full a multiplex can be (docs/SPEED.md).
+bench: binary tsjob tsair tsview ## Measure speed and how full a multiplex can be (bench/README.md).
 	python3 bench/mux.py $(BINARY)
 	python3 bench/air.py $(BINARY) $(TSAIR)
 	python3 bench/slots.py $(BINARY)
