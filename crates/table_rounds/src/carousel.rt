@@ -18,7 +18,7 @@ pub struct TableCarousel {
     pid: u16,
     rate: Rate,
     start: u32,
-    packets_per_section: ArrayVec<u16, 32>,
+    packets_per_section: ArrayVec<u16, 128>,
     section: u8,
     part: u16,
     moment: u64,
@@ -55,8 +55,8 @@ fn places_of(length: u16) -> u16
 }
 
 // Returns the number of packets of each section of these lengths.
-fn places_of_each(lengths: &[u16]) -> ArrayVec<u16, 32>
-    requires { length lengths.now ≤ 32 }
+fn places_of_each(lengths: &[u16]) -> ArrayVec<u16, 128>
+    requires { length lengths.now ≤ 128 }
     ensures { result.items ≡ map places_of lengths.now }
 {
     let mut places = ArrayVec::new();
@@ -79,7 +79,7 @@ impl TableCarousel {
     /// 1970-01-01T00:00:00 UTC. `lengths` has the greatest length of each section over all moments, in bytes.
     pub fn new(pid: u16, rate: Rate, start: u32, lengths: &[u16]) -> TableCarousel
         requires pid { pid < 2 ^ 13 }
-        requires sections { length lengths.now ≤ 32 }
+        requires sections { length lengths.now ≤ 128 }
         ensures { result ≡ spec.first_carousel pid rate start lengths.now }
     {
         TableCarousel {
