@@ -37,11 +37,15 @@ run: binary ## Prove and build tsmux, then multiplex the radio example (37 minut
 	    rt try -- --plan < ../../out/radio.job > ../../out/radio-plan.html; fi
 	@ls -l out/radio.html out/radio-plan.html
 
-# `make try WORDS='check' < JOB` runs another command, and PROGRAM=tsjob another program. The kit's trial run takes 64 MiB of input and
-# 1 MiB of output: enough for `plan`, `check`, `monitor` and `tsjob why`.
+# `make try WORDS='check' < JOB` runs another command, and PROGRAM=tsjob another program; `make try IN=film.ts` says what `tsjob` would do with a
+# stream, and how full a receiver's buffers would be. The kit's trial run takes 64 MiB of input and 1 MiB of output.
 ifdef WORDS
-try: ## Run tsmux without proofs on the radio example, or with WORDS='..' (1 to 2 minutes).
+try: ## Run tsmux without proofs on the radio example, with WORDS='..', or look at a stream: IN=film.ts (1 to 2 minutes a program).
 	@cd crates/$(PROGRAM) && rt try -- $(WORDS)
+else ifdef IN
+try:
+	@cd crates/tsjob && rt try -- why < $(abspath $(IN)) || true
+	@cd crates/tsview && rt try -- --quiet < $(abspath $(IN)) || true
 else
 try:
 	cd crates/tsmux && rt try -- plan < ../../examples/radio/radio.toml
