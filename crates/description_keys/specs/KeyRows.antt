@@ -5,13 +5,14 @@ use Rattle.toml.specs.Data.{Data, get}
 use Rattle.description_values.specs.Moments.{moment_at}
 use Rattle.description_values.specs.Values.{boolean_or, descriptors_or_none, integer_at, integer_or, language_at, optional_integer}
 use Rattle.description_values.specs.Values.{optional_language, sections_at, tables_at, text_at, text_or}
-use Rattle.description_keys.specs.ProgramKeys.{refuses_channel}
+use Rattle.description_keys.specs.ProgramKeys.{refuses_channel, refuses_pcr_pid}
 use Rattle.description_keys.specs.Refusals.{is_no_table}
 use Rattle.description_keys.specs.Rules.{Rule, rule}
 use Rattle.description_keys.specs.StreamKeys.{has_frame_left, has_owner, has_sharers, refuses_burst_packets, refuses_frame, refuses_frame_size, refuses_frames}
 use Rattle.description_keys.specs.StreamKeys.{refuses_group, refuses_group_packets, refuses_mb, refuses_pace, refuses_rbx, stream_id, stream_main}
 use Rattle.description_keys.specs.StreamKeys.{stream_rx, stream_size}
 use Rattle.description_keys.specs.TableKeys.{entry_descriptors, entry_type, is_listed}
+use Rattle.description_keys.specs.TopKeys.{limit_in, refuses_shared_clock}
 use Rattle.description_keys.specs.declared.keys.TheConstants.{KEYS}
 use Rattle.description_keys.specs.declared.key_row.Row.{Row}
 use Rattle.description_keys.specs.declared.key_row.KeyPart.{KeyPart}
@@ -46,6 +47,8 @@ row_of code = find (λ row. row.code == code) keys
 
 -- a key whose values depend on other keys
 abbrev pub refuses_jointly : JointKey → Data → Data → Bool
+refuses_jointly joint.SharedClock document d = refuses_shared_clock d
+refuses_jointly joint.ClockPid document d = refuses_pcr_pid document d
 refuses_jointly joint.Channel document d = refuses_channel document d
 refuses_jointly joint.StreamId document d = is_none (stream_id d)
 refuses_jointly joint.Size document d = is_none (stream_size d)
@@ -86,7 +89,7 @@ refuses_kind kind.Descriptors name document d = is_none (descriptors_or_none nam
 refuses_kind kind.Sections name document d = not (sections_at name d)
 refuses_kind kind.Owner name document d = not (has_owner document d)
 refuses_kind kind.OneTable name document d = has_no_table name d
-refuses_kind (kind.Tables least most) name document d = not (tables_at (least == 0) name least most d)
+refuses_kind (kind.Tables least most more) name document d = not (tables_at (least == 0) name least (limit_in document most more) d)
 refuses_kind (kind.Joint key) name document d = refuses_jointly key document d
 
 abbrev pub refuses_row : KeyRow → Data → Data → Bool

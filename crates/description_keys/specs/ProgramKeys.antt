@@ -1,9 +1,11 @@
 -- The keys of a table of the array `program`.
 use Rattle.std.specs.Prelude.{ℕ, pos, ◌==◌, ◌&&◌, ◌||◌, not, Bool, true, false, List, [], ◌∷◌, Option, Some, None, codes, is_none, unwrap_or}
 use Rattle.std.specs.List.{list_any}
+use Rattle.std.specs.Option.{option_or}
 use Rattle.toml.specs.Data.{Data, get}
 use Rattle.description_values.specs.Values.{integer_at, integer_or, optional_integer, text_or, descriptors_or_none, elements}
 use Rattle.description_keys.specs.Rules.{Rule, needs, rule}
+use Rattle.description_keys.specs.TopKeys.{clock_pid_of, has_own_clock}
 use Rattle.description_keys.specs.declared.key_row.KeyPart.TheVariants as part
 
 -- program_number, a program's and therefore not 0 (ISO/IEC 13818-1, 2.4.4.5)
@@ -17,8 +19,17 @@ has_number number program = elim (program_number program) [ None ↦ false | Som
 abbrev pub program_pmt_pid : Data → Option ℕ
 program_pmt_pid = integer_at (codes "pmt_pid") (pos 32) (pos 8190)
 
+-- the PID of its own clock references
 abbrev pub program_pcr_pid : Data → Option ℕ
 program_pcr_pid = integer_at (codes "pcr_pid") (pos 32) (pos 8190)
+
+-- PCR_PID (ISO/IEC 13818-1, 2.4.4.9): its own PID, or the shared PID of the document; the least PID if both are refused
+abbrev pub clock_pid_in : Data → Data → ℕ
+clock_pid_in document program = unwrap_or (option_or (program_pcr_pid program) (clock_pid_of document)) 32
+
+-- the key may be absent if the document has a shared PID
+abbrev pub refuses_pcr_pid : Data → Data → Bool
+refuses_pcr_pid document program = is_none (program_pcr_pid program) && (has_own_clock program || is_none (clock_pid_of document))
 
 -- the greatest time between two PCRs, in ms (ISO/IEC 13818-1, 2.7.2; TR 101 290, 5.2.2)
 abbrev pub program_pcr_limit : Data → Option ℕ
@@ -70,7 +81,7 @@ refuses_channel document program = elim (program_channel program) [ None ↦ tru
 abbrev pub program_rules : List Rule
 program_rules = needs part.Program 31 (codes "number") program_number
     ∷ needs part.Program 32 (codes "pmt_pid") program_pmt_pid
-    ∷ needs part.Program 33 (codes "pcr_pid") program_pcr_pid
+    ∷ rule part.Program 33 (codes "pcr_pid") (λ document program. refuses_pcr_pid document program)
     ∷ needs part.Program 34 (codes "pcr_limit") program_pcr_limit
     ∷ needs part.Program 35 (codes "descriptors") program_descriptors
     ∷ needs part.Program 36 (codes "service_type") program_service_type

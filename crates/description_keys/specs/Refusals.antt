@@ -6,7 +6,7 @@ use Rattle.toml.specs.Data.{Data, get}
 use Rattle.description_values.specs.Values.{elements, is_table, tables_at}
 use Rattle.description_values.specs.KnownKeys.{knows_keys}
 use Rattle.description_keys.specs.Rules.{Rule, names_in, rule}
-use Rattle.description_keys.specs.TopKeys.{top_rules}
+use Rattle.description_keys.specs.TopKeys.{limit_in, top_rules}
 use Rattle.description_keys.specs.NetworkKeys.{network_rules}
 use Rattle.description_keys.specs.ProgramKeys.{program_rules}
 use Rattle.description_keys.specs.StreamKeys.{stream_rules}
@@ -54,17 +54,18 @@ is_no_table (Some network) = not (is_table network)
 abbrev pub network_rule : Rule
 network_rule = rule part.Document 20 (codes "network") (λ document d. is_no_table (network_of d))
 
--- an array of tables: whether it may be absent, its key, and the least and the greatest number of tables
-abbrev pub array_rule : ℕ → Bool → List ℕ → ℕ → ℕ → Rule
-array_rule code absent name least most = rule part.Document code name (λ document d. not (tables_at absent name least most d))
+-- an array of tables: whether it may be absent, its key, and the least and the greatest number of tables, without and with `transponder`
+abbrev pub array_rule : ℕ → Bool → List ℕ → ℕ → ℕ → ℕ → Rule
+array_rule code absent name least most more =
+    rule part.Document code name (λ document d. not (tables_at absent name least (limit_in document most more) d))
 
 unfoldable pub rules : List Rule
 rules = top_rules
     ++ ((network_rule ∷ network_rules)
-    ++ ((array_rule 30 false (codes "program") 1 16 ∷ program_rules)
-    ++ ((array_rule 40 true (codes "stream") 0 32 ∷ stream_rules)
-    ++ ((array_rule 60 true (codes "event") 0 256 ∷ event_rules)
-    ++ (array_rule 70 true (codes "table") 0 16 ∷ table_rules)))))
+    ++ ((array_rule 30 false (codes "program") 1 16 64 ∷ program_rules)
+    ++ ((array_rule 40 true (codes "stream") 0 32 254 ∷ stream_rules)
+    ++ ((array_rule 60 true (codes "event") 0 256 1024 ∷ event_rules)
+    ++ (array_rule 70 true (codes "table") 0 16 64 ∷ table_rules)))))
 
 -- the keys that a part may have
 abbrev pub names_of : KeyPart → List (List ℕ)

@@ -13,6 +13,7 @@ use Rattle.description_values.specs.Values.{at_key, integer_in, integer_at, inte
 use Rattle.description_values.specs.Values.{array_in, is_distinct}
 use Rattle.description_keys.specs.ProgramKeys.{has_number}
 use Rattle.description_keys.specs.Rules.{Rule, needs, rule}
+use Rattle.description_keys.specs.TopKeys.{limit_in}
 use Rattle.description_keys.specs.declared.key_row.KeyPart.TheVariants as part
 
 -- the number of the program that a stream or an event belongs to
@@ -141,7 +142,7 @@ refuses_burst_packets stream = is_paced stream && is_none (stream_burst_packets 
 abbrev pub refuses_pace : Data → Bool
 refuses_pace stream = is_paced stream && is_none (stream_pace stream)
 
--- the programs, other than its own, whose PMTs name it: up to 15 numbers of declared programs, each once
+-- the programs, other than its own, whose PMTs name it: up to 15 numbers of declared programs, with `transponder` up to 63, each once
 abbrev pub number_in : Data → Option ℕ
 number_in = integer_in (pos 1) (pos 65535)
 
@@ -151,14 +152,14 @@ names_another document stream d = elim (number_in d) [ None ↦ false | Some num
 abbrev pub are_sharers : Data → Data → Data → Bool
 are_sharers document stream d = elim (array_in d) [
   | None ↦ false
-  | Some ds ↦ nat_le (length ds) 15 && (list_all (names_another document stream) ds && is_distinct (filter_map number_in ds))
+  | Some ds ↦ nat_le (length ds) (limit_in document 15 63) && (list_all (names_another document stream) ds && is_distinct (filter_map number_in ds))
 ]
 
 abbrev pub has_sharers : Data → Data → Bool
 has_sharers document stream = elim (get (codes "shared_with") stream) [ None ↦ true | Some value ↦ are_sharers document stream value ]
 
 abbrev pub sharers_of : List Data → List ℕ
-sharers_of ds = if nat_le (length ds) 15 then filter_map number_in ds else []
+sharers_of ds = if nat_le (length ds) 63 then filter_map number_in ds else []
 
 abbrev pub stream_sharers : Data → List ℕ
 stream_sharers stream = sharers_of (elements (codes "shared_with") stream)

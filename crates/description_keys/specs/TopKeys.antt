@@ -1,9 +1,11 @@
 -- The keys of the document itself, but for its arrays.
-use Rattle.std.specs.Prelude.{ℕ, pos, Bool, false, List, [], ◌∷◌, Option, codes}
-use Rattle.toml.specs.Data.{Data}
-use Rattle.description_values.specs.Values.{integer_at, integer_or, boolean_or}
+use Rattle.std.specs.Prelude.{ℕ, pos, ◌&&◌, ◌||◌, Bool, false, List, [], ◌∷◌, Option, None, codes, is_none, is_some, unwrap_or}
+use Rattle.std.specs.Prelude.{if◌then◌else◌}
+use Rattle.std.specs.List.{list_all}
+use Rattle.toml.specs.Data.{Data, get}
+use Rattle.description_values.specs.Values.{integer_at, integer_or, optional_integer, boolean_or, elements}
 use Rattle.description_values.specs.Moments.{moment_at}
-use Rattle.description_keys.specs.Rules.{Rule, needs}
+use Rattle.description_keys.specs.Rules.{Rule, needs, rule}
 use Rattle.description_keys.specs.declared.key_row.KeyPart.TheVariants as part
 
 -- the rate of the transport stream, in bits a second
@@ -33,9 +35,41 @@ has_sdt = boolean_or false (codes "sdt")
 abbrev pub has_tdt : Data → Option Bool
 has_tdt = boolean_or false (codes "tdt")
 
+-- whether the description has the greater limits of a whole transponder: not if the key is absent or refused
+abbrev pub transponder : Data → Option Bool
+transponder = boolean_or false (codes "transponder")
+
+abbrev pub is_transponder : Data → Bool
+is_transponder document = unwrap_or (transponder document) false
+
+-- a limit of a description: the first number, with `transponder` the second
+abbrev pub limit_in : Data → ℕ → ℕ → ℕ
+limit_in document most more = if is_transponder document then more else most
+
+-- the PID of the clock references that the programs without a `pcr_pid` share (ISO/IEC 13818-1, 2.4.4.9), if they share one
+abbrev pub clock_pid : Data → Option (Option ℕ)
+clock_pid = optional_integer (codes "clock_pid") (pos 32) (pos 8190)
+
+-- none if the key is refused
+abbrev pub clock_pid_of : Data → Option ℕ
+clock_pid_of document = unwrap_or (clock_pid document) None
+
+-- a program has clock references of its own
+abbrev pub has_own_clock : Data → Bool
+has_own_clock program = is_some (get (codes "pcr_pid") program)
+
+-- a shared PID is refused if no program uses it
+abbrev pub have_own_clocks : Data → Bool
+have_own_clocks document = list_all has_own_clock (elements (codes "program") document)
+
+abbrev pub refuses_shared_clock : Data → Bool
+refuses_shared_clock document = is_none (clock_pid document) || (is_some (clock_pid_of document) && have_own_clocks document)
+
 -- the rules of the keys, by their numbers
 abbrev pub top_rules : List Rule
 top_rules = needs part.Document 10 (codes "rate") rate ∷ needs part.Document 11 (codes "start") start
     ∷ needs part.Document 12 (codes "base0") base0 ∷ needs part.Document 13 (codes "ts_id") transport_stream_id
     ∷ needs part.Document 14 (codes "original_network_id") original_network_id
-    ∷ needs part.Document 15 (codes "sdt") has_sdt ∷ needs part.Document 16 (codes "tdt") has_tdt ∷ []
+    ∷ needs part.Document 15 (codes "sdt") has_sdt ∷ needs part.Document 16 (codes "tdt") has_tdt
+    ∷ needs part.Document 17 (codes "transponder") transponder
+    ∷ rule part.Document 18 (codes "clock_pid") (λ document d. refuses_shared_clock d) ∷ []

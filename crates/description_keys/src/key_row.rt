@@ -37,9 +37,11 @@ impl KeyPart {
     }
 }
 
-/// A key whose values depend on the other keys of its part.
+/// A key whose values depend on other keys.
 #[derive(Clone, Copy)]
 pub enum JointKey {
+    SharedClock,
+    ClockPid,
     Channel,
     StreamId,
     Size,
@@ -92,9 +94,10 @@ pub enum KeyKind {
     Owner,
     /// A table, or no table.
     OneTable,
-    /// Tables, at least the first and at most the second number; an absent key is no tables.
-    Tables(usize, usize),
-    /// What the key may have beside the other keys of its part.
+    /// Tables, at least the first and at most the second number, with `transponder = true` at most the third; an absent key
+    /// is no tables.
+    Tables(usize, usize, usize),
+    /// What the key may have beside other keys.
     Joint(JointKey),
 }
 

@@ -5,8 +5,9 @@ ghost use Rattle.description_keys.specs.KeyRows.{keys, row_of, rule_of, view};
 ghost use Rattle.description_keys.specs.Refusals.{rules};
 
 use crate::key_row::JointKey::{
-    BurstPackets, Channel, EntryDescriptors, EntryProgram, EntryType, Frame, FrameLeft, FrameSize,
-    Frames, Group, GroupPackets, Main, Mb, Pace, Rbx, Rx, SharedWith, Size, StreamId,
+    BurstPackets, Channel, ClockPid, EntryDescriptors, EntryProgram, EntryType, Frame, FrameLeft,
+    FrameSize, Frames, Group, GroupPackets, Main, Mb, Pace, Rbx, Rx, SharedClock, SharedWith, Size,
+    StreamId,
 };
 use crate::key_row::KeyKind::{
     Descriptors, Flag, Joint, Language, LanguageIfAny, Moment, Number, NumberIfAny, NumberOr,
@@ -16,7 +17,7 @@ use crate::key_row::KeyPart::{Document, Event, Network, Program, Stream, Table};
 use crate::key_row::{KeyRow, Row};
 
 /// All keys, in the order of their refusals: a table or an array before its keys.
-pub const KEYS: [KeyRow; 62] = [
+pub const KEYS: [KeyRow; 64] = [
     Row(
         Document,
         10,
@@ -36,14 +37,28 @@ pub const KEYS: [KeyRow; 62] = [
     Row(Document, 14, "original_network_id", Number(0, 65_535), ""),
     Row(Document, 15, "sdt", Flag, ""),
     Row(Document, 16, "tdt", Flag, ""),
+    Row(Document, 17, "transponder", Flag, ""),
+    Row(
+        Document,
+        18,
+        "clock_pid",
+        Joint(SharedClock),
+        "a PID, 32 to 8190, beside a program without pcr_pid",
+    ),
     Row(Document, 20, "network", OneTable, ""),
     Row(Network, 21, "id", Number(0, 65_535), ""),
     Row(Network, 22, "name", Text(200), ""),
     Row(Network, 23, "descriptors", Descriptors, ""),
-    Row(Document, 30, "program", Tables(1, 16), ""),
+    Row(Document, 30, "program", Tables(1, 16, 64), ""),
     Row(Program, 31, "number", Number(1, 65_535), ""),
     Row(Program, 32, "pmt_pid", Pid, ""),
-    Row(Program, 33, "pcr_pid", Pid, ""),
+    Row(
+        Program,
+        33,
+        "pcr_pid",
+        Joint(ClockPid),
+        "a PID, 32 to 8190; it may be absent beside clock_pid",
+    ),
     Row(Program, 34, "pcr_limit", NumberOr(40, 1, 100), " ms"),
     Row(Program, 35, "descriptors", Descriptors, ""),
     Row(Program, 36, "service_type", NumberOr(1, 0, 255), ""),
@@ -56,7 +71,7 @@ pub const KEYS: [KeyRow; 62] = [
         Joint(Channel),
         "1 to 1023, in no other program, and only beside [network]",
     ),
-    Row(Document, 40, "stream", Tables(0, 32), ""),
+    Row(Document, 40, "stream", Tables(0, 32, 254), ""),
     Row(Stream, 41, "program", Owner, ""),
     Row(Stream, 42, "pid", Pid, ""),
     Row(Stream, 43, "id", Joint(StreamId), "189, or 192 to 239"),
@@ -126,7 +141,7 @@ pub const KEYS: [KeyRow; 62] = [
         57,
         "shared_with",
         Joint(SharedWith),
-        "an array of up to 15 numbers of other programs, each once",
+        "an array of up to 15 numbers of other programs, with transponder = true up to 63, each once",
     ),
     Row(
         Stream,
@@ -184,7 +199,7 @@ pub const KEYS: [KeyRow; 62] = [
         Joint(FrameLeft),
         "frames - 1 numbers of 1 to size bytes, none less than the one before, beside frames and frame",
     ),
-    Row(Document, 60, "event", Tables(0, 256), ""),
+    Row(Document, 60, "event", Tables(0, 256, 1_024), ""),
     Row(Event, 61, "program", Owner, ""),
     Row(Event, 62, "id", Number(0, 65_535), ""),
     Row(Event, 63, "start", Moment, ""),
@@ -192,7 +207,7 @@ pub const KEYS: [KeyRow; 62] = [
     Row(Event, 65, "language", Language, ""),
     Row(Event, 66, "name", Text(100), ""),
     Row(Event, 67, "text", Text(150), ""),
-    Row(Document, 70, "table", Tables(0, 16), ""),
+    Row(Document, 70, "table", Tables(0, 16, 64), ""),
     Row(Table, 71, "pid", Pid, ""),
     Row(Table, 72, "limit", Number(1, 30_000), " ms"),
     Row(Table, 73, "sections", Sections, ""),

@@ -6,7 +6,9 @@
 
 // Keys whose values depend on other keys, and the program of a part.
 pub mod channels;
+pub mod clock_keys;
 pub mod frame_keys;
+pub mod limits;
 pub mod multiplexing_keys;
 pub mod owner;
 mod program_numbers;

@@ -6,10 +6,10 @@ ghost use Rattle.std.specs.List.{list_any};
 use arrayvec::ArrayVec;
 use std::marker::Model;
 
-/// Numbers of programs, at most 15. A contract sees the list.
+/// Numbers of programs, at most 63. A contract sees the list.
 #[derive(Drop)]
 pub struct ProgramNumbers {
-    pub(crate) numbers: ArrayVec<u16, 15>,
+    pub(crate) numbers: ArrayVec<u16, 63>,
 }
 
 impl Model for ProgramNumbers {
@@ -22,7 +22,7 @@ impl ProgramNumbers {
     /// Returns the numbers in their order.
     pub fn as_slice(&self) -> &[u16]
         ensures value { result.now ≡ self.now }
-        ensures fits { length self.now ≤ 15 }
+        ensures fits { length self.now ≤ 63 }
     {
         self.numbers.as_slice()
     }

@@ -6,8 +6,10 @@ ghost use Rattle.description_keys.specs.KeyRows as spec;
 ghost use Rattle.description_keys.specs.Refusals.{parts_of};
 
 use crate::channels::refuses_channel;
+use crate::clock_keys::{refuses_pcr_pid, refuses_shared_clock};
 use crate::frame_keys::{has_frame_left, refuses_frame, refuses_frame_size, refuses_frames};
 use crate::key_row::{JointKey, KeyKind, KeyRow};
+use crate::limits::limit_in;
 use crate::multiplexing_keys::{refuses_mb, refuses_rbx};
 use crate::owner::has_owner;
 use crate::parts::parts_of;
@@ -29,6 +31,8 @@ fn refuses_jointly(key: JointKey, document: &Value, part: &Value) -> bool
     ensures { result ≡ spec.refuses_jointly key (view document.now) (view part.now) }
 {
     match key {
+        JointKey::SharedClock => refuses_shared_clock(part),
+        JointKey::ClockPid => refuses_pcr_pid(document, part),
         JointKey::Channel => refuses_channel(document, part),
         JointKey::StreamId => stream_id(part).is_none(),
         JointKey::Size => size(part).is_none(),
@@ -80,7 +84,15 @@ fn refuses_kind(kind: KeyKind, name: &str, document: &Value, part: &Value) -> bo
         KeyKind::Sections => !sections_at(part, name),
         KeyKind::Owner => !has_owner(document, part),
         KeyKind::OneTable => has_no_table(part, name),
-        KeyKind::Tables(least, most) => !tables_at(least == 0, part, name, least, most),
+        KeyKind::Tables(least, most, more) => {
+            !tables_at(
+                least == 0,
+                part,
+                name,
+                least,
+                limit_in(document, most, more),
+            )
+        }
         KeyKind::Joint(key) => refuses_jointly(key, document, part),
     }
 }

@@ -7,6 +7,7 @@ ghost use Rattle.description_keys.specs.StreamKeys.{is_owned_by, number_in, name
 ghost use Rattle.description_keys.specs.StreamKeys.{sharers_of, stream_sharers};
 ghost use Rattle.description_values.specs.Values.{is_distinct};
 
+use crate::limits::limit_in;
 use crate::owner::{declares, is_owned_by};
 use crate::program_numbers::ProgramNumbers;
 use arrayvec::ArrayVec;
@@ -43,8 +44,8 @@ fn all_name_another(document: &Value, stream: &Value, values: &[Value]) -> bool
     each_names_another(document, stream, values)
 }
 
-fn numbers_in(values: &[Value]) -> ArrayVec<u16, 15>
-    requires { length values.now ≤ 15 }
+fn numbers_in(values: &[Value]) -> ArrayVec<u16, 63>
+    requires { length values.now ≤ 63 }
     ensures { result.items ≡ filter_map number_in (map view values.now) }
 {
     let mut numbers = ArrayVec::new();
@@ -57,20 +58,22 @@ fn numbers_in(values: &[Value]) -> ArrayVec<u16, 15>
 }
 
 fn are_sharers_in(document: &Value, stream: &Value, values: &[Value]) -> bool
-    requires { length values.now ≤ 15 }
+    requires { length values.now ≤ 63 }
     ensures { result ≡ (list_all (names_another (view document.now) (view stream.now)) (map view values.now)
         && is_distinct (filter_map number_in (map view values.now))) }
 {
     all_name_another(document, stream, values) && is_distinct(numbers_in(values).as_slice())
 }
 
-// Returns whether a value is an array of up to 15 numbers of declared programs, each once and not the stream's own.
+// Returns whether a value is an array of up to 15 numbers, with `transponder` up to 63, of declared programs, each once and
+// not the stream's own.
 fn are_sharers(document: &Value, stream: &Value, value: &Value) -> bool
     ensures { result ≡ are_sharers (view document.now) (view stream.now) (view value.now) }
 {
     match array_in(value) {
         None => false,
-        Some(values) => values.len() <= 15 && are_sharers_in(document, stream, values),
+        Some(values) => values.len() <= limit_in(document, 15, 63)
+            && are_sharers_in(document, stream, values),
     }
 }
 
@@ -87,7 +90,7 @@ pub fn has_sharers(document: &Value, stream: &Value) -> bool
 fn sharers_of(values: &[Value]) -> ProgramNumbers
     ensures { result ≡ sharers_of (map view values.now) }
 {
-    let numbers = if values.len() <= 15 {
+    let numbers = if values.len() <= 63 {
         numbers_in(values)
     } else {
         ArrayVec::new()
