@@ -7,6 +7,8 @@ use Rattle.clap.specs.Words.{Text}
 use Rattle.description_values.specs.Moments.{moment_of}
 use Rattle.given_values.specs.declared.clock_base.ClockBase.{ClockBase}
 use Rattle.given_values.specs.declared.clock_base.ClockBase.TheVariants.{Lasting, Input, At}
+use Rattle.given_values.specs.declared.clock_sharing.ClockSharing.{ClockSharing}
+use Rattle.given_values.specs.declared.clock_sharing.ClockSharing.TheVariants as sharing
 use Rattle.given_values.specs.declared.declare_by.DeclareBy.{DeclareBy}
 use Rattle.given_values.specs.declared.declare_by.DeclareBy.TheVariants as by
 use Rattle.word_faults.specs.Lists.{number_in}
@@ -17,6 +19,13 @@ declare_by_of None = Some by.Either
 declare_by_of (Some text) =
     if bytes_eq text (codes "groups") then Some by.Groups
     else (if bytes_eq text (codes "time") then Some by.Pace else None)
+
+-- which programs share a clock: without a word, those without video
+unfoldable pub clock_sharing_of : Option Text → Option ClockSharing
+clock_sharing_of None = Some sharing.WithoutVideo
+clock_sharing_of (Some text) =
+    if bytes_eq text (codes "each") then Some sharing.Each
+    else (if bytes_eq text (codes "one") then Some sharing.One else None)
 
 -- the greatest number of 33 bits: the system clock in units of 90 kHz (ISO/IEC 13818-1, 2.4.3.5)
 abbrev pub greatest_base : ℕ

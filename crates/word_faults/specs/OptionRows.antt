@@ -5,7 +5,7 @@ use Rattle.std.specs.Borrow.{Bor}
 use Rattle.std.specs.List.{starts_with}
 use Rattle.std.specs.Str.{bytes_eq}
 use Rattle.devices.specs.Options.{decimal, within}
-use Rattle.word_faults.specs.JobValues.{base_of, declare_by_of, start_of}
+use Rattle.word_faults.specs.JobValues.{base_of, clock_sharing_of, declare_by_of, start_of}
 use Rattle.word_faults.specs.Lists.{buffer_sizes, number_list}
 use Rattle.word_faults.specs.NameLists.{name_list, network_in}
 use Rattle.word_faults.specs.Scaled.{scaled_in}
@@ -13,7 +13,7 @@ use Rattle.pes_packet.specs.StreamIds.{is_unit_id}
 use Rattle.word_faults.specs.CommandLine.{Text}
 use Rattle.word_faults.specs.declared.option_row.Row.{Row}
 use Rattle.word_faults.specs.declared.option_row.ValueKind.{ValueKind}
-use Rattle.word_faults.specs.declared.option_row.ValueKind.TheVariants.{Flag, Alone, Word, Number, Scaled, Numbers, Buffers, StreamId, Moment, Declare, Base}
+use Rattle.word_faults.specs.declared.option_row.ValueKind.TheVariants.{Flag, Alone, Word, Number, Scaled, Numbers, Buffers, StreamId, Moment, Declare, Clock, Base}
 use Rattle.word_faults.specs.declared.option_row.ValueKind.TheVariants.{Network, Names, File}
 
 -- a row with its texts, the same of a row in memory, and of a row of a constant
@@ -85,6 +85,7 @@ is_value Buffers text = is_some (buffer_sizes (Some text))
 is_value StreamId text = is_id text
 is_value Moment text = is_some (start_of (Some text))
 is_value Declare text = is_some (declare_by_of (Some text))
+is_value Clock text = is_some (clock_sharing_of (Some text))
 is_value Base text = is_some (base_of (Some text))
 is_value Network text = is_some (network_in text)
 is_value Names text = is_some (name_list (Some text))

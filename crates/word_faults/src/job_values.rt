@@ -6,7 +6,7 @@ ghost use Rattle.word_faults.specs.JobValues as spec;
 
 use description_values::moments::moment_of;
 use devices::number_in;
-use given_values::{ClockBase, DeclareBy};
+use given_values::{ClockBase, ClockSharing, DeclareBy};
 
 /// Returns by what the packets of units are declared; without a word, by either.
 #[tactic(auto, unfolding(crate::specs::JobValues::declare_by_of))]
@@ -17,6 +17,19 @@ pub fn declare_by_of(text: Option<&str>) -> Option<DeclareBy>
         None => Some(DeclareBy::Either),
         Some("groups") => Some(DeclareBy::Groups),
         Some("time") => Some(DeclareBy::Pace),
+        Some(_) => None,
+    }
+}
+
+/// Returns which programs share a clock; without a word, those without video.
+#[tactic(auto, unfolding(crate::specs::JobValues::clock_sharing_of))]
+pub fn clock_sharing_of(text: Option<&str>) -> Option<ClockSharing>
+    ensures { result ≡ spec.clock_sharing_of (option_map (λ s. s.now) text.entry) }
+{
+    match text {
+        None => Some(ClockSharing::WithoutVideo),
+        Some("each") => Some(ClockSharing::Each),
+        Some("one") => Some(ClockSharing::One),
         Some(_) => None,
     }
 }

@@ -35,7 +35,7 @@ mod word_fault;
 pub use commands::{Names, ShortName, command_of, long_words, sorted_command};
 pub use faults::{first_fault, word_beside};
 pub use hints::nearest;
-pub use job_values::{base_of, declare_by_of, start_of};
+pub use job_values::{base_of, clock_sharing_of, declare_by_of, start_of};
 pub use known_words::KnownWords;
 pub use laws::{faults_name_words, hints_are_nearest};
 pub use lists::{BufferSizes, buffer_sizes};

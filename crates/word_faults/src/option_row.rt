@@ -3,7 +3,7 @@ ghost use Rattle.std.specs.Prelude.{◌≡◌, IfOk, find, map, option_map};
 ghost use Rattle.std.specs.Str.{bytes_eq};
 ghost use Rattle.word_faults.specs.OptionRows as spec;
 
-use crate::job_values::{base_of, declare_by_of, start_of};
+use crate::job_values::{base_of, clock_sharing_of, declare_by_of, start_of};
 use crate::lists::{buffer_sizes, number_list};
 use crate::name_lists::{name_list, network_in};
 use crate::scaled::{Scale, scaled_in};
@@ -45,6 +45,8 @@ pub enum ValueKind {
     Moment,
     /// How packets are declared, `groups|time`.
     Declare,
+    /// Which programs share a clock, `each|one`.
+    Clock,
     /// The value of the system clock when a run begins: a number of its range, or the word `input`.
     Base,
     /// A network, `ID:NAME[:ORIGINAL]`.
@@ -165,6 +167,7 @@ pub(crate) fn is_value(alloc: Global, kind: ValueKind, text: &str) -> Result<boo
         ValueKind::StreamId => Ok(is_id(text)),
         ValueKind::Moment => Ok(start_of(Some(text)).is_some()),
         ValueKind::Declare => Ok(declare_by_of(Some(text)).is_some()),
+        ValueKind::Clock => Ok(clock_sharing_of(Some(text)).is_some()),
         ValueKind::Base => Ok(base_of(Some(text)).is_some()),
         ValueKind::Network => Ok(network_in(alloc, text)?.is_some()),
         ValueKind::Names => Ok(name_list(alloc, Some(text))?.is_some()),
