@@ -6,8 +6,8 @@ use Rattle.std.proofs.lemmas.List.{take-append-drop}
 use Rattle.std.proofs.lemmas.Option.{slice_get_cases, slice_get_past}
 use Rattle.packet_sync.specs.declared.file_form.FileForm.{FileForm}
 use Rattle.packet_sync.specs.Laws.{IsInStep}
-use Rattle.packet_sync.specs.OtherPackets.{are_apart, other_packets}
-use Rattle.packet_sync.specs.Slips.{carried, goes_on, is_in_step, is_next, is_sync, slip_size, slips, slips_from}
+use Rattle.packet_sync.specs.OtherPackets.{other_packets}
+use Rattle.packet_sync.specs.Slips.{are_apart, carried, goes_on, is_in_step, is_next, is_sync, slip_by, slip_size, slips, slips_from}
 use Rattle.packet_sync.specs.declared.slip.Slip.{Slip}
 use Rattle.packet_sync.proofs.SlipSteps.{at_end, one_packet, one_slip}
 use Rattle.packet_sync.proofs.Stretches.{Steady, carried_few, carried_packet, carried_slip, slip_later, slip_some}
@@ -156,7 +156,7 @@ next_begins bs i step (inl one) =
 next_begins bs i step (inr none) = rw none.1 refl
 
 no_slip : (bs : List ℕ) (at : ℕ) → is_next bs (at + 188) ≡ true → slip_size bs at ≡ None
-unfolding slip_size goes_on
+unfolding slip_by goes_on
 no_slip bs at e = rw e refl
 
 steady_in_step : (bs : List ℕ) (size : ℕ) → IsInStep bs → Steady bs size
@@ -180,7 +180,7 @@ last_false false true c e = refl
 last_false false false c e = refl
 
 not_in_step : (bs : List ℕ) → length bs ≤ 376 → is_in_step bs 0 ≡ false
-unfolding is_in_step
+unfolding are_apart
 not_in_step bs short = last_false (is_sync bs 0) (is_sync bs (0 + 188)) (is_sync bs (0 + 376)) (no_sync bs (0 + 376) short)
 
 not_apart : (bs : List ℕ) (at size : ℕ) → length bs ≤ at + 2 * size → are_apart bs at size ≡ false
@@ -188,7 +188,7 @@ unfolding are_apart
 not_apart bs at size short = last_false (is_sync bs at) (is_sync bs (at + size)) (is_sync bs (at + 2 * size)) (no_sync bs (at + 2 * size) short)
 
 in_step_front : (bs : List ℕ) → IsInStep bs → 376 < length bs → is_in_step bs 0 ≡ true
-unfolding is_in_step
+unfolding are_apart
 in_step_front bs step long = rw (sync_at bs 0 step (omega (arith, long)), sync_at bs 1 step (omega (arith, long)), sync_at bs 2 step (omega (arith, long))) refl
 
 in_step_by : (bs : List ℕ) → IsInStep bs → (b : Bool) → nat_lt 376 (length bs) ≡ b → other_packets bs ≡ None

@@ -1,8 +1,8 @@
 -- A stream that is being read: whether it is refused, and how much of it is read.
-use Rattle.std.proofs.Common.{◌≡◌, ◌≤◌, ◌<◌, ◌==◌, ◌&&◌, ◌⊎◌, Bool, true, false, not, nat_le, List, [], ◌++◌, ℕ, ◌+◌, length, take, drop, min, refl, sym, ap, ap₂}
+use Rattle.std.proofs.Common.{◌≡◌, ◌≤◌, ◌<◌, ◌==◌, ◌&&◌, ◌⊎◌, Bool, true, false, not, nat_le, List, [], ◌∷◌, ◌++◌, ℕ, ◌+◌, length, take, drop, min, refl, sym, ap, ap₂}
 use Rattle.std.proofs.Common.{subst, ◌∙◌, append_assoc, append-nil, length-append, Option, Some, None, is_some, Result, Ok, Err, inl, inr}
 use Rattle.std.proofs.Common.{arith, eq-eqb, eqb-true, leb-false, leb-true, ◌||◌, if◌then◌else◌, ◌-◌}
-use Rattle.std.proofs.lemmas.List.{length-take-le, take-append-drop, take-append-le}
+use Rattle.std.proofs.lemmas.List.{drop_all, length-take-le, take-append-drop, take-append-le}
 use Rattle.std.specs.Io.KnownBytes.{Consumes}
 use Rattle.counted_io.specs.Device.{Failed, IsFront}
 use Rattle.devices.specs.Devices.{Port, between}
@@ -15,13 +15,14 @@ use Rattle.packet_sync.specs.PacketSearch.{IsSearched, SearchView}
 use Rattle.packet_sync.specs.FileForms.{is_known}
 use Rattle.packet_sync.specs.FrontForms.{form_in, form_of}
 use Rattle.packet_sync.specs.NoStreams.{has_five, lacks_five, no_stream, no_stream_by, searched}
-use Rattle.packet_sync.specs.OtherPackets.{other_packets}
-use Rattle.packet_sync.specs.PacketBytes.{inner_bytes, packet_bytes, packets_in}
+use Rattle.packet_sync.specs.OtherPackets.{front_of as bytes_before, other_packets}
+use Rattle.packet_sync.specs.PacketBytes.{AreInner, AreNext, inner_in, packet_bytes, packets_in}
+use Rattle.packet_sync.specs.Slips.{are_apart, is_sync}
 use Rattle.packet_sync.specs.declared.packet_sizes.OtherPackets.{OtherPackets}
 use Rattle.packet_sync.specs.declared.file_form.FileForm.{FileForm}
 use Rattle.packet_sync.proofs.FrontBytes.{other_front}
-use Rattle.packet_sync.proofs.PacketBytes.{inner_append}
-use Rattle.job_run.specs.Streams.{HasFront, HasPackets, InnerView, IsInner, IsRead, ReadingView, ReadsFront, ReadsStream, TakesFront, whole_stream}
+use Rattle.job_run.specs.Streams.{CarriedView, HasFront, HasPackets, InnerView, IsCarriedTo, IsInner, IsRead, ReadingView, ReadsStream, TakesFront, TakesPackets}
+use Rattle.job_run.specs.Streams.{ReadsFront, whole_stream}
 
 -- 1. More bytes
 
@@ -85,52 +86,116 @@ form_stays front more size =
     (sym (other_front front more (omega (arith, size)))) (any_more 4194304 front more (omega (arith, size)))
     ∙ ap₂ (λ (f : FileForm) (r : List ℕ). no_stream_by (other_packets front) (lacks_five front || is_known f && not (has_five r)) f) form same
 
--- The packets of more bytes, after none or after all that show their size
-none_inner : (other : Option OtherPackets) → packet_bytes other 0 [] ≡ []
-unfolding packet_bytes inner_bytes
+-- 4. The packets of more bytes, after none or after all that show their size
+
+none_inner : (other : Option OtherPackets) → packet_bytes other [] ≡ []
+unfolding packet_bytes inner_in
 none_inner None = refl
-none_inner (Some packets) = refl
+none_inner (Some packets) = drop_all (bytes_before packets) [] (omega arith)
 
-more_inner : (other : Option OtherPackets) (bytes piece : List ℕ) →
-    packet_bytes other 0 (bytes ++ piece) ≡ packet_bytes other 0 bytes ++ packet_bytes other (length bytes) piece
-unfolding packet_bytes
-more_inner None bytes piece = refl
-more_inner (Some packets) bytes piece =
-    let size : 0 + length bytes ≡ length bytes = omega arith in
-    inner_append packets 0 bytes piece ∙ ap (λ (n : ℕ). inner_bytes packets 0 bytes ++ inner_bytes packets n piece) size
+no_packets : other_packets [] ≡ None
+unfolding other_packets are_apart is_sync
+no_packets = refl
 
-pub plain_is : (place : ℕ) (piece : List ℕ) → piece ≡ packet_bytes None place piece
-unfolding packet_bytes
-plain_is place piece = refl
-
-pub inner_is : (other : OtherPackets) (place : ℕ) (piece : List ℕ) → inner_bytes other place piece ≡ packet_bytes (Some other) place piece
-unfolding packet_bytes
-inner_is other place piece = refl
-
-pub none_yet : (bytes : List ℕ) → bytes ≡ [] → packets_in bytes ≡ []
+first_left : (more : List ℕ) (s : InnerView) → s.other ≡ None → s.held ≡ [] → (409 ≤ length {A = ℕ} []) ⊎ (more ≡ []) →
+    packets_in more ≡ packet_bytes s.other (s.held ++ more)
 unfolding packets_in
-none_yet bytes none = subst (λ (r : List ℕ). packet_bytes (other_packets r) 0 r ≡ []) (sym none) (none_inner (other_packets []))
+first_left more s other held (inl long) = absurd (let no : ⊥ = omega (arith, long) in no)
+first_left more s other held (inr none) = ap₂ packet_bytes (ap other_packets none ∙ no_packets ∙ sym other) (ap (λ (h : List ℕ). h ++ more) (sym held))
 
-inner_so : (bytes piece : List ℕ) → (bytes ≡ []) ⊎ (409 ≤ length bytes) → packets_in bytes ≡ packet_bytes (other_packets (bytes ++ piece)) 0 bytes
+pub none_yet : (bytes : List ℕ) (s : InnerView) → bytes ≡ [] → s.other ≡ None → s.held ≡ [] → IsCarriedTo [] false s.stream → IsInner bytes s
+none_yet bytes s none other held so = subst (λ (b : List ℕ). IsInner b s) (sym none) (record {
+  other_is = other ∙ sym no_packets;
+  gone = [];
+  so_far = so;
+  none = λ e. held;
+  left_is = λ more known. first_left more s other held known;
+})
+
+empty_parts : (xs ys : List ℕ) → xs ++ ys ≡ [] → (xs ≡ []) × (ys ≡ [])
+empty_parts [] ys e = (refl, e)
+empty_parts (x ∷ xs) ys e = absurd cc
+
+-- Whatever bytes come
+left_after : (stream rest : List ℕ) (s : InnerView) (so : IsInner stream s) → (stream ≡ []) ⊎ (409 ≤ length stream) →
+    packets_in (stream ++ rest) ≡ so.gone ++ packet_bytes (other_packets (stream ++ rest)) (s.held ++ rest)
 unfolding packets_in
-inner_so bytes piece (inl none) =
-    subst (λ (r : List ℕ). packet_bytes (other_packets r) 0 r ≡ packet_bytes (other_packets (r ++ piece)) 0 r) (sym none)
-    (none_inner (other_packets []) ∙ sym (none_inner (other_packets piece)))
-inner_so bytes piece (inr long) = ap (λ (o : Option OtherPackets). packet_bytes o 0 bytes) (other_front bytes piece long)
+left_after stream rest s so (inl none) =
+    let p = empty_parts so.gone s.held (so.none none) in
+    ap (λ (r : List ℕ). packet_bytes (other_packets (stream ++ rest)) (r ++ rest)) (none ∙ sym p.1)
+    ∙ ap (λ (r : List ℕ). r ++ packet_bytes (other_packets (stream ++ rest)) (s.held ++ rest)) (sym p.0)
+left_after stream rest s so (inr long) =
+    so.left_is rest (inl long)
+    ∙ ap (λ (o : Option OtherPackets). so.gone ++ packet_bytes o (s.held ++ rest)) (so.other_is ∙ other_front stream rest long)
 
-all_more : (bytes piece : List ℕ) → packets_in (bytes ++ piece) ≡
-    packet_bytes (other_packets (bytes ++ piece)) 0 bytes ++ packet_bytes (other_packets (bytes ++ piece)) (length bytes) piece
-unfolding packets_in
-all_more bytes piece = more_inner (other_packets (bytes ++ piece)) bytes piece
+same_other : (stream more : List ℕ) → (409 ≤ length stream) ⊎ (more ≡ []) → other_packets stream ≡ other_packets (stream ++ more)
+same_other stream more (inl long) = other_front stream more long
+same_other stream more (inr none) = ap other_packets (sym (append-nil stream) ∙ ap (λ (m : List ℕ). stream ++ m) (sym none))
 
-pub packets_more : (bytes piece : List ℕ) (other : Option OtherPackets) (place : ℕ) → (bytes ≡ []) ⊎ (409 ≤ length bytes) → other ≡ other_packets (bytes ++ piece) →
-    place ≡ length bytes → packets_in (bytes ++ piece) ≡ packets_in bytes ++ packet_bytes other place piece
-packets_more bytes piece other place known is at =
-    all_more bytes piece
-    ∙ ap₂ (λ (x y : List ℕ). x ++ y) (sym (inner_so bytes piece known))
-    (ap₂ (λ (o : Option OtherPackets) (n : ℕ). packet_bytes o n piece) (sym is) (sym at))
+-- No bytes, and no packets of them
+none_after : (stream piece bytes : List ℕ) (other : Option OtherPackets) (used : ℕ) (s : InnerView) (next : CarriedView) (so : IsInner stream s)
+    (t : TakesPackets other bytes false s.stream next used) → bytes ≡ s.held ++ piece → stream ++ piece ≡ [] → (so.gone ++ t.found) ++ drop used bytes ≡ []
+none_after stream piece bytes other used s next so t whole e =
+    let p = empty_parts stream piece e in
+    let q = empty_parts so.gone s.held (so.none p.0) in
+    let none : bytes ≡ [] = whole ∙ ap₂ (λ (x y : List ℕ). x ++ y) q.1 p.1 in
+    let all : t.found ++ packet_bytes other (drop used bytes ++ []) ≡ [] =
+    sym (t.is [] (λ e. absurd cc)) ∙ ap (λ (r : List ℕ). packet_bytes other (r ++ [])) none ∙ none_inner other in
+    let left : drop used bytes ≡ [] = ap (drop used) none ∙ drop_all used [] (omega arith) in
+    ap₂ (λ (x y : List ℕ). x ++ y) (ap₂ (λ (x y : List ℕ). x ++ y) q.0 (empty_parts t.found (packet_bytes other (drop used bytes ++ [])) all).0) left
 
--- 4. The first 4 MiB of an input
+pub taken_inner : (stream piece bytes : List ℕ) (other : Option OtherPackets) (used : ℕ) (s new : InnerView) → bytes ≡ s.held ++ piece →
+    (stream ≡ []) ⊎ (409 ≤ length stream) → other ≡ other_packets (stream ++ piece) → TakesPackets other bytes false s.stream new.stream used →
+    new.other ≡ other → new.held ≡ drop used bytes → IsInner stream s → IsInner (stream ++ piece) new
+taken_inner stream piece bytes other used s new whole known is t so_other so_held so =
+    let all : (more : List ℕ) → (stream ++ piece) ++ more ≡ stream ++ (piece ++ more) = λ more. append_assoc stream piece more in
+    let rest : (more : List ℕ) → s.held ++ (piece ++ more) ≡ bytes ++ more =
+    λ more. sym (append_assoc s.held piece more) ∙ ap (λ (r : List ℕ). r ++ more) (sym whole) in
+    record {
+      other_is = so_other ∙ is;
+      gone = so.gone ++ t.found;
+      so_far = t.taken so.gone so.so_far;
+      none = λ e. ap (λ (r : List ℕ). (so.gone ++ t.found) ++ r) so_held ∙ none_after stream piece bytes other used s new.stream so t whole e;
+      left_is = λ more enough.
+          ap packets_in (all more) ∙ left_after stream (piece ++ more) s so known
+          ∙ ap₂ (λ (o : Option OtherPackets) (r : List ℕ). so.gone ++ packet_bytes o r)
+          (ap other_packets (sym (all more)) ∙ sym (same_other (stream ++ piece) more enough) ∙ sym is) (rest more)
+          ∙ ap (λ (r : List ℕ). so.gone ++ r) (t.is more (λ e. absurd cc))
+          ∙ sym (append_assoc so.gone t.found (packet_bytes other (drop used bytes ++ more)))
+          ∙ ap₂ (λ (o : Option OtherPackets) (r : List ℕ). (so.gone ++ t.found) ++ packet_bytes o (r ++ more)) (sym so_other) (sym so_held);
+    }
+
+pub ended_inner : (bytes : List ℕ) (s : InnerView) (next : CarriedView) (used : ℕ) → TakesPackets s.other s.held true s.stream next used → used ≡ length s.held →
+    IsInner bytes s → IsCarriedTo (packets_in bytes) false next
+ended_inner bytes s next used t whole so =
+    let past : drop used s.held ≡ [] = drop_all used s.held (omega (arith, whole)) in
+    let all : packets_in bytes ≡ so.gone ++ t.found =
+    ap packets_in (sym (append-nil bytes)) ∙ so.left_is [] (inr refl)
+    ∙ ap (λ (r : List ℕ). so.gone ++ r)
+    (t.is [] (λ e. refl) ∙ ap (λ (r : List ℕ). t.found ++ r) (ap (λ (r : List ℕ). packet_bytes s.other (r ++ [])) past ∙ none_inner s.other)
+    ∙ append-nil t.found) in
+    subst (λ (r : List ℕ). IsCarriedTo r false next) (sym all) (t.taken so.gone so.so_far)
+
+pub plain_taken : (bytes : List ℕ) (other : Option OtherPackets) (ended : Bool) (old new : CarriedView) → other ≡ None →
+    ((gone : List ℕ) → IsCarriedTo gone false old → IsCarriedTo (gone ++ bytes) false new) → TakesPackets other bytes ended old new (length bytes)
+unfolding packet_bytes
+plain_taken bytes other ended old new none taken = record {
+  found = bytes;
+  is = λ more last. subst (λ (o : Option OtherPackets). AreNext o bytes more bytes (length bytes)) (sym none)
+      (ap (λ (r : List ℕ). bytes ++ (r ++ more)) (sym (drop_all (length bytes) bytes (omega arith))));
+  taken = taken;
+}
+
+pub other_taken : (bytes packets : List ℕ) (other : Option OtherPackets) (size : OtherPackets) (ended : Bool) (old new : CarriedView) (used : ℕ) →
+    other ≡ Some size → AreInner (Some size) bytes ended packets used →
+    ((gone : List ℕ) → IsCarriedTo gone false old → IsCarriedTo (gone ++ packets) false new) → TakesPackets other bytes ended old new used
+other_taken bytes packets other size ended old new used is are taken = record {
+  found = packets;
+  is = subst (λ (o : Option OtherPackets). AreInner o bytes ended packets used) (sym is) are;
+  taken = taken;
+}
+
+-- 5. The first 4 MiB of an input
 
 consumed : (old new : Option (List ℕ)) (piece : List ℕ) (n : ℕ) →
     ((xs : List ℕ) → old ≡ Some xs → (n ≡ min (length piece) (length xs)) × IsFront xs new piece n) → Consumes old new (take n piece)
@@ -182,7 +247,7 @@ pub front_taken : (old new : Port) (piece : List ℕ) (n : ℕ) (r : ReadingView
 front_taken old new piece n r result room f is same =
     taken_by old new piece n r result (no_stream (take n piece)) (n == searched) room f is refl refl same
 
--- 5. The bytes after them
+-- 6. The bytes after them
 
 whole_of : (old mid : Option (List ℕ)) (front rest : List ℕ) → Consumes old mid front → IsWhole mid rest → IsWhole old (front ++ rest)
 whole_of None mid front rest c w = tt

@@ -1,5 +1,5 @@
 -- A transport stream through a demultiplexer, piece by piece.
-use Rattle.std.specs.Prelude.{◌≡◌, ◌⊎◌, ◌≤◌, ℕ, ◌+◌, ◌-◌, ◌&&◌, not, nat_le, if◌then◌else◌, Bool, true, false, List, [], ◌++◌, length, filter, is_some, None, Result, Ok, Err}
+use Rattle.std.specs.Prelude.{◌≡◌, ◌⊎◌, ◌≤◌, ℕ, ◌+◌, ◌-◌, ◌&&◌, not, nat_le, if◌then◌else◌, Bool, true, false, List, [], ◌++◌, length, filter, is_some, Option, None, Result, Ok, Err}
 use Rattle.std.specs.Io.KnownBytes.{Consumes}
 use Rattle.devices.specs.Devices.{Device, IsClean}
 use Rattle.devices.specs.WholeInput.{IsReadAs, ReadsInput, longest_input}
@@ -21,11 +21,13 @@ use Rattle.packet_sync.specs.FieldsLeftOut.{fields_left_out}
 use Rattle.packet_sync.specs.declared.field.Field.{Field}
 use Rattle.packet_sync.specs.declared.field.Field.TheVariants.{Alignment, Flags, LongHeader}
 use Rattle.packet_sync.specs.Notes.{NotesView, SayAlike, no_notes}
-use Rattle.packet_sync.specs.PacketBytes.{packets_in}
+use Rattle.packet_sync.specs.OtherPackets.{other_packets}
+use Rattle.packet_sync.specs.PacketBytes.{AreInner, packet_bytes, packets_in}
 use Rattle.packet_sync.specs.PacketSearch.{IsSearched, SearchView}
 use Rattle.packet_sync.specs.Slips.{carried, slips}
 use Rattle.packet_sync.specs.declared.left_out.FieldLeftOut.{FieldLeftOut}
 use Rattle.packet_sync.specs.NoStreams.{searched, no_stream}
+use Rattle.packet_sync.specs.declared.packet_sizes.OtherPackets.{OtherPackets}
 use Rattle.packet_sync.specs.declared.slip.Slip.{Slip}
 use Rattle.job_inputs.specs.AskedMarks.{as_asked}
 use Rattle.job_programs.specs.JobOptions.{JobOptionsView}
@@ -152,15 +154,25 @@ pub record IsCarriedTo (bytes : List ℕ) (ended : Bool) (s : CarriedView) : Typ
   pub demux_is : s.packets.demux ≡ pushed start gone
   pub size_is : s.packets.size ≡ length gone
 
--- the number of bytes of a stream so far, and the state after its packets
+-- which packets a stream has, its last bytes, which do not yet decide where a packet begins, and the state after the packets before them
 pub record InnerView : Type 0 where
-  pub size : ℕ
+  pub other : Option OtherPackets
+  pub held : List ℕ
   pub stream : CarriedView
 
 -- the state after these bytes of a stream
 pub record IsInner (bytes : List ℕ) (s : InnerView) : Type 0 where
-  pub size_is : s.size ≡ length bytes
-  pub so_far : IsCarriedTo (packets_in bytes) false s.stream
+  pub other_is : s.other ≡ other_packets bytes
+  pub gone : List ℕ
+  pub so_far : IsCarriedTo gone false s.stream
+  pub none : bytes ≡ [] → gone ++ s.held ≡ []
+  pub left_is : (more : List ℕ) → (409 ≤ length bytes) ⊎ (more ≡ []) → packets_in (bytes ++ more) ≡ gone ++ packet_bytes s.other (s.held ++ more)
+
+-- these packets of the bytes at hand went through a stream, whatever bytes follow
+pub record TakesPackets (other : Option OtherPackets) (bytes : List ℕ) (ended : Bool) (old new : CarriedView) (used : ℕ) : Type 0 where
+  pub found : List ℕ
+  pub is : AreInner other bytes ended found used
+  pub taken : (gone : List ℕ) → IsCarriedTo gone false old → IsCarriedTo (gone ++ found) false new
 
 -- the search for packets, whether the bytes are known to be no stream, and the state if they are not
 pub record ReadingView : Type 0 where

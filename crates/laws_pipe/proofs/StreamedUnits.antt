@@ -329,7 +329,7 @@ whole_streams a w d bytes input constants alike =
 
 plain_packets : (bytes : List ℕ) → other_packets bytes ≡ None → in_step bytes ≡ carried bytes
 unfolding packets_in packet_bytes
-plain_packets bytes plain = ap (λ (o : Option OtherPackets). carried (packet_bytes o 0 bytes)) plain
+plain_packets bytes plain = ap (λ (o : Option OtherPackets). carried (packet_bytes o bytes)) plain
 
 alike_units : (a : JobArgumentsView) (w : JobOptionsView) (d : Described) (bytes : List ℕ) (input : JobInputView) (units : List (ℕ × AccessUnit)) →
     HasConstants a.options (findings_for a.options bytes) input →

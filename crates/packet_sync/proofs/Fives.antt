@@ -4,7 +4,7 @@ use Rattle.std.proofs.Common.{List, [], ◌++◌, append_assoc, length, length-a
 use Rattle.std.proofs.lemmas.Bool.{cases_eq}
 use Rattle.std.proofs.Math.Seq.{drop-append_seam}
 use Rattle.std.proofs.lemmas.List.{drop-append-le, length-take-le, take-append-drop}
-use Rattle.packet_sync.specs.Slips.{is_in_step, is_sync}
+use Rattle.packet_sync.specs.Slips.{are_apart, is_in_step, is_sync}
 use Rattle.packet_sync.specs.NoStreams.{are_five, five_within, has_five}
 use Rattle.packet_sync.specs.PacketSearch.{FiveView, IsSearchOf}
 use Rattle.packet_sync.proofs.FrontBytes.{three_front}
@@ -75,7 +75,7 @@ all_places n bs past none = all_by n bs past none (five_within (length bs) bs) r
 
 -- All five sync bytes are within the list.
 five_inside : (bs : List ℕ) (at : ℕ) → are_five bs at ≡ true → at + 752 < length bs
-unfolding are_five is_in_step
+unfolding are_five are_apart
 five_inside bs at is =
     let last : is_sync bs (at + 376 + 376) ≡ true =
     third_of_three (is_sync bs (at + 376)) (is_sync bs (at + 376 + 188)) (is_sync bs (at + 376 + 376)) (and_right (is_in_step bs at) (is_in_step bs (at + 376)) is) in
@@ -83,7 +83,7 @@ five_inside bs at is =
 
 -- The same five sync bytes, if more bytes follow
 five_front : (bs more : List ℕ) (at : ℕ) → at + 752 < length bs → are_five bs at ≡ are_five (bs ++ more) at
-unfolding are_five is_in_step
+unfolding are_five are_apart
 five_front bs more at within =
     ap₂ (λ (x y : Bool). x && y)
     (three_front bs more at (at + 188) (at + 376) (omega (arith, within)) (omega (arith, within)) (omega (arith, within)))

@@ -1,107 +1,150 @@
 -- The packets of 188 bytes of a stream whose packets are of another size, piece by piece.
-use Rattle.std.proofs.Common.{◌≡◌, ◌≤◌, ◌<◌, ◌&&◌, ℕ, suc, ◌+◌, ◌-◌, ◌%◌, min, nat_le, nat_lt, Bool, true, false, List, [], ◌∷◌, ◌++◌, length, take, drop, refl, sym, ap, ap₂, ◌∙◌, arith}
-use Rattle.std.proofs.Common.{append_assoc, append-nil, length-drop, take-add, take_all}
-use Rattle.std.proofs.Math.Nat.{mod-add-mod, mod-eq_of_lt}
-use Rattle.std.proofs.lemmas.List.{drop_all, drop_min, length-take-le, take_min}
+use Rattle.std.proofs.Common.{◌≡◌, ◌≤◌, ◌<◌, ◌⊎◌, inl, inr, ℕ, zero, suc, ◌+◌, ◌-◌, ◌*◌, min, nat_lt, Bool, true, false, List, [], ◌++◌, length, take, drop}
+use Rattle.std.proofs.Common.{Option, None, Some, refl, sym, ap, ap₂, ◌∙◌, arith, append_assoc, append-nil, drop-drop, length-append, length-drop}
+use Rattle.std.proofs.lemmas.List.{drop_all, drop_min, drop-append-le, take-append-le}
 use Rattle.packet_sync.specs.OtherPackets.{front_of, size_of}
-use Rattle.packet_sync.specs.PacketBytes.{inner_bytes, is_inside, with_byte}
+use Rattle.packet_sync.specs.PacketBytes.{AreInner, decisive, inner_bytes, inner_in, next_bytes, next_size, next_slip, packet_bytes}
 use Rattle.packet_sync.specs.declared.packet_sizes.OtherPackets.{OtherPackets}
+use Rattle.packet_sync.specs.declared.packet_sizes.OtherPackets.TheVariants.{Timed, Corrected}
+use Rattle.packet_sync.proofs.Stretches.{slip_front, some_slip}
+use Rattle.packet_sync.proofs.WholeStreams.{slip_within}
 
--- 1. In two parts
+-- 1. Step by step
 
-byte_append : (inside : Bool) (x : ℕ) (xs ys : List ℕ) → with_byte inside x (xs ++ ys) ≡ with_byte inside x xs ++ ys
-unfolding with_byte
-byte_append true x xs ys = refl
-byte_append false x xs ys = refl
+size_some : (other : OtherPackets) → 188 ≤ size_of other
+unfolding size_of
+size_some Timed = omega arith
+size_some Corrected = omega arith
 
-pub inner_append : (other : OtherPackets) (place : ℕ) (a b : List ℕ) →
-    inner_bytes other place (a ++ b) ≡ inner_bytes other place a ++ inner_bytes other (place + length a) b
-unfolding inner_bytes
-inner_append other place [] b = ap (λ (n : ℕ). inner_bytes other n b) (omega arith)
-inner_append other place (x ∷ a) b =
-    let on : place + 1 + length a ≡ place + length (x ∷ a) = omega arith in
-    ap (with_byte (is_inside other (place % size_of other)) x)
-    (inner_append other (place + 1) a b ∙ ap (λ (n : ℕ). inner_bytes other (place + 1) a ++ inner_bytes other n b) on)
-    ∙ byte_append (is_inside other (place % size_of other)) x (inner_bytes other (place + 1) a) (inner_bytes other (place + length (x ∷ a)) b)
+next_some : (o : Option ℕ) (other : OtherPackets) (bs : List ℕ) → next_slip other bs ≡ o → 1 ≤ next_size o other
+unfolding next_size
+next_some None other bs e = omega (arith, size_some other)
+next_some (Some size) other bs e = some_slip bs (front_of other) (size_of other) size e
 
--- 2. Within one packet
+inner_short : (n : ℕ) (other : OtherPackets) (bs : List ℕ) → length bs < front_of other + 188 → inner_in n other bs ≡ drop (front_of other) bs
+unfolding inner_in
+inner_short zero other bs short = refl
+inner_short (suc n) other bs short = let e : nat_lt (length bs) (front_of other + 188) ≡ true = search (arith, short) in rw e refl
 
-next_place : (s place at : ℕ) → place % s ≡ at → at + 1 < s → (place + 1) % s ≡ at + 1
-next_place s place at e less = sym (mod-add-mod place s 1) ∙ ap (λ (n : ℕ). (n + 1) % s) e ∙ mod-eq_of_lt less
+inner_step : (n : ℕ) (other : OtherPackets) (bs : List ℕ) → front_of other + 188 ≤ length bs →
+    inner_in (suc n) other bs ≡ next_bytes (next_slip other bs) other bs ++ inner_in n other (drop (next_size (next_slip other bs) other) bs)
+unfolding inner_in
+inner_step n other bs long = let e : nat_lt (length bs) (front_of other + 188) ≡ false = search (arith, long) in rw e refl
 
--- of a part from its byte `at` on
-abbrev pub inner : OtherPackets → ℕ → List ℕ → List ℕ
-inner other at part = drop (front_of other - at) (take (front_of other + 188 - at) part)
+fuel_place : (n m : ℕ) (other : OtherPackets) (bs : List ℕ) → length bs ≤ suc n → length bs ≤ suc m → (b : Bool) → nat_lt (length bs) (front_of other + 188) ≡ b →
+    ((bs : List ℕ) → length bs ≤ n → length bs ≤ m → inner_in n other bs ≡ inner_in m other bs) → inner_in (suc n) other bs ≡ inner_in (suc m) other bs
+fuel_place n m other bs some more true is rest =
+    let short : length bs < front_of other + 188 = search (arith, is) in inner_short (suc n) other bs short ∙ sym (inner_short (suc m) other bs short)
+fuel_place n m other bs some more false is rest =
+    let long : front_of other + 188 ≤ length bs = search (arith, is) in
+    let size = next_size (next_slip other bs) other in
+    let least : 1 ≤ size = next_some (next_slip other bs) other bs refl in
+    let one : length (drop size bs) ≤ n = omega (arith, length-drop size bs, some, long, least) in
+    let two : length (drop size bs) ≤ m = omega (arith, length-drop size bs, more, long, least) in
+    inner_step n other bs long ∙ ap (λ (r : List ℕ). next_bytes (next_slip other bs) other bs ++ r) (rest (drop size bs) one two) ∙ sym (inner_step m other bs long)
 
-step_by : (other : OtherPackets) (at b : ℕ) (part : List ℕ) (l r : Bool) → nat_le (front_of other) at ≡ l → nat_lt at (front_of other + 188) ≡ r →
-    with_byte (l && r) b (inner other (at + 1) part) ≡ inner other at (b ∷ part)
-unfolding with_byte
-step_by other at b part false r x y =
-    let below : at < front_of other = search (arith, x) in
-    let k : front_of other - at ≡ suc (front_of other - (at + 1)) = omega (arith, below) in
-    let m : front_of other + 188 - at ≡ suc (front_of other + 188 - (at + 1)) = omega (arith, below) in
-    sym (ap₂ (λ (i j : ℕ). drop i (take j (b ∷ part))) k m)
-step_by other at b part true true x y =
-    let from : front_of other ≤ at = search (arith, x) in
-    let below : at < front_of other + 188 = search (arith, y) in
-    let k : front_of other - at ≡ 0 = omega (arith, from) in
-    let l : front_of other - (at + 1) ≡ 0 = omega (arith, from) in
-    let m : front_of other + 188 - at ≡ suc (front_of other + 188 - (at + 1)) = omega (arith, below) in
-    ap (λ (i : ℕ). b ∷ drop i (take (front_of other + 188 - (at + 1)) part)) l ∙ sym (ap₂ (λ (i j : ℕ). drop i (take j (b ∷ part))) k m)
-step_by other at b part true false x y =
-    let past : front_of other + 188 ≤ at = search (arith, y) in
-    let k : front_of other - at ≡ 0 = omega (arith, past) in
-    let l : front_of other - (at + 1) ≡ 0 = omega (arith, past) in
-    let m : front_of other + 188 - at ≡ 0 = omega (arith, past) in
-    let n : front_of other + 188 - (at + 1) ≡ 0 = omega (arith, past) in
-    ap₂ (λ (i j : ℕ). drop i (take j part)) l n ∙ sym (ap₂ (λ (i j : ℕ). drop i (take j (b ∷ part))) k m)
+same_fuel : (n m : ℕ) (other : OtherPackets) (bs : List ℕ) → length bs ≤ n → length bs ≤ m → inner_in n other bs ≡ inner_in m other bs
+same_fuel zero m other bs some more =
+    let short : length bs < front_of other + 188 = omega (arith, some) in inner_short zero other bs short ∙ sym (inner_short m other bs short)
+same_fuel (suc n) zero other bs some more =
+    let short : length bs < front_of other + 188 = omega (arith, more) in inner_short (suc n) other bs short ∙ sym (inner_short zero other bs short)
+same_fuel (suc n) (suc m) other bs some more =
+    fuel_place n m other bs some more (nat_lt (length bs) (front_of other + 188)) refl (same_fuel n m other)
 
-pub inner_is : (other : OtherPackets) (place at : ℕ) (part : List ℕ) → at + length part ≤ size_of other →
-    (0 < length part → place % size_of other ≡ at) → inner_bytes other place part ≡ inner other at part
-unfolding inner_bytes
-inner_is other place at [] fits e =
-    sym (ap (drop (front_of other - at)) (take_all {A = ℕ} (front_of other + 188 - at) [] (omega arith)) ∙ drop_all (front_of other - at) [] (omega arith))
-inner_is other place at (b ∷ part) fits e =
-    let here : place % size_of other ≡ at = e (omega arith) in
-    let rest : inner_bytes other (place + 1) part ≡ inner other (at + 1) part =
-    inner_is other (place + 1) (at + 1) part (omega (arith, fits)) (λ some. next_place (size_of other) place at here (omega (arith, fits, some))) in
-    ap₂ (λ (n : ℕ) (r : List ℕ). with_byte (is_inside other n) b r) here rest
-    ∙ step_by other at b part (nat_le (front_of other) at) (nat_lt at (front_of other + 188)) refl refl
+-- The packet at the front, or bytes that are left out, and then the rest
+inner_next : (other : OtherPackets) (bs : List ℕ) → front_of other + 188 ≤ length bs →
+    inner_bytes other bs ≡ next_bytes (next_slip other bs) other bs ++ inner_bytes other (drop (next_size (next_slip other bs) other) bs)
+inner_next other bs long =
+    let size = next_size (next_slip other bs) other in
+    same_fuel (length bs) (suc (length bs)) other bs (omega arith) (omega arith) ∙ inner_step (length bs) other bs long
+    ∙ ap (λ (r : List ℕ). next_bytes (next_slip other bs) other bs ++ r)
+    (same_fuel (length bs) (length (drop size bs)) other (drop size bs) (omega (arith, length-drop size bs)) (omega arith))
 
--- 3. In a loop over a piece
+-- 2. Whatever bytes follow
 
-pub part_is : (other : OtherPackets) (place at n m : ℕ) (part front : List ℕ) → at + length part ≤ size_of other → place % size_of other ≡ at →
-    front ≡ take n part → n ≡ min (front_of other + 188 - at) (length part) → m ≡ min (front_of other - at) (length front) →
-    drop m front ≡ inner_bytes other place part
-part_is other place at n m part front fits e f some none =
-    ap (λ (i : ℕ). drop i front) none ∙ drop_min (front_of other - at) front
-    ∙ ap (drop (front_of other - at)) (f ∙ ap (λ (i : ℕ). take i part) some ∙ take_min (front_of other + 188 - at) part)
-    ∙ sym (inner_is other place at part fits (λ x. e))
+-- With enough bytes, or if no bytes follow
+abbrev Known : OtherPackets → List ℕ → List ℕ → Type 0
+Known other bs more = (front_of other + 6 * size_of other ≤ length bs) ⊎ (more ≡ [])
 
-pub none_pushed : (other : OtherPackets) (place : ℕ) (first : List ℕ) → first ≡ first ++ inner_bytes other place []
-unfolding inner_bytes
-none_pushed other place first = sym (append-nil first)
+same_next : (o : Option ℕ) (other : OtherPackets) (bs more : List ℕ) → front_of other + 188 ≤ length bs → next_bytes o other (bs ++ more) ≡ next_bytes o other bs
+unfolding next_bytes
+same_next None other bs more long =
+    let front : front_of other ≤ length bs = omega (arith, long) in
+    let fits : front_of other + 188 - front_of other ≤ length (drop (front_of other) bs) = omega (arith, length-drop (front_of other) bs, long) in
+    ap (take (front_of other + 188 - front_of other)) (drop-append-le (front_of other) bs more front)
+    ∙ take-append-le (front_of other + 188 - front_of other) (drop (front_of other) bs) more fits
+same_next (Some size) other bs more long = refl
 
-pub more_within : (at n : ℕ) (piece part : List ℕ) → at ≤ length piece → n ≤ length (drop at piece) → part ≡ take n (drop at piece) →
-    at + length part ≤ length piece
-more_within at n piece part within fits is =
-    let size : length part ≡ n = ap (length {A = ℕ}) is ∙ length-take-le n (drop at piece) fits in
-    omega (arith, size, fits, within, length-drop at piece)
+same_size : (other : OtherPackets) (bs more : List ℕ) → Known other bs more → next_slip other (bs ++ more) ≡ next_slip other bs
+same_size other bs more known = slip_front bs more (front_of other) (size_of other) (omega (arith, size_some other)) known
 
-pub more_pushed : (other : OtherPackets) (place at n : ℕ) (piece part first old new : List ℕ) → at ≤ length piece → n ≤ length (drop at piece) →
-    part ≡ take n (drop at piece) → old ≡ first ++ inner_bytes other place (take at piece) → new ≡ old ++ inner_bytes other (place + at) part →
-    new ≡ first ++ inner_bytes other place (take (at + length part) piece)
-more_pushed other place at n piece part first old new within fits is so step =
-    let size : length part ≡ n = ap (length {A = ℕ}) is ∙ length-take-le n (drop at piece) fits in
-    let front : length (take at piece) ≡ at = length-take-le at piece within in
-    let all : take at piece ++ part ≡ take (at + length part) piece =
-    ap (λ (r : List ℕ). take at piece ++ r) is ∙ sym (take-add at n piece) ∙ ap (λ (k : ℕ). take (at + k) piece) (sym size) in
-    step ∙ ap (λ (r : List ℕ). r ++ inner_bytes other (place + at) part) so
-    ∙ append_assoc first (inner_bytes other place (take at piece)) (inner_bytes other (place + at) part)
-    ∙ ap (λ (r : List ℕ). first ++ r)
-    (ap (λ (k : ℕ). inner_bytes other place (take at piece) ++ inner_bytes other (place + k) part) (sym front)
-    ∙ sym (inner_append other place (take at piece) part) ∙ ap (inner_bytes other place) all)
+slip_most : (o : Option ℕ) (other : OtherPackets) (bs : List ℕ) → next_slip other bs ≡ o → front_of other + size_of other ≤ length bs → next_size o other ≤ length bs
+unfolding next_size
+slip_most None other bs e long = omega (arith, long)
+slip_most (Some size) other bs e long = omega (arith, slip_within bs (front_of other) (size_of other) size e)
 
-pub all_pushed : (other : OtherPackets) (place at : ℕ) (piece first new : List ℕ) → length piece ≤ at → new ≡ first ++ inner_bytes other place (take at piece) →
-    new ≡ first ++ inner_bytes other place piece
-all_pushed other place at piece first new past so = so ∙ ap (λ (r : List ℕ). first ++ inner_bytes other place r) (take_all at piece past)
+rest_by : (n : ℕ) (bs more : List ℕ) → (n ≤ length bs) ⊎ (more ≡ []) → drop n (bs ++ more) ≡ drop (min n (length bs)) bs ++ more
+rest_by n bs more (inl fits) = drop-append-le n bs more fits ∙ ap (λ (r : List ℕ). r ++ more) (sym (drop_min n bs))
+rest_by n bs more (inr none) =
+    ap (λ (m : List ℕ). drop n (bs ++ m)) none ∙ ap (drop n) (append-nil bs) ∙ sym (drop_min n bs) ∙ sym (append-nil (drop (min n (length bs)) bs))
+    ∙ ap (λ (m : List ℕ). drop (min n (length bs)) bs ++ m) (sym none)
+
+fits_by : (other : OtherPackets) (bs more : List ℕ) → Known other bs more → (next_size (next_slip other bs) other ≤ length bs) ⊎ (more ≡ [])
+fits_by other bs more (inl long) = inl (slip_most (next_slip other bs) other bs refl (omega (arith, long, size_some other)))
+fits_by other bs more (inr none) = inr none
+
+-- One step of a list that goes on
+step_front : (other : OtherPackets) (bs more : List ℕ) → front_of other + 188 ≤ length bs → Known other bs more →
+    inner_bytes other (bs ++ more) ≡ next_bytes (next_slip other bs) other bs
+    ++ inner_bytes other (drop (min (next_size (next_slip other bs) other) (length bs)) bs ++ more)
+step_front other bs more long known =
+    let all : front_of other + 188 ≤ length (bs ++ more) = omega (arith, long, length-append bs more) in
+    inner_next other (bs ++ more) all
+    ∙ ap (λ (o : Option ℕ). next_bytes o other (bs ++ more) ++ inner_bytes other (drop (next_size o other) (bs ++ more))) (same_size other bs more known)
+    ∙ ap₂ (λ (x y : List ℕ). x ++ inner_bytes other y) (same_next (next_slip other bs) other bs more long)
+    (rest_by (next_size (next_slip other bs) other) bs more (fits_by other bs more known))
+
+-- 3. In a loop over the bytes
+
+known_by : (ended : Bool) (other : OtherPackets) (bs more : List ℕ) → decisive other ended ≤ length bs → (ended ≡ true → more ≡ []) → Known other bs more
+known_by true other bs more enough none = inr (none refl)
+known_by false other bs more enough none = inl enough
+
+next_by : (ended : Bool) (other : OtherPackets) (bs : List ℕ) → decisive other ended ≤ length bs → front_of other + 188 ≤ length bs
+next_by true other bs enough = enough
+next_by false other bs enough = omega (arith, enough, size_some other)
+
+pub none_found : (other : OtherPackets) (bytes : List ℕ) (ended : Bool) → AreInner (Some other) bytes ended [] 0
+none_found other bytes ended = λ more none. refl
+
+pub more_found : (other : OtherPackets) (bytes rest found next : List ℕ) (ended : Bool) (at size step : ℕ) → rest ≡ drop at bytes → decisive other ended ≤ length rest →
+    next ≡ next_bytes (next_slip other rest) other rest → size ≡ next_size (next_slip other rest) other →
+    step ≡ min size (length rest) → AreInner (Some other) bytes ended found at → AreInner (Some other) bytes ended (found ++ next) (at + step)
+unfolding packet_bytes
+more_found other bytes rest found next ended at size step is enough bs n s so = λ more none.
+    so more none
+    ∙ ap (λ (r : List ℕ). found ++ inner_bytes other (r ++ more)) (sym is)
+    ∙ ap (λ (r : List ℕ). found ++ r) (step_front other rest more (next_by ended other rest enough) (known_by ended other rest more enough none))
+    ∙ ap₂ (λ (x : List ℕ) (k : ℕ). found ++ (x ++ inner_bytes other (drop (min k (length rest)) rest ++ more))) (sym bs) (sym n)
+    ∙ ap (λ (k : ℕ). found ++ (next ++ inner_bytes other (drop k rest ++ more))) (sym s)
+    ∙ sym (append_assoc found next (inner_bytes other (drop step rest ++ more)))
+    ∙ ap (λ (r : List ℕ). (found ++ next) ++ inner_bytes other (r ++ more)) (ap (drop step) is ∙ drop-drop step at bytes)
+
+-- 4. The end
+
+pub last_found : (other : OtherPackets) (bytes last found all : List ℕ) (ended : Bool) (used : ℕ) → ended ≡ true → last ≡ drop used bytes →
+    length bytes < used + decisive other ended → all ≡ found ++ drop (front_of other) last → AreInner (Some other) bytes ended found used →
+    AreInner (Some other) bytes ended all (length bytes)
+unfolding packet_bytes
+last_found other bytes last found all false used e is short whole so = absurd cc
+last_found other bytes last found all true used e is short whole so = λ more none.
+    let few : length (last ++ []) < front_of other + 188 =
+    omega (arith, short, ap (length {A = ℕ}) is, length-drop used bytes, length-append last []) in
+    let past : drop (length bytes) bytes ≡ [] = drop_all (length bytes) bytes (omega arith) in
+    let end : inner_bytes other [] ≡ [] = inner_short 0 other [] (omega arith) ∙ drop_all (front_of other) [] (omega arith) in
+    so more none
+    ∙ ap₂ (λ (r m : List ℕ). found ++ inner_bytes other (r ++ m)) (sym is) (none refl)
+    ∙ ap (λ (r : List ℕ). found ++ r) (inner_short (length (last ++ [])) other (last ++ []) few ∙ ap (drop (front_of other)) (append-nil last))
+    ∙ sym whole ∙ sym (append-nil all)
+    ∙ ap (λ (r : List ℕ). all ++ r) (sym end)
+    ∙ ap₂ (λ (x y : List ℕ). all ++ inner_bytes other (x ++ y)) (sym past) (sym (none refl))

@@ -27,18 +27,18 @@ one_slip n bs packet at size long e = next n bs packet at long ∙ (rw e refl)
 
 -- 2. The places at which the search tries a new step
 
-pub found_here : (bs : List ℕ) (at size n : ℕ) → size < n → true ≡ is_new_step bs at size → new_step bs at size (n - size) ≡ Some size
+pub found_here : (bs : List ℕ) (at step size n : ℕ) → size < n → true ≡ is_new_step bs at step size → new_step bs at step size (n - size) ≡ Some size
 unfolding new_step
-found_here bs at size n less is = let e : n - size ≡ suc (n - (size + 1)) = omega (arith, less) in rw e (rw (sym is) refl)
+found_here bs at step size n less is = let e : n - size ≡ suc (n - (size + 1)) = omega (arith, less) in rw e (rw (sym is) refl)
 
-pub found_later : (bs : List ℕ) (at size n : ℕ) → size < n → false ≡ is_new_step bs at size →
-    new_step bs at size (n - size) ≡ new_step bs at (size + 1) (n - (size + 1))
+pub found_later : (bs : List ℕ) (at step size n : ℕ) → size < n → false ≡ is_new_step bs at step size →
+    new_step bs at step size (n - size) ≡ new_step bs at step (size + 1) (n - (size + 1))
 unfolding new_step
-found_later bs at size n less is = let e : n - size ≡ suc (n - (size + 1)) = omega (arith, less) in rw e (rw (sym is) refl)
+found_later bs at step size n less is = let e : n - size ≡ suc (n - (size + 1)) = omega (arith, less) in rw e (rw (sym is) refl)
 
-pub found_nowhere : (bs : List ℕ) (at size n : ℕ) → n ≤ size → new_step bs at size (n - size) ≡ None
+pub found_nowhere : (bs : List ℕ) (at step size n : ℕ) → n ≤ size → new_step bs at step size (n - size) ≡ None
 unfolding new_step
-found_nowhere bs at size n past = let e : n - size ≡ 0 = omega (arith, past) in rw e refl
+found_nowhere bs at step size n past = let e : n - size ≡ 0 = omega (arith, past) in rw e refl
 
 -- 3. The slips found so far
 

@@ -4,54 +4,59 @@ use Rattle.std.proofs.Common.{◌∙◌, List, [], ◌++◌, length, length-appe
 use Rattle.std.proofs.Common.{append_assoc, append-nil, drop-drop, take-add}
 use Rattle.std.proofs.lemmas.List.{take-append-drop, drop_all, take_all, get_or-drop, get_or_append_left, drop-append-le, take-append-le}
 use Rattle.std.proofs.lemmas.Option.{slice_get_cases, slice_get_past, slice_get_read}
-use Rattle.packet_sync.specs.Slips.{slips, slips_from, slip_size, new_step, is_new_step, is_in_step, is_sync, is_next, goes_on, carried, carried_from}
+use Rattle.packet_sync.specs.Slips.{slips, slips_from, slip_by, slip_size, new_step, is_new_step, are_apart, is_in_step, is_sync, is_next, goes_on, carried, carried_from}
 use Rattle.packet_sync.specs.Stretches.{IsNextOf, IsStepped}
 use Rattle.packet_sync.specs.declared.slip.Slip.{Slip}
 use Rattle.packet_sync.proofs.SlipSteps.{at_end, one_packet, one_slip}
 use Rattle.packet_sync.proofs.WholeStreams.{slip_within}
 
--- 1. The 1,128 bytes that decide a slip
+-- 1. The bytes of six packets, which decide a slip
 
--- From a and b on, the two lists have the same 1,128 bytes.
-abbrev Agree : List ℕ → ℕ → List ℕ → ℕ → Type 0
-Agree xs a ys b = (k : ℕ) → k < 1128 → slice_get xs (a + k) ≡ slice_get ys (b + k)
+-- From a and b on, the two lists have the same bytes of six packets.
+abbrev Agree : ℕ → List ℕ → ℕ → List ℕ → ℕ → Type 0
+Agree step xs a ys b = (k : ℕ) → k < 6 * step → slice_get xs (a + k) ≡ slice_get ys (b + k)
 
-same_sync : (xs ys : List ℕ) (a b k : ℕ) → Agree xs a ys b → k < 1128 → is_sync xs (a + k) ≡ is_sync ys (b + k)
+same_sync : (step : ℕ) (xs ys : List ℕ) (a b k : ℕ) → Agree step xs a ys b → k < 6 * step → is_sync xs (a + k) ≡ is_sync ys (b + k)
 unfolding is_sync
-same_sync xs ys a b k agree less = rw (agree k less) refl
+same_sync step xs ys a b k agree less = rw (agree k less) refl
 
-same_next : (xs ys : List ℕ) (a b k : ℕ) → Agree xs a ys b → k < 1128 → is_next xs (a + k) ≡ is_next ys (b + k)
+same_next : (step : ℕ) (xs ys : List ℕ) (a b k : ℕ) → Agree step xs a ys b → k < 6 * step → is_next xs (a + k) ≡ is_next ys (b + k)
 unfolding is_next
-same_next xs ys a b k agree less = rw (agree k less) refl
+same_next step xs ys a b k agree less = rw (agree k less) refl
 
-later_sync : (xs ys : List ℕ) (a b k m : ℕ) → Agree xs a ys b → k + m < 1128 → is_sync xs (a + k + m) ≡ is_sync ys (b + k + m)
-later_sync xs ys a b k m agree less =
+later_sync : (step : ℕ) (xs ys : List ℕ) (a b k m : ℕ) → Agree step xs a ys b → k + m < 6 * step → is_sync xs (a + k + m) ≡ is_sync ys (b + k + m)
+later_sync step xs ys a b k m agree less =
     let e : a + (k + m) ≡ a + k + m = omega arith in
     let f : b + (k + m) ≡ b + k + m = omega arith in
     subst (λ (i : ℕ). is_sync xs i ≡ is_sync ys (b + k + m)) e
-    (subst (λ (i : ℕ). is_sync xs (a + (k + m)) ≡ is_sync ys i) f (same_sync xs ys a b (k + m) agree less))
+    (subst (λ (i : ℕ). is_sync xs (a + (k + m)) ≡ is_sync ys i) f (same_sync step xs ys a b (k + m) agree less))
 
-same_step : (xs ys : List ℕ) (a b k : ℕ) → Agree xs a ys b → k + 376 < 1128 → is_in_step xs (a + k) ≡ is_in_step ys (b + k)
-unfolding is_in_step
-same_step xs ys a b k agree less =
-    let one : k < 1128 = omega (arith, less) in
-    let two : k + 188 < 1128 = omega (arith, less) in
-    rw (same_sync xs ys a b k agree one, later_sync xs ys a b k 188 agree two, later_sync xs ys a b k 376 agree less) refl
+same_step : (step : ℕ) (xs ys : List ℕ) (a b k : ℕ) → Agree step xs a ys b → k + 2 * step < 6 * step → are_apart xs (a + k) step ≡ are_apart ys (b + k) step
+unfolding are_apart
+same_step step xs ys a b k agree less =
+    let one : k < 6 * step = omega (arith, less) in
+    let two : k + step < 6 * step = omega (arith, less) in
+    rw (same_sync step xs ys a b k agree one, later_sync step xs ys a b k step agree two, later_sync step xs ys a b k (2 * step) agree less) refl
 
-same_new : (xs ys : List ℕ) (a b size : ℕ) → Agree xs a ys b → size + 376 < 1128 → is_new_step xs a size ≡ is_new_step ys b size
+same_new : (step : ℕ) (xs ys : List ℕ) (a b size : ℕ) → Agree step xs a ys b → size + 2 * step < 6 * step →
+    is_new_step xs a step size ≡ is_new_step ys b step size
 unfolding is_new_step
-same_new xs ys a b size agree less = rw (same_step xs ys a b size agree less) refl
+same_new step xs ys a b size agree less = rw (same_step step xs ys a b size agree less) refl
 
-same_first : (xs ys : List ℕ) (a b size n : ℕ) → Agree xs a ys b → size + n ≤ 752 → new_step xs a size n ≡ new_step ys b size n
+same_first : (step : ℕ) (xs ys : List ℕ) (a b size n : ℕ) → Agree step xs a ys b → size + n ≤ 4 * step → new_step xs a step size n ≡ new_step ys b step size n
 unfolding new_step
-same_first xs ys a b size zero agree less = refl
-same_first xs ys a b size (suc n) agree less =
-    rw (same_new xs ys a b size agree (omega (arith, less)), same_first xs ys a b (size + 1) n agree (omega (arith, less))) refl
+same_first step xs ys a b size zero agree less = refl
+same_first step xs ys a b size (suc n) agree less =
+    rw (same_new step xs ys a b size agree (omega (arith, less)), same_first step xs ys a b (size + 1) n agree (omega (arith, less))) refl
 
-same_slip : (xs ys : List ℕ) (a b : ℕ) → Agree xs a ys b → slip_size xs a ≡ slip_size ys b
-unfolding slip_size goes_on
-same_slip xs ys a b agree =
-    rw (same_next xs ys a b 188 agree (omega arith), same_step xs ys a b 376 agree (omega arith), same_first xs ys a b 1 751 agree (omega arith)) refl
+same_slip : (step : ℕ) (xs ys : List ℕ) (a b : ℕ) → 1 ≤ step → Agree step xs a ys b → slip_by xs a step ≡ slip_by ys b step
+unfolding slip_by goes_on
+same_slip step xs ys a b some agree =
+    rw (
+      same_next step xs ys a b step agree (omega (arith, some)),
+      same_step step xs ys a b (2 * step) agree (omega (arith, some)),
+      same_first step xs ys a b 1 (4 * step - 1) agree (omega (arith, some)),
+    ) refl
 
 -- 2. The rest of a list
 
@@ -79,20 +84,26 @@ at_front_by xs more k within (inr none) = absurd (let no : ⊥ = omega (arith, w
 pub at_front : (xs more : List ℕ) (k : ℕ) → k < length xs → slice_get xs k ≡ slice_get (xs ++ more) k
 at_front xs more k within = at_front_by xs more k within (slice_get_cases xs k).1
 
+-- With the bytes of six packets, or if no bytes follow, a slip is the same whatever bytes follow.
+pub slip_front : (bs more : List ℕ) (at step : ℕ) → 1 ≤ step → (at + 6 * step ≤ length bs) ⊎ (more ≡ []) → slip_by (bs ++ more) at step ≡ slip_by bs at step
+slip_front bs more at step some (inl long) =
+    sym (same_slip step bs (bs ++ more) at at some (λ k less. at_front bs more (at + k) (omega (arith, less, long))))
+slip_front bs more at step some (inr none) = ap (λ (r : List ℕ). slip_by r at step) (ap (λ (m : List ℕ). bs ++ m) none ∙ append-nil bs)
+
 at_zero : (bs rest : List ℕ) (at k : ℕ) → slice_get bs (at + k) ≡ slice_get rest k → slice_get bs (at + k) ≡ slice_get rest (0 + k)
 at_zero bs rest at k is = let e : 0 + k ≡ k = omega arith in rw e is
 
 -- The present bytes decide the slip, if there are 1,128 or if no more bytes follow.
 decided : (bs more : List ℕ) (at : ℕ) → (at + 1128 ≤ length bs) ⊎ (more ≡ []) → slip_size bs at ≡ slip_size (drop at bs ++ more) 0
 decided bs more at (inl long) =
-    same_slip bs (drop at bs ++ more) at 0
+    same_slip 188 bs (drop at bs ++ more) at 0 (omega arith)
     (λ k less. at_zero bs (drop at bs ++ more) at k (at_drop bs at k ∙ at_front (drop at bs) more k (omega (arith, less, long, length-drop at bs))))
 decided bs more at (inr none) =
-    rw (none, append-nil (drop at bs)) (same_slip bs (drop at bs) at 0 (λ k less. at_zero bs (drop at bs) at k (at_drop bs at k)))
+    rw (none, append-nil (drop at bs)) (same_slip 188 bs (drop at bs) at 0 (omega arith) (λ k less. at_zero bs (drop at bs) at k (at_drop bs at k)))
 
 -- A slip at a later place is a slip in the rest of the list.
 pub slip_later : (bs : List ℕ) (a b : ℕ) → slip_size bs (a + b) ≡ slip_size (drop a bs) b
-slip_later bs a b = same_slip bs (drop a bs) (a + b) b (λ k less.
+slip_later bs a b = same_slip 188 bs (drop a bs) (a + b) b (omega arith) (λ k less.
     let e : a + (b + k) ≡ a + b + k = omega arith in
     subst (λ (i : ℕ). slice_get bs i ≡ slice_get (drop a bs) (b + k)) e (at_drop bs a (b + k)))
 
@@ -101,11 +112,11 @@ pub step_later : (bs : List ℕ) (a b : ℕ) → is_in_step bs (a + b) ≡ is_in
 step_later bs a b =
     let e : a + b + 0 ≡ a + b = omega arith in
     let f : b + 0 ≡ b = omega arith in
-    let agree : Agree bs (a + b) (drop a bs) b = λ k less.
+    let agree : Agree 188 bs (a + b) (drop a bs) b = λ k less.
     let g : a + (b + k) ≡ a + b + k = omega arith in
     subst (λ (i : ℕ). slice_get bs i ≡ slice_get (drop a bs) (b + k)) g (at_drop bs a (b + k)) in
     subst (λ (i : ℕ). is_in_step bs i ≡ is_in_step (drop a bs) b) e
-    (subst (λ (i : ℕ). is_in_step bs (a + b + 0) ≡ is_in_step (drop a bs) i) f (same_step bs (drop a bs) (a + b) b 0 agree (omega arith)))
+    (subst (λ (i : ℕ). is_in_step bs (a + b + 0) ≡ is_in_step (drop a bs) i) f (same_step 188 bs (drop a bs) (a + b) b 0 agree (omega arith)))
 
 -- 3. The carried bytes, packet by packet
 
@@ -118,7 +129,7 @@ kept zero bs = bs
 kept (suc n) bs = if nat_lt (length bs) 188 then bs else kept_then (slip_size bs 0) bs (kept n)
 
 shift : (bs : List ℕ) (at : ℕ) → slip_size bs at ≡ slip_size (drop at bs) 0
-shift bs at = same_slip bs (drop at bs) at 0 (λ k less. at_zero bs (drop at bs) at k (at_drop bs at k))
+shift bs at = same_slip 188 bs (drop at bs) at 0 (omega arith) (λ k less. at_zero bs (drop at bs) at k (at_drop bs at k))
 
 two_parts : (bs : List ℕ) (a b : ℕ) → a ≤ b → drop a bs ≡ slice_range bs a b ++ drop b bs
 two_parts bs a b order =
@@ -171,7 +182,7 @@ at_packet n bs packet a at order long None is rest =
     (ap (λ (r : List ℕ). take 188 (drop at bs) ++ kept n r) (sym (drop-drop 188 at bs)) ∙ sym (kept_packet n (drop at bs) many (sym (shift bs at) ∙ is)))
 at_packet n bs packet a at order long (Some size) is rest =
     let many : 188 ≤ length (drop at bs) = omega (arith, length-drop at bs, long) in
-    let within : at + size < length bs = slip_within bs at size is in
+    let within : at + size < length bs = slip_within bs at 188 size is in
     let here : at + size ≤ length bs = omega (arith, within) in
     ap (λ (ss : List Slip). carried_from bs a ss) (one_slip n bs packet at size long is)
     ∙ ap (λ (r : List ℕ). slice_range bs a at ++ r)
@@ -197,29 +208,36 @@ unfolding slips
 carried_kept bs = same_kept (length bs) bs 0 0 0 (omega arith) (omega arith)
 
 -- The search returns no smaller size than its first, however many sizes it may try.
-first_from : (bs : List ℕ) (at size n k : ℕ) (b : Bool) → is_new_step bs at size ≡ b → (new_step bs at (size + 1) n ≡ Some k → size + 1 ≤ k) →
-    new_step bs at size (suc n) ≡ Some k → size ≤ k
+first_from : (bs : List ℕ) (at step size n k : ℕ) (b : Bool) → is_new_step bs at step size ≡ b →
+    (new_step bs at step (size + 1) n ≡ Some k → size + 1 ≤ k) →
+    new_step bs at step size (suc n) ≡ Some k → size ≤ k
 unfolding new_step
-first_from bs at size n k true is later e =
-    let found : new_step bs at size (suc n) ≡ Some size = rw is refl in
+first_from bs at step size n k true is later e =
+    let found : new_step bs at step size (suc n) ≡ Some size = rw is refl in
     let same : size ≡ k = (let both : Some size ≡ Some k = sym found ∙ e in cc) in
     omega (arith, same)
-first_from bs at size n k false is later e =
-    let after : new_step bs at size (suc n) ≡ new_step bs at (size + 1) n = rw is refl in
+first_from bs at step size n k false is later e =
+    let after : new_step bs at step size (suc n) ≡ new_step bs at step (size + 1) n = rw is refl in
     omega (arith, later (sym after ∙ e))
 
-not_before : (bs : List ℕ) (at size n k : ℕ) → new_step bs at size n ≡ Some k → size ≤ k
+not_before : (bs : List ℕ) (at step size n k : ℕ) → new_step bs at step size n ≡ Some k → size ≤ k
 unfolding new_step
-not_before bs at size zero k e = absurd cc
-not_before bs at size (suc n) k e = first_from bs at size n k (is_new_step bs at size) refl (not_before bs at (size + 1) n k) e
+not_before bs at step size zero k e = absurd cc
+not_before bs at step size (suc n) k e =
+    first_from bs at step size n k (is_new_step bs at step size) refl (not_before bs at step (size + 1) n k) e
 
-slip_some_by : (bs : List ℕ) (at size : ℕ) (b : Bool) → goes_on bs at ≡ b → slip_size bs at ≡ Some size → 1 ≤ size
-unfolding slip_size
-slip_some_by bs at size true is e = let none : slip_size bs at ≡ None = rw is refl in absurd (let both : None ≡ Some size = sym none ∙ e in cc)
-slip_some_by bs at size false is e = let looked : slip_size bs at ≡ new_step bs at 1 751 = rw is refl in not_before bs at 1 751 size (sym looked ∙ e)
+slip_some_by : (bs : List ℕ) (at step size : ℕ) (b : Bool) → goes_on bs at step ≡ b → slip_by bs at step ≡ Some size → 1 ≤ size
+unfolding slip_by
+slip_some_by bs at step size true is e =
+    let none : slip_by bs at step ≡ None = rw is refl in absurd (let both : None ≡ Some size = sym none ∙ e in cc)
+slip_some_by bs at step size false is e =
+    let looked : slip_by bs at step ≡ new_step bs at step 1 (4 * step - 1) = rw is refl in not_before bs at step 1 (4 * step - 1) size (sym looked ∙ e)
+
+pub some_slip : (bs : List ℕ) (at step size : ℕ) → slip_by bs at step ≡ Some size → 1 ≤ size
+some_slip bs at step size e = slip_some_by bs at step size (goes_on bs at step) refl e
 
 pub slip_some : (bs : List ℕ) (at size : ℕ) → slip_size bs at ≡ Some size → 1 ≤ size
-slip_some bs at size e = slip_some_by bs at size (goes_on bs at) refl e
+slip_some bs at size e = some_slip bs at 188 size e
 
 fuel_packet : (n m : ℕ) (bs : List ℕ) → length bs ≤ suc n → length bs ≤ suc m → 188 ≤ length bs → (o : Option ℕ) → slip_size bs 0 ≡ o →
     ((bs : List ℕ) → length bs ≤ n → length bs ≤ m → kept n bs ≡ kept m bs) → kept (suc n) bs ≡ kept (suc m) bs

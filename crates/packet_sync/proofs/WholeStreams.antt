@@ -4,7 +4,7 @@ use Rattle.std.proofs.Common.{arith, ◌∙◌, List, [], ◌∷◌, length, len
 use Rattle.std.proofs.Common.{Some}
 use Rattle.std.proofs.lemmas.Option.{slice_get_cases}
 use Rattle.packet_sync.specs.Laws.{slipped, IsInStep}
-use Rattle.packet_sync.specs.Slips.{slips, slips_from, slip_size, new_step, is_new_step, is_in_step, is_sync, is_next, goes_on, carried, carried_from}
+use Rattle.packet_sync.specs.Slips.{slips, slips_from, slip_by, slip_size, new_step, is_new_step, are_apart, is_sync, is_next, goes_on, carried, carried_from}
 use Rattle.packet_sync.specs.Slips.{AreOrdered}
 use Rattle.packet_sync.specs.declared.slip.Slip.{Slip}
 use Rattle.packet_sync.proofs.SlipSteps.{at_end, one_packet, one_slip}
@@ -24,7 +24,7 @@ next_begins bs i step (inl one) =
 next_begins bs i step (inr none) = rw none.1 refl
 
 no_slip : (bs : List ℕ) (at : ℕ) → is_next bs (at + 188) ≡ true → slip_size bs at ≡ None
-unfolding slip_size goes_on
+unfolding slip_by goes_on
 no_slip bs at e = rw e refl
 
 none_after : (n : ℕ) (bs : List ℕ) (i : ℕ) → IsInStep bs → slips_from n bs (i + 1) ((i + 1) * 188) ≡ [] → (b : Bool) → nat_lt (length bs) (i * 188 + 188) ≡ b →
@@ -47,21 +47,22 @@ carried_whole bs step = let e : slips_from (length bs) bs 0 0 ≡ [] = none_in (
 
 -- 2. Slips within the stream
 
-first_is_by : (bs : List ℕ) (at size n k : ℕ) → (new_step bs at (size + 1) n ≡ Some k → is_new_step bs at k ≡ true) → (b : Bool) → is_new_step bs at size ≡ b →
-    new_step bs at size (suc n) ≡ Some k → is_new_step bs at k ≡ true
+first_is_by : (bs : List ℕ) (at step size n k : ℕ) → (new_step bs at step (size + 1) n ≡ Some k → is_new_step bs at step k ≡ true) → (b : Bool) →
+    is_new_step bs at step size ≡ b →
+    new_step bs at step size (suc n) ≡ Some k → is_new_step bs at step k ≡ true
 unfolding new_step
-first_is_by bs at size n k later true is e =
-    let found : new_step bs at size (suc n) ≡ Some size = rw is refl in
+first_is_by bs at step size n k later true is e =
+    let found : new_step bs at step size (suc n) ≡ Some size = rw is refl in
     let same : size ≡ k = (let both : Some size ≡ Some k = sym found ∙ e in cc) in
-    subst (λ (x : ℕ). is_new_step bs at x ≡ true) same is
-first_is_by bs at size n k later false is e =
-    let after : new_step bs at size (suc n) ≡ new_step bs at (size + 1) n = rw is refl in
+    subst (λ (x : ℕ). is_new_step bs at step x ≡ true) same is
+first_is_by bs at step size n k later false is e =
+    let after : new_step bs at step size (suc n) ≡ new_step bs at step (size + 1) n = rw is refl in
     later (sym after ∙ e)
 
-first_is : (bs : List ℕ) (at size n k : ℕ) → new_step bs at size n ≡ Some k → is_new_step bs at k ≡ true
+first_is : (bs : List ℕ) (at step size n k : ℕ) → new_step bs at step size n ≡ Some k → is_new_step bs at step k ≡ true
 unfolding new_step
-first_is bs at size zero k e = absurd cc
-first_is bs at size (suc n) k e = first_is_by bs at size n k (first_is bs at (size + 1) n k) (is_new_step bs at size) refl e
+first_is bs at step size zero k e = absurd cc
+first_is bs at step size (suc n) k e = first_is_by bs at step size n k (first_is bs at step (size + 1) n k) (is_new_step bs at step size) refl e
 
 sync_within : (bs : List ℕ) (at : ℕ) → is_sync bs at ≡ true →
     ((x : ℕ) × (at < length bs) × (slice_get bs at ≡ Some x) × (get_or bs at x ≡ x)) ⊎ ((length bs ≤ at) × (slice_get bs at ≡ None)) → at < length bs
@@ -81,26 +82,27 @@ second_of_two : (a b : Bool) → (a && b) ≡ true → b ≡ true
 second_of_two true b e = e
 second_of_two false b e = absurd cc
 
-begins_in_step : (bs : List ℕ) (at : ℕ) → is_in_step bs at ≡ true → is_sync bs at ≡ true
-unfolding is_in_step
-begins_in_step bs at e = first_of_three (is_sync bs at) (is_sync bs (at + 188)) (is_sync bs (at + 376)) e
+begins_in_step : (bs : List ℕ) (at step : ℕ) → are_apart bs at step ≡ true → is_sync bs at ≡ true
+unfolding are_apart
+begins_in_step bs at step e = first_of_three (is_sync bs at) (is_sync bs (at + step)) (is_sync bs (at + 2 * step)) e
 
-new_is_in_step : (bs : List ℕ) (at size : ℕ) → is_new_step bs at size ≡ true → is_in_step bs (at + size) ≡ true
+new_is_in_step : (bs : List ℕ) (at step size : ℕ) → is_new_step bs at step size ≡ true → are_apart bs (at + size) step ≡ true
 unfolding is_new_step
-new_is_in_step bs at size e = second_of_two (not (size % 188 == 0)) (is_in_step bs (at + size)) e
+new_is_in_step bs at step size e = second_of_two (not (size % step == 0)) (are_apart bs (at + size) step) e
 
-new_within : (bs : List ℕ) (at size : ℕ) → is_new_step bs at size ≡ true → at + size < length bs
-new_within bs at size e = sync_within bs (at + size) (begins_in_step bs (at + size) (new_is_in_step bs at size e)) (slice_get_cases bs (at + size)).1
+new_within : (bs : List ℕ) (at step size : ℕ) → is_new_step bs at step size ≡ true → at + size < length bs
+new_within bs at step size e = sync_inside bs (at + size) (begins_in_step bs (at + size) step (new_is_in_step bs at step size e))
 
-slip_within_by : (bs : List ℕ) (at size : ℕ) (b : Bool) → goes_on bs at ≡ b → slip_size bs at ≡ Some size → at + size < length bs
-unfolding slip_size
-slip_within_by bs at size true is e = let none : slip_size bs at ≡ None = rw is refl in absurd (let both : None ≡ Some size = sym none ∙ e in cc)
-slip_within_by bs at size false is e =
-    let looked : slip_size bs at ≡ new_step bs at 1 751 = rw is refl in
-    new_within bs at size (first_is bs at 1 751 size (sym looked ∙ e))
+slip_within_by : (bs : List ℕ) (at step size : ℕ) (b : Bool) → goes_on bs at step ≡ b → slip_by bs at step ≡ Some size → at + size < length bs
+unfolding slip_by
+slip_within_by bs at step size true is e =
+    let none : slip_by bs at step ≡ None = rw is refl in absurd (let both : None ≡ Some size = sym none ∙ e in cc)
+slip_within_by bs at step size false is e =
+    let looked : slip_by bs at step ≡ new_step bs at step 1 (4 * step - 1) = rw is refl in
+    new_within bs at step size (first_is bs at step 1 (4 * step - 1) size (sym looked ∙ e))
 
-pub slip_within : (bs : List ℕ) (at size : ℕ) → slip_size bs at ≡ Some size → at + size < length bs
-slip_within bs at size e = slip_within_by bs at size (goes_on bs at) refl e
+pub slip_within : (bs : List ℕ) (at step size : ℕ) → slip_by bs at step ≡ Some size → at + size < length bs
+slip_within bs at step size e = slip_within_by bs at step size (goes_on bs at step) refl e
 
 -- 3. The order of slips
 
@@ -111,7 +113,7 @@ unfolding AreOrdered
 ordered_step n bs packet at a order long rest None e =
     subst (λ (ss : List Slip). AreOrdered bs a ss) (sym (one_packet n bs packet at long e)) (rest (packet + 1) (at + 188) a (omega (arith, order)) long)
 ordered_step n bs packet at a order long rest (Some size) e =
-    let within : at + size < length bs = slip_within bs at size e in
+    let within : at + size < length bs = slip_within bs at 188 size e in
     let here : at + size ≤ length bs = omega (arith, within) in
     subst (λ (ss : List Slip). AreOrdered bs a ss) (sym (one_slip n bs packet at size long e))
     (order, here, rest packet (at + size) (at + size) (omega arith) here)

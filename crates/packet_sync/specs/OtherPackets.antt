@@ -1,12 +1,8 @@
 -- Packets that are not of 188 bytes.
-use Rattle.std.specs.Prelude.{ℕ, ◌+◌, ◌*◌, ◌&&◌, Bool, if◌then◌else◌, List, Option, None, Some}
-use Rattle.packet_sync.specs.Slips.{is_in_step, is_sync}
+use Rattle.std.specs.Prelude.{ℕ, if◌then◌else◌, List, Option, None, Some}
+use Rattle.packet_sync.specs.Slips.{are_apart, is_in_step}
 use Rattle.packet_sync.specs.declared.packet_sizes.OtherPackets.{OtherPackets}
 use Rattle.packet_sync.specs.declared.packet_sizes.OtherPackets.TheVariants.{Timed, Corrected}
-
--- three sync bytes so far apart, the first one at this place
-unfoldable pub are_apart : List ℕ → ℕ → ℕ → Bool
-are_apart bs at size = is_sync bs at && is_sync bs (at + size) && is_sync bs (at + 2 * size)
 
 unfoldable pub other_packets : List ℕ → Option OtherPackets
 other_packets bs = if is_in_step bs 0 then None else (if are_apart bs 4 192 then Some Timed else (if are_apart bs 0 204 then Some Corrected else None))

@@ -4,7 +4,7 @@ ghost use Rattle.std.specs.Prelude.{◌≡◌, ◌≤◌, ◌<◌, ◌+◌, ◌-
 ghost use Rattle.packet_sync.specs.PacketSearch.{IsSearchOf};
 ghost use Rattle.packet_sync.specs.NoStreams as spec;
 
-use crate::sync_bytes::{PACKET_SIZE, is_in_step};
+use crate::sync_bytes::{PACKET_SIZE, are_apart};
 use std::alloc::{AllocError, Global};
 use std::marker::Model;
 
@@ -41,7 +41,7 @@ fn are_five(bytes: &[u8], at: usize) -> bool
     requires { at < 2 ^ 63 }
     ensures { result ≡ spec.are_five bytes.now at }
 {
-    is_in_step(bytes, at) && is_in_step(bytes, at + 2 * PACKET_SIZE)
+    are_apart(bytes, at, PACKET_SIZE) && are_apart(bytes, at + 2 * PACKET_SIZE, PACKET_SIZE)
 }
 
 // Returns whether five packets in a row begin at some place.

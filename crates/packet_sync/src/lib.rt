@@ -7,8 +7,9 @@
 //! stream arrives (`specs/Stretches`). [`StreamNotes`] keeps the notes about its packets (`specs/Notes`): its slips,
 //! and the fields of adaptation fields and PES headers that are not written again (`specs/Fields`), each once for a PID
 //! (`specs/FieldsLeftOut`; found by `specs/FieldMasks`). [`other_packets`] knows packets of other sizes
-//! (`specs/OtherPackets`), [`inner_bytes`] makes packets of 188 bytes of them (`specs/PacketBytes`), and
-//! [`PacketSearch`] finds an input that is no transport stream (`specs/NoStreams`), and its form (`specs/FrontForms`).
+//! (`specs/OtherPackets`), [`inner_bytes`] makes packets of 188 bytes of them and finds their step again where it is
+//! lost (`specs/PacketBytes`), and [`PacketSearch`] finds an input that is no transport stream (`specs/NoStreams`), and
+//! its form (`specs/FrontForms`).
 #![tactic(auto)]
 
 mod field;
@@ -32,7 +33,7 @@ pub use front_form::form_of;
 pub use laws::{carried_in_step, nothing_else_is_left_out};
 pub use left_out::FieldLeftOut;
 pub use notes::StreamNotes;
-pub use packet_bytes::inner_bytes;
+pub use packet_bytes::{InnerBytes, inner_bytes};
 pub use packet_search::PacketSearch;
 pub use packet_sizes::{OtherPackets, bytes_apart, bytes_before, other_packets};
 pub use slip::Slip;

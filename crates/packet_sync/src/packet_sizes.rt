@@ -3,7 +3,7 @@
 ghost use Rattle.std.specs.Prelude.{◌≡◌, ◌≤◌, ◌+◌, ◌++◌, List, ℕ, length};
 ghost use Rattle.packet_sync.specs.OtherPackets as spec;
 
-use crate::sync_bytes::{is_in_step, is_sync};
+use crate::sync_bytes::{PACKET_SIZE, are_apart};
 
 /// The first bytes of a stream that show its packets' size: the bytes up to the third sync byte of packets of 204
 /// bytes.
@@ -18,22 +18,12 @@ pub enum OtherPackets {
     Corrected,
 }
 
-// Returns whether three packets of `size` bytes follow one another, with the first sync byte at `at`.
-#[tactic(auto, unfolding(crate::specs::OtherPackets::are_apart))]
-fn are_apart(bytes: &[u8], at: usize, size: usize) -> bool
-    requires at { at ≤ 4 }
-    requires size { size ≤ 204 }
-    ensures { result ≡ spec.are_apart bytes.now at size }
-{
-    is_sync(bytes, at) && is_sync(bytes, at + size) && is_sync(bytes, at + 2 * size)
-}
-
 // Returns which packets, if not packets of 188 bytes, are at the front.
 #[tactic(auto, unfolding(crate::specs::OtherPackets::other_packets))]
 fn packets_at_front(bytes: &[u8]) -> Option<OtherPackets>
     ensures { result ≡ spec.other_packets bytes.now }
 {
-    if is_in_step(bytes, 0) {
+    if are_apart(bytes, 0, PACKET_SIZE) {
         return None;
     }
     if are_apart(bytes, 4, 192) {

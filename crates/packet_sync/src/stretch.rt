@@ -34,7 +34,7 @@ pub fn next_stretch(bytes: &[u8], ended: bool) -> Stretch
 {
     let mut at = 0;
     while bytes.len() - at >= decisive(ended) {
-        match slip_size(bytes, at) {
+        match slip_size(bytes, at, PACKET_SIZE) {
             None => at += PACKET_SIZE,
             Some(slipped) => {
                 return Stretch {

@@ -1,16 +1,13 @@
 //! The sync bytes at the front of packets (ISO/IEC 13818-1, 2.4.3.3).
 
-ghost use Rattle.std.specs.Prelude.{◌≡◌, ◌≤◌, ◌<◌, ◌+◌, ◌^◌, IfSome, true, length};
+ghost use Rattle.std.specs.Prelude.{◌≡◌, ◌≤◌, ◌<◌, ◌+◌, ◌-◌, ◌*◌, ◌^◌, IfSome, true, length};
 ghost use Rattle.packet_sync.specs.Slips as spec;
 
 /// sync_byte: the first byte of each packet.
-const SYNC_BYTE: u8 = 0x47;
+pub(crate) const SYNC_BYTE: u8 = 0x47;
 
 /// The size of a packet in bytes.
 pub(crate) const PACKET_SIZE: usize = 188;
-
-/// A new step is searched for in this number of bytes, four packets.
-const SEARCHED: usize = 752;
 
 /// Returns whether there is a sync byte at this place.
 #[tactic(auto, unfolding(crate::specs::Slips::is_sync))]
@@ -24,14 +21,15 @@ pub(crate) fn is_sync(bytes: &[u8], at: usize) -> bool
     }
 }
 
-/// Returns whether three packets in a row begin at this place.
-#[tactic(auto, unfolding(crate::specs::Slips::is_in_step))]
-pub(crate) fn is_in_step(bytes: &[u8], at: usize) -> bool
-    requires { at < 2 ^ 63 + 1128 }
-    ensures value { result ≡ spec.is_in_step bytes.now at }
+/// Returns whether three sync bytes in a row are `step` bytes apart, with the first one at this place.
+#[tactic(auto, unfolding(crate::specs::Slips::are_apart))]
+pub(crate) fn are_apart(bytes: &[u8], at: usize, step: usize) -> bool
+    requires at { at < 2 ^ 63 + 1224 }
+    requires step { step ≤ 204 }
+    ensures value { result ≡ spec.are_apart bytes.now at step }
     ensures within { result ≡ true → at < length bytes.now }
 {
-    is_sync(bytes, at) && is_sync(bytes, at + PACKET_SIZE) && is_sync(bytes, at + 2 * PACKET_SIZE)
+    is_sync(bytes, at) && is_sync(bytes, at + step) && is_sync(bytes, at + 2 * step)
 }
 
 // Returns whether a packet begins at this place, or the stream ends before it.
@@ -45,53 +43,61 @@ fn is_next(bytes: &[u8], at: usize) -> bool
     }
 }
 
-// Returns whether the step continues after the packet at this place: with the next packet, or with the packets after
-// it.
+// Returns whether the step continues after the packet whose sync byte is at this place: with the next packet, or with
+// the packets after it.
 #[tactic(auto, unfolding(crate::specs::Slips::goes_on))]
-fn goes_on(bytes: &[u8], at: usize) -> bool
-    requires { at < 2 ^ 63 }
-    ensures { result ≡ spec.goes_on bytes.now at }
+fn goes_on(bytes: &[u8], at: usize, step: usize) -> bool
+    requires at { at < 2 ^ 63 }
+    requires step { step ≤ 204 }
+    ensures { result ≡ spec.goes_on bytes.now at step }
 {
-    is_next(bytes, at + PACKET_SIZE) || is_in_step(bytes, at + 2 * PACKET_SIZE)
+    is_next(bytes, at + step) || are_apart(bytes, at + 2 * step, step)
 }
 
 // Returns whether a new step begins `size` bytes after this place.
 #[tactic(auto, unfolding(crate::specs::Slips::is_new_step))]
-fn is_new_step(bytes: &[u8], at: usize, size: usize) -> bool
+fn is_new_step(bytes: &[u8], at: usize, step: usize, size: usize) -> bool
     requires at { at < 2 ^ 63 }
-    requires size { size ≤ 752 }
-    ensures value { result ≡ spec.is_new_step bytes.now at size }
+    requires least { 188 ≤ step }
+    requires step { step ≤ 204 }
+    requires size { size ≤ 816 }
+    ensures value { result ≡ spec.is_new_step bytes.now at step size }
     ensures within { result ≡ true → at + size < length bytes.now }
 {
-    size % PACKET_SIZE != 0 && is_in_step(bytes, at + size)
+    size % step != 0 && are_apart(bytes, at + size, step)
 }
 
-// Returns how many bytes later a new step begins.
-fn new_step(bytes: &[u8], at: usize) -> Option<usize>
-    requires { at < 2 ^ 63 }
-    ensures value { result ≡ spec.new_step bytes.now at 1 751 }
+// Returns how many bytes later a new step begins, within four packets.
+fn new_step(bytes: &[u8], at: usize, step: usize) -> Option<usize>
+    requires at { at < 2 ^ 63 }
+    requires least { 188 ≤ step }
+    requires step { step ≤ 204 }
+    ensures value { result ≡ spec.new_step bytes.now at step 1 (4 * step - 1) }
     ensures within { IfSome result (λ size. at + size < length bytes.now) }
-    ensures bound { IfSome result (λ size. (1 ≤ size) × (size ≤ 751)) }
+    ensures bound { IfSome result (λ size. (1 ≤ size) × (size ≤ 815)) }
 {
-    for size in 1..SEARCHED {
-        if is_new_step(bytes, at, size) {
+    for size in 1..4 * step {
+        if is_new_step(bytes, at, step, size) {
             return Some(size);
         }
     }
     None
 }
 
-/// Returns how many bytes are left out until a new step begins, if the step is lost after the packet at this place.
-#[tactic(auto, unfolding(crate::specs::Slips::slip_size))]
-pub(crate) fn slip_size(bytes: &[u8], at: usize) -> Option<usize>
-    requires { at < 2 ^ 63 }
-    ensures value { result ≡ spec.slip_size bytes.now at }
+/// Returns how many bytes are left out until a new step begins, if the step is lost after the packet whose sync byte is
+/// at this place; the sync bytes of packets are `step` bytes apart.
+#[tactic(auto, unfolding(crate::specs::Slips::slip_by))]
+pub(crate) fn slip_size(bytes: &[u8], at: usize, step: usize) -> Option<usize>
+    requires at { at < 2 ^ 63 }
+    requires least { 188 ≤ step }
+    requires step { step ≤ 204 }
+    ensures value { result ≡ spec.slip_by bytes.now at step }
     ensures within { IfSome result (λ size. at + size < length bytes.now) }
-    ensures bound { IfSome result (λ size. 1 ≤ size) }
+    ensures bound { IfSome result (λ size. (1 ≤ size) × (size ≤ 815)) }
 {
-    if goes_on(bytes, at) {
+    if goes_on(bytes, at, step) {
         None
     } else {
-        new_step(bytes, at)
+        new_step(bytes, at, step)
     }
 }

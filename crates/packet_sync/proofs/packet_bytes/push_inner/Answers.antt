@@ -1,30 +1,28 @@
-use Rattle.std.proofs.Common.{◌≡◌, ◌≤◌, ◌∙◌, ◌+◌, ◌%◌, ◌++◌, ℕ, List, drop, length, take, ap, sym, arith}
-use Rattle.packet_sync.specs.OtherPackets.{size_of}
-use Rattle.packet_sync.proofs.PacketBytes.{all_pushed, more_pushed, more_within, none_pushed}
+use Rattle.std.proofs.Common.{◌≡◌, ◌≤◌, ◌-◌, ◌∙◌, ◌++◌, ℕ, List, [], length, length-drop, refl, sym, ap, append_assoc, append-nil, arith}
+use Rattle.packet_sync.specs.PacketBytes.{decisive, next_bytes, next_slip}
+use Rattle.packet_sync.proofs.PacketBytes.{more_found, none_found}
 use Rattle.packet_sync.proofs.packet_bytes.push_inner.Goals as goal
 
 pub loop-at-init : goal.loop-at-init
-loop-at-init c = record { within = omega arith; pushed = none_pushed c.args.other c.args.place c.args.packets.now.items }
+loop-at-init c = record {
+  within = omega arith;
+  pushed = ([], sym (append-nil c.args.packets.now.items), none_found c.args.other c.args.bytes.now c.args.ended);
+}
 
 pub loop-at-preserved : goal.loop-at-preserved
 loop-at-preserved c =
-    let at = c.loop-at.at in
-    let place = c.args.place in
-    let piece = c.args.piece.now in
-    let part = c.split_at-in-loop-at.result.0.now in
-    let n = c.min.result in
-    let fits : n ≤ length (drop at piece) = omega (arith, c.min.ensures, ap (length {A = ℕ}) c.split_at.ensures.back) in
-    let is : part ≡ take n (drop at piece) = c.split_at-in-loop-at.ensures.front ∙ ap (take n) c.split_at.ensures.back in
-    let within : (place + at) % size_of c.args.other ≡ (place + at) % c.bytes_apart-size.result =
-    ap (λ (s : ℕ). (place + at) % s) (sym c.bytes_apart-size.ensures.value) in
+    let i = c.loop-at.invariant in
+    let bytes = c.args.bytes.now in
+    let rest = c.split_at.result.1.now in
+    let next = next_bytes (next_slip c.args.other rest) c.args.other rest in
+    let left : length rest ≡ length bytes - c.loop-at.at = ap (length {A = ℕ}) c.split_at.ensures.back ∙ length-drop c.loop-at.at bytes in
+    let enough : decisive c.args.other c.args.ended ≤ length rest = omega (arith, left, c.loop-at-test.true, c.decisive-enough.ensures.value) in
     record {
-      within = more_within at n piece part c.loop-at.invariant.within fits is;
-      pushed = more_pushed c.args.other place at n piece part c.args.packets.now.items c.loop-at.packets.items c.extend_from_slice.new.self.items
-          c.loop-at.invariant.within fits is c.loop-at.invariant.pushed
-          (c.in_ok-extend_from_slice.ensures.items ∙ ap (λ (r : List ℕ). c.loop-at.packets.items ++ r) (c.inner_part.ensures (place + at) within));
+      within = omega (arith, c.min-at.ensures, left, i.within);
+      pushed = (
+        i.pushed.0 ++ next,
+        c.in_ok-size.ensures.pushed ∙ ap (λ (r : List ℕ). r ++ next) i.pushed.1 ∙ append_assoc c.args.packets.now.items i.pushed.0 next,
+        more_found c.args.other bytes rest i.pushed.0 next c.args.ended c.loop-at.at c.in_ok-size.size c.min-at.result c.split_at.ensures.back enough refl
+            c.in_ok-size.ensures.size (omega (arith, c.min-at.ensures)) i.pushed.2,
+      );
     }
-
-pub returns : goal.returns
-returns c =
-    all_pushed c.args.other c.args.place c.loop-at.at c.args.piece.now c.args.packets.now.items c.loop-at.packets.items c.loop-at-test.false
-    c.loop-at.invariant.pushed

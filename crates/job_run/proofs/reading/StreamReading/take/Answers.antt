@@ -21,5 +21,5 @@ returns c = λ bytes known so.
     let begun = subst (λ (x : ReadingView). IsRead bytes x) (sym c.self.view_is) so in
     read_on (bytes ++ c.args.piece.now) c.take.new.self c.self.inside.refused c.take-2.new.self c.if-self.false
     (c.in_ok-take.ensures bytes begun.searched)
-    (c.in_ok-take-2.ensures bytes known (c.other_packets-other.ensures (bytes ++ c.args.piece.now) (c.in_ok-take.ensures bytes begun.searched))
+    (c.in_ok-take-2.ensures.taken bytes known (c.other_packets-other.ensures (bytes ++ c.args.piece.now) (c.in_ok-take.ensures bytes begun.searched))
     (begun.so_far c.if-self.false))
