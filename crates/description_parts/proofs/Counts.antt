@@ -19,7 +19,7 @@ use Rattle.description_keys.specs.NetworkKeys.{network_rules}
 use Rattle.description_keys.specs.ProgramKeys.{program_rules}
 use Rattle.description_keys.specs.StreamKeys.{stream_rules}
 use Rattle.description_keys.specs.TableKeys.{table_rules}
-use Rattle.description_keys.specs.TopKeys.{top_rules}
+use Rattle.description_keys.specs.TopKeys.{is_transponder, limit_in, top_rules}
 use Rattle.description_keys.specs.Rules.{Rule}
 use Rattle.description_keys.specs.Refusals.{array_rule, first_fault, key_fault, network_rule, parts_of, programs_of, rules, streams_of, tables_of}
 use Rattle.description_keys.specs.Refusals.{unknown_key_fault}
@@ -99,26 +99,37 @@ not_false true h = refl
 not_false false h = absurd (cc)
 
 -- A number of tables that is accepted is in its range.
-in_array : (d : Data) (code : ℕ) (absent : Bool) (name : List ℕ) (low high : ℕ) (rules : List Rule)
-    → Accepts d (array_rule code absent name low high ∷ rules) → tables_at absent name low high d ≡ true
-in_array d code absent name low high rules h = let here : 0 < 1 = omega arith in not_false (tables_at absent name low high d) (h.0 0 d here)
+in_array : (d : Data) (code : ℕ) (absent : Bool) (name : List ℕ) (low most more : ℕ) (rules : List Rule)
+    → Accepts d (array_rule code absent name low most more ∷ rules) → tables_at absent name low (limit_in d most more) d ≡ true
+in_array d code absent name low most more rules h =
+    let here : 0 < 1 = omega arith in
+    not_false (tables_at absent name low (limit_in d most more) d) (h.0 0 d here)
+
+-- A limit is at most its greater number.
+either_limit : (b : Bool) (most more : ℕ) → most ≤ more → (if b then more else most) ≤ more
+either_limit true most more h = omega arith
+either_limit false most more h = h
+
+pub limit_most : (d : Data) (most more : ℕ) → most ≤ more → limit_in d most more ≤ more
+limit_most d most more h = either_limit (is_transponder d) most more h
 
 -- No key of the document is refused.
 pub record NoFault (d : Data) : Type 0 where
-  pub programs : tables_at false (codes "program") 1 16 d ≡ true
-  pub streams : tables_at true (codes "stream") 0 32 d ≡ true
+  pub programs : tables_at false (codes "program") 1 (limit_in d 16 64) d ≡ true
+  pub program : Accepts d program_rules
+  pub streams : tables_at true (codes "stream") 0 (limit_in d 32 254) d ≡ true
   pub stream : Accepts d stream_rules
-  pub events : tables_at true (codes "event") 0 256 d ≡ true
-  pub tables : tables_at true (codes "table") 0 16 d ≡ true
+  pub events : tables_at true (codes "event") 0 (limit_in d 256 1024) d ≡ true
+  pub tables : tables_at true (codes "table") 0 (limit_in d 16 64) d ≡ true
   pub table : Accepts d table_rules
 
 pub no_fault : (d : Data) → key_fault d ≡ None → NoFault d
 unfolding rules
 no_fault d h =
-    let tables : List Rule = array_rule 70 true (codes "table") 0 16 ∷ table_rules in
-    let events : List Rule = array_rule 60 true (codes "event") 0 256 ∷ event_rules in
-    let streams : List Rule = array_rule 40 true (codes "stream") 0 32 ∷ stream_rules in
-    let programs : List Rule = array_rule 30 false (codes "program") 1 16 ∷ program_rules in
+    let tables : List Rule = array_rule 70 true (codes "table") 0 16 64 ∷ table_rules in
+    let events : List Rule = array_rule 60 true (codes "event") 0 256 1024 ∷ event_rules in
+    let streams : List Rule = array_rule 40 true (codes "stream") 0 32 254 ∷ stream_rules in
+    let programs : List Rule = array_rule 30 false (codes "program") 1 16 64 ∷ program_rules in
     let network : List Rule = network_rule ∷ network_rules in
     let all = accepts d rules (or_none (unknown_key_fault d) (first_fault rules d) h).1 in
     let one = two_parts d top_rules (network ++ (programs ++ (streams ++ (events ++ tables)))) all in
@@ -127,11 +138,12 @@ no_fault d h =
     let four = two_parts d streams (events ++ tables) three.1 in
     let five = two_parts d events tables four.1 in
     record {
-      programs = in_array d 30 false (codes "program") 1 16 program_rules three.0;
-      streams = in_array d 40 true (codes "stream") 0 32 stream_rules four.0;
+      programs = in_array d 30 false (codes "program") 1 16 64 program_rules three.0;
+      program = three.0.1;
+      streams = in_array d 40 true (codes "stream") 0 32 254 stream_rules four.0;
       stream = four.0.1;
-      events = in_array d 60 true (codes "event") 0 256 event_rules five.0;
-      tables = in_array d 70 true (codes "table") 0 16 table_rules five.1;
+      events = in_array d 60 true (codes "event") 0 256 1024 event_rules five.0;
+      tables = in_array d 70 true (codes "table") 0 16 64 table_rules five.1;
       table = five.1.1;
     }
 
@@ -177,18 +189,20 @@ table_sections d none =
 -- The numbers of programs, streams and tables are in range.
 pub has_counts : (d : Data) → NoFault d → HasCounts (described d)
 has_counts d none =
-    let programs =
-    elements-length false (codes "program") 1 16 d (λ e. absurd (cc)) none.programs in
-    let streams = elements-length true (codes "stream") 0 32 d (λ e. refl) none.streams in
-    let tables = elements-length true (codes "table") 0 16 d (λ e. refl) none.tables in
+    let programs = elements-length false (codes "program") 1 (limit_in d 16 64) d (λ e. absurd (cc)) none.programs in
+    let streams = elements-length true (codes "stream") 0 (limit_in d 32 254) d (λ e. refl) none.streams in
+    let tables = elements-length true (codes "table") 0 (limit_in d 16 64) d (λ e. refl) none.tables in
+    let few_programs = limit_most d 16 64 (omega arith) in
+    let few_streams = limit_most d 32 254 (omega arith) in
+    let few_tables = limit_most d 16 64 (omega arith) in
     let p = length-map (programs_of d) (described_program d) in
     let s = length-map (streams_of d) described_stream in
     let t = length-map (tables_of d) described_table in
     record {
       some_programs = omega (arith, p, programs.least);
-      most_programs = omega (arith, p, programs.most);
-      most_streams = omega (arith, s, streams.most);
-      most_tables = omega (arith, t, tables.most);
+      most_programs = omega (arith, p, programs.most, few_programs);
+      most_streams = omega (arith, s, streams.most, few_streams);
+      most_tables = omega (arith, t, tables.most, few_tables);
       most_sections =
           All-map (λ table. length table.sections ≤ 8) described_table (tables_of d) (λ k other within. (table_sections d none k other within).most);
     }

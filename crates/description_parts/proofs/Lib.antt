@@ -9,3 +9,4 @@ pub mod Declared
 pub mod NamedSharers
 pub mod WholeInRange
 pub mod Places
+pub mod SdtParts

@@ -1,16 +1,18 @@
 -- `shared_with` names declared programs, each once, and not the stream's own.
 use Rattle.std.proofs.Common.{◌≡◌, ℕ, ◌==◌, ◌&&◌, not, nat_eq, nat_le, Bool, true, false, List, [], ◌∷◌, length, map, Option, None, Some, unwrap_or, refl, sym}
-use Rattle.std.proofs.Common.{subst, ap, All, Contains, codes, if◌then◌else◌}
+use Rattle.std.proofs.Common.{subst, ap, ◌≤◌, arith, All, Contains, codes, if◌then◌else◌}
 use Rattle.std.proofs.lemmas.Bool.{and_parts, eqb-false}
+use Rattle.std.proofs.lemmas.Bool.Decides.{nat_tests}
 use Rattle.std.proofs.lemmas.List.Elements.{All-nil, All-cons}
 use Rattle.std.specs.List.{list_all, filter_map, cons_option, IsDistinct}
 use Rattle.toml.specs.Data.{Data, get}
 use Rattle.description_values.specs.Values.{elements_in, array_in, is_distinct}
 use Rattle.description_keys.specs.StreamKeys.{owner_number, declares, is_owned_by, has_owner, number_in, names_another, are_sharers, has_sharers, sharers_of}
 use Rattle.description_keys.specs.StreamKeys.{stream_sharers}
+use Rattle.description_keys.specs.TopKeys.{limit_in}
 use Rattle.description_parts.specs.Ranges.{program_numbers}
 use Rattle.description_parts.specs.Contents.{described}
-use Rattle.description_parts.proofs.Counts.{not_true}
+use Rattle.description_parts.proofs.Counts.{limit_most, not_true}
 use Rattle.description_parts.proofs.Distinct.{IsDistinct-is}
 use Rattle.description_parts.proofs.Declared.{number_declared}
 
@@ -63,19 +65,26 @@ no_sharers document stream = record {
   once = tt;
 }
 
+within_limit : (n limit most : ℕ) → nat_le n limit ≡ true → limit ≤ most → nat_le n most ≡ true
+within_limit n limit most h le = grind (arith, nat_tests, h, le)
+
 kept_whole : (b : Bool) (ns : List ℕ) → b ≡ true → (if b then ns else []) ≡ ns
 kept_whole true ns h = refl
 kept_whole false ns h = absurd (cc)
 
 in_array : (document stream : Data) (o : Option (List Data)) → has_owner document stream ≡ true
-    → (elim o as (λ _. Bool)
-    [ None ↦ false | Some ds ↦ nat_le (length ds) 15 && (list_all (names_another document stream) ds && is_distinct (filter_map number_in ds)) ]) ≡ true
+    → (elim o as (λ _. Bool) [
+      | None ↦ false
+      | Some ds ↦ nat_le (length ds) (limit_in document 15 63) && (list_all (names_another document stream) ds && is_distinct (filter_map number_in ds))
+    ]) ≡ true
     → AreSharers document stream (sharers_of (unwrap_or o []))
 in_array document stream None own h = absurd (cc)
 in_array document stream (Some ds) own h =
-    let few = and_parts (nat_le (length ds) 15) (list_all (names_another document stream) ds && is_distinct (filter_map number_in ds)) h in
+    let few = and_parts (nat_le (length ds) (limit_in document 15 63)) (list_all (names_another document stream) ds && is_distinct (filter_map number_in ds)) h
+    in
+    let most = within_limit (length ds) (limit_in document 15 63) 63 few.0 (limit_most document 15 63 (omega arith)) in
     let both = and_parts (list_all (names_another document stream) ds) (is_distinct (filter_map number_in ds)) few.1 in
-    subst (AreSharers document stream) (sym (kept_whole (nat_le (length ds) 15) (filter_map number_in ds) few.0))
+    subst (AreSharers document stream) (sym (kept_whole (nat_le (length ds) 63) (filter_map number_in ds) most))
     (record {
       declared = all_declared document stream ds both.0;
       others = all_others document stream ds own both.0;

@@ -4,7 +4,7 @@ use Rattle.std.proofs.Common.{Option, None, Some, IfSome, unwrap_or, option_map,
 use Rattle.std.proofs.Math.Nat.{le_trans, div-le_self}
 use Rattle.std.proofs.lemmas.Bool.{leb-true, or_cases, eqb-true}
 use Rattle.std.proofs.lemmas.List.Elements.{All-nil, All-cons, All-map, All-weaker, All-append, All-replicate}
-use Rattle.std.specs.Option.{option_to_list}
+use Rattle.std.specs.Option.{option_or, option_to_list}
 use Rattle.std.specs.List.{filter_map, cons_option}
 use Rattle.toml.specs.Data.{Data, get}
 use Rattle.unit_timing.specs.declared.allowance.Allowance.{Allowance}
@@ -23,7 +23,9 @@ use Rattle.description_parts.specs.Contents.{described_network, described_event,
 use Rattle.description_parts.specs.Contents.{described_entry, described_table}
 use Rattle.description_parts.specs.Channels.{described_channels}
 use Rattle.description_parts.specs.Described.{DescribedEntry}
+use Rattle.description_keys.specs.ProgramKeys.{clock_pid_in, program_pcr_pid}
 use Rattle.description_keys.specs.TableKeys.{is_listed}
+use Rattle.description_keys.specs.TopKeys.{clock_pid_of}
 use Rattle.description_keys.specs.Refusals.{events_of, programs_of}
 use Rattle.description_parts.proofs.KeyRanges.{Within, holds_of, at_key-all, integer_in-within, integer_at-within, integer_or-within, optional_integer-within}
 use Rattle.description_parts.proofs.KeyRanges.{moment_at-within}
@@ -35,11 +37,24 @@ use Rattle.description_parts.proofs.Counts.{HasLength}
 pid_is : (key : List ℕ) (d : Data) → IsPid (unwrap_or (integer_at key (pos 32) (pos 8190) d) 32)
 pid_is key d = let w = integer_at-within key 32 8190 32 d (omega arith) (omega arith) in record { low = w.least; high = w.most }
 
+-- The PID of a program's clock references, its own or shared
+or_all : {X : Type 0} (P : X → Type 0) (a b : Option X) → IfSome a P → IfSome b P → IfSome (option_or a b) P
+or_all P None b h k = k
+or_all P (Some x) b h k = h
+
+clock_is : (document d : Data) → IsPid (clock_pid_in document d)
+clock_is document d =
+    let own = at_key-all (Within 32 8190) (codes "pcr_pid") None (integer_in (pos 32) (pos 8190)) d tt (integer_in-within 32 8190) in
+    let shared = optional_integer-within (codes "clock_pid") 32 8190 document in
+    let w = holds_of (Within 32 8190) (option_or (program_pcr_pid d) (clock_pid_of document)) 32
+    (or_all (Within 32 8190) (program_pcr_pid d) (clock_pid_of document) own shared) (record { least = omega arith; most = omega arith }) in
+    record { low = w.least; high = w.most }
+
 pub network_is : (document d : Data) → IsNetwork (described_network document d)
 network_is document d = record {
   id = (integer_at-within (codes "id") 0 65535 0 d (omega arith) (omega arith)).most;
   name = text_at-is 200 (codes "name") d;
-  descriptors = two_are 700 72 _ (described_channels (programs_of document)) (descriptors-is (codes "descriptors") d) (channels_are (programs_of document));
+  descriptors = two_are 700 266 _ (described_channels (programs_of document)) (descriptors-is (codes "descriptors") d) (channels_are (programs_of document));
 }
 
 pub event_is : (d : Data) → IsEvent (described_event d)
@@ -63,7 +78,7 @@ program_is document d =
       some_number = number.least;
       most_number = number.most;
       pmt_pid = pid_is (codes "pmt_pid") d;
-      pcr_pid = pid_is (codes "pcr_pid") d;
+      pcr_pid = clock_is document d;
       some_limit = limit.least;
       most_limit = limit.most;
       descriptors = descriptors-is (codes "descriptors") d;
@@ -161,12 +176,12 @@ few_numbers : (ds : List Data) → length (filter_map number_in ds) ≤ length d
 few_numbers [] = omega arith
 few_numbers (d ∷ ds) = few_kept (number_in d) (filter_map number_in ds) (length ds) (few_numbers ds)
 
-few_if : (b : Bool) (ns : List ℕ) → (b ≡ true → length ns ≤ 15) → length (if b then ns else []) ≤ 15
+few_if : (b : Bool) (ns : List ℕ) → (b ≡ true → length ns ≤ 63) → length (if b then ns else []) ≤ 63
 few_if true ns h = h refl
 few_if false ns h = omega arith
 
-few_sharers : (ds : List Data) → length (sharers_of ds) ≤ 15
-few_sharers ds = few_if (nat_le (length ds) 15) (filter_map number_in ds) (λ is. omega (arith, leb-true (length ds) 15 is, few_numbers ds))
+few_sharers : (ds : List Data) → length (sharers_of ds) ≤ 63
+few_sharers ds = few_if (nat_le (length ds) 63) (filter_map number_in ds) (λ is. omega (arith, leb-true (length ds) 63 is, few_numbers ds))
 
 buffer_is : (d : Data) → 64000 ≤ greatest_rbx d → IsMultiplexingBuffer (greatest_rbx d) (multiplexing_of d)
 buffer_is d least =

@@ -1,23 +1,24 @@
 -- If a document is not refused, every part of its description is in range.
 use Rattle.std.proofs.Common.{◌≡◌, ℕ, suc, zero, ◌+◌, ◌-◌, ◌≤◌, ◌==◌, ◌||◌, ◌&&◌, not, nat_lt, Bool, true, false, List, [], ◌∷◌, ◌++◌, map, get_or, slice_get}
 use Rattle.std.proofs.Common.{Option, None, Some, unwrap_or, option_map, refl, ap, sym, ◌∙◌, arith, if◌then◌else◌, All, Contains, codes, is_some, IsTrue, inl}
-use Rattle.std.proofs.Common.{inr}
+use Rattle.std.proofs.Common.{inr, is_none, pos}
 use Rattle.std.proofs.lemmas.Bool.{or_parts, ltb-false, cases_Bool, eqb-true}
 use Rattle.std.proofs.lemmas.List.Elements.{All-nil, All-cons, All-map}
 use Rattle.std.proofs.lemmas.List.Folds.{list_any-append}
 use Rattle.std.proofs.lemmas.Option.{slice_get-get_or}
 use Rattle.std.specs.List.{list_any}
 use Rattle.std.specs.Option.{option_to_list, option_or}
-use Rattle.toml.specs.Data.{Data}
+use Rattle.toml.specs.Data.{Data, get}
 use Rattle.description_parts.specs.Described.{Described, DescribedNetwork}
 use Rattle.description_parts.specs.Ranges.{IsInRange, IsNetwork, IsProgram, IsStream, IsTable, IsListed, IsSharing, named_pids, program_numbers}
 use Rattle.description_parts.specs.Ranges.{longest_section}
-use Rattle.description_parts.specs.Tables.{only_if, has_event, service_tables, table_kinds, pmt_length, nit_length, sdt_length, numbers_from}
-use Rattle.description_values.specs.Values.{is_distinct}
-use Rattle.description_keys.specs.ProgramKeys.{has_number, program_number}
+use Rattle.description_parts.specs.Tables.{only_if, has_event, kind_lengths, service_tables, table_kinds, pmt_length, nit_length, numbers_from}
+use Rattle.description_values.specs.Values.{integer_in, is_distinct}
+use Rattle.description_keys.specs.ProgramKeys.{clock_pid_in, has_number, program_number, program_pcr_pid, refuses_pcr_pid}
 use Rattle.description_keys.specs.StreamKeys.{owner_number, declares, has_owner, has_sharers, stream_sharers}
 use Rattle.description_parts.specs.Contents.{described, described_network, described_program, described_stream, described_entry, described_table}
 use Rattle.description_keys.specs.TableKeys.{is_listed}
+use Rattle.description_keys.specs.TopKeys.{clock_pid_of, has_own_clock, limit_in}
 use Rattle.description_parts.specs.Consistency.{is_too_long, first_place, equal_pids_fault, equal_numbers_fault, event_order_fault, too_long_fault, joint_fault}
 use Rattle.description_keys.specs.Refusals.{key_fault, programs_of, streams_of, tables_of, network_of}
 use Rattle.description_keys.specs.declared.fault.DescFault.{DescFault}
@@ -26,7 +27,7 @@ use Rattle.description_parts.specs.declared.table_kind.TableKind.{TableKind}
 use Rattle.description_parts.specs.declared.table_kind.TableKind.TheVariants.{Pat, Pmt, Nit, Sdt, Eit, Tdt, Private}
 use Rattle.description_parts.proofs.KeyRanges.{integer_at-within, integer_or-within, moment_at-within}
 use Rattle.description_parts.proofs.Counts.{NoFault, no_fault, or_none, map_none, not_false, has_counts}
-use Rattle.description_parts.proofs.Counts.{table_sections, elements-length}
+use Rattle.description_parts.proofs.Counts.{table_sections, elements-length, limit_most}
 use Rattle.description_parts.proofs.PartsInRange.{network_is, program_is, stream_is, table_is}
 use Rattle.description_parts.proofs.Declared.{owner_declared}
 use Rattle.description_parts.proofs.NamedSharers.{AreSharers, sharers_are}
@@ -95,9 +96,15 @@ network_fits None h = All-nil (λ n. nit_length n ≤ longest_section)
 network_fits (Some n) h =
     All-cons (λ n. nit_length n ≤ longest_section) n [] (one_length nit_length (Some n) n refl (h refl)) (All-nil (λ n. nit_length n ≤ longest_section))
 
+all_short : (ls : List ℕ) → list_any (nat_lt longest_section) ls ≡ false → All (λ l. l ≤ longest_section) ls
+all_short [] h = All-nil (λ l. l ≤ longest_section)
+all_short (l ∷ ls) h =
+    let both = or_parts (nat_lt longest_section l) (list_any (nat_lt longest_section) ls) h in
+    All-cons (λ m. m ≤ longest_section) l ls (ltb-false longest_section l both.0) (all_short ls both.1)
+
 record ServicesFit (d : Described) : Type 0 where
   nit : All (λ n. nit_length n ≤ longest_section) (option_to_list d.network)
-  sdt : IsTrue d.has_sdt → sdt_length d ≤ longest_section
+  sdt : IsTrue d.has_sdt → All (λ l. l ≤ longest_section) (kind_lengths d Sdt)
 
 services_fit : (d : Described) → list_any (is_too_long d) (table_kinds d) ≡ false → ServicesFit d
 services_fit d h =
@@ -115,7 +122,7 @@ services_fit d h =
     let one = or_parts (list_any p nit) (list_any p sdt) (sym (list_any-append p nit sdt) ∙ two.0) in
     record {
       nit = network_fits d.network (only_none p (is_some d.network) Nit one.0);
-      sdt = λ is. one_length (λ (e : Described). sdt_length e) (Some d) d refl (only_none p d.has_sdt Sdt one.1 is);
+      sdt = λ is. all_short (kind_lengths d Sdt) (only_none p d.has_sdt Sdt one.1 is);
     }
 
 -- The program of each stream is declared, and so are the programs that share the stream.
@@ -148,6 +155,27 @@ tables_declared d none =
     λ k other within. listed_declared d (get_or (tables_of d) k other) (is_listed (get_or (tables_of d) k other))
     (none.table.1.1.1.0 k other within)
 
+-- A program without clock references of its own has the shared ones.
+no_own : (o : Option Data) (read : Data → Option ℕ) → is_some o ≡ false → (elim o as (λ _. Option ℕ) [ None ↦ None | Some value ↦ read value ]) ≡ None
+no_own None read h = refl
+no_own (Some value) read h = absurd (cc)
+
+shared_pid : (own clock : Option ℕ) (b : Bool) → own ≡ None → b ≡ false → (is_none own && (b || is_none clock)) ≡ false
+    → clock ≡ Some (unwrap_or (option_or own clock) 32)
+shared_pid (Some n) clock b o f h = absurd (cc)
+shared_pid None clock true o f h = absurd (cc)
+shared_pid None None false o f h = absurd (cc)
+shared_pid None (Some n) false o f h = refl
+
+clock_shared : (document part : Data) → refuses_pcr_pid document part ≡ false → has_own_clock part ≡ false
+    → clock_pid_of document ≡ Some (clock_pid_in document part)
+clock_shared document part accepted other =
+    shared_pid (program_pcr_pid part) (clock_pid_of document) (has_own_clock part)
+    (no_own (get (codes "pcr_pid") part) (integer_in (pos 32) (pos 8190)) other) other accepted
+
+clocks_shared : (d : Data) → NoFault d → All (λ part. has_own_clock part ≡ false → clock_pid_of d ≡ Some (clock_pid_in d part)) (programs_of d)
+clocks_shared d none = λ k other within. clock_shared d (get_or (programs_of d) k other) (none.program.1.1.0 k other within)
+
 within_trans : {a b c : ℕ} → a ≤ b → b ≤ c → a ≤ c
 within_trans h k = omega arith
 
@@ -164,7 +192,8 @@ described-in_range document keys joint =
     let rate = integer_at-within (codes "rate") 100000 100000000 100000 document (omega arith) (omega arith) in
     let base0 = (integer_or-within (codes "base0") 0 8589934591 0 0 document (omega arith) (omega arith) (omega arith) (omega arith)).most in
     let numbers = IsDistinct-is (program_numbers (described document)) parts.numbers in
-    let events = (elements-length true (codes "event") 0 256 document (λ e. refl) none.events).most in
+    let events = within_trans (elements-length true (codes "event") 0 (limit_in document 256 1024) document (λ e. refl) none.events).most
+    (limit_most document 256 1024 (omega arith)) in
     let few = most_events document (programs_of document) numbers in
     let services = services_fit (described document) parts.lengths in
     record {
@@ -179,6 +208,8 @@ described-in_range document keys joint =
       most_programs = counts.most_programs;
       programs = All-map IsProgram (described_program document) (programs_of document)
           (λ k other within. program_is document (get_or (programs_of document) k other));
+      clocks = All-map (λ p. p.has_clock ≡ false → clock_pid_of document ≡ Some p.pcr_pid) (described_program document) (programs_of document)
+          (clocks_shared document none);
       most_events = within_trans few events;
       most_streams = counts.most_streams;
       streams = All-map IsStream described_stream (streams_of document) (λ k other within. stream_is (get_or (streams_of document) k other));
@@ -193,5 +224,5 @@ described-in_range document keys joint =
       distinct_numbers = numbers;
       pmt_lengths = pmt_fits (described document) parts.lengths;
       nit_length = services.nit;
-      sdt_length = services.sdt;
+      sdt_lengths = services.sdt;
     }

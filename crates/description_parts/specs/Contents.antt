@@ -8,7 +8,7 @@ use Rattle.description_parts.specs.Described.{Described, DescribedNetwork, Descr
 use Rattle.description_values.specs.Values.{elements, section_in}
 use Rattle.description_keys.specs.TopKeys as top
 use Rattle.description_keys.specs.NetworkKeys.{network_id, network_name, network_descriptors}
-use Rattle.description_keys.specs.ProgramKeys.{program_number, program_pmt_pid, program_pcr_pid, program_pcr_limit, program_descriptors, program_service_type}
+use Rattle.description_keys.specs.ProgramKeys.{program_number, program_pmt_pid, clock_pid_in, program_pcr_limit, program_descriptors, program_service_type}
 use Rattle.description_keys.specs.ProgramKeys.{program_provider, program_name}
 use Rattle.description_keys.specs.StreamKeys.{owner_number, is_owned_by, stream_sharers, stream_pid, id_or_private, stream_type, stream_interval, stream_size}
 use Rattle.description_keys.specs.StreamKeys.{stream_lead, stream_pts_limit, stream_rx, stream_main, stream_tag, stream_language, stream_descriptors}
@@ -49,7 +49,8 @@ abbrev pub described_program : Data → Data → DescribedProgram
 described_program document program = record {
   number = described_number program;
   pmt_pid = unwrap_or (program_pmt_pid program) 32;
-  pcr_pid = unwrap_or (program_pcr_pid program) 32;
+  pcr_pid = clock_pid_in document program;
+  has_clock = top.has_own_clock program;
   pcr_limit = unwrap_or (program_pcr_limit program) 1;
   descriptors = unwrap_or (program_descriptors program) [];
   service_type = unwrap_or (program_service_type program) 0;
@@ -109,6 +110,8 @@ described document = record {
   original_network_id = unwrap_or (top.original_network_id document) 0;
   has_sdt = unwrap_or (top.has_sdt document) false;
   has_tdt = unwrap_or (top.has_tdt document) false;
+  is_transponder = top.is_transponder document;
+  clock_pid = top.clock_pid_of document;
   network = option_map (described_network document) (network_of document);
   programs = map (described_program document) (programs_of document);
   streams = map described_stream (streams_of document);

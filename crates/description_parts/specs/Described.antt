@@ -24,11 +24,13 @@ abbrev pub event_view : Event → DescribedEvent
 event_view e = record { id = e.id; start = e.start; duration = e.duration; language = e.language; name = e.name; text = e.text }
 
 -- one program (ISO/IEC 13818-1, 2.4.4.8) and its service (EN 300 468, 5.2.3), with its events in order of start;
--- pcr_limit is the greatest time between two PCRs, in ms
+-- pcr_pid is the PID of its PCRs, has_clock whether these are its own or the ones that programs share, pcr_limit the greatest time
+-- between two of them, in ms
 pub record DescribedProgram : Type 0 where
   pub number : ℕ
   pub pmt_pid : ℕ
   pub pcr_pid : ℕ
+  pub has_clock : Bool
   pub pcr_limit : ℕ
   pub descriptors : List ℕ
   pub service_type : ℕ
@@ -56,7 +58,8 @@ pub record DescribedTable : Type 0 where
   pub sections : List (List ℕ)
   pub entry : Option DescribedEntry
 
--- the whole: rate in bits a second, start the moment of the first slot, base0 the system clock's first value (90 kHz)
+-- the whole: rate in bits a second, start the moment of the first slot, base0 the system clock's first value (90 kHz), is_transponder
+-- whether it has the limits of a whole transponder, clock_pid the PID of the PCRs that programs share
 pub record Described : Type 0 where
   pub rate : ℕ
   pub start : ℕ
@@ -65,6 +68,8 @@ pub record Described : Type 0 where
   pub original_network_id : ℕ
   pub has_sdt : Bool
   pub has_tdt : Bool
+  pub is_transponder : Bool
+  pub clock_pid : Option ℕ
   pub network : Option DescribedNetwork
   pub programs : List DescribedProgram
   pub streams : List DescribedStream

@@ -1,6 +1,7 @@
 pub mod Described
 pub mod Tables
 pub mod Ranges
+pub mod SdtParts
 pub mod Shown
 pub mod Channels
 pub mod Contents

@@ -1,5 +1,6 @@
 -- The ranges of every description that is read: of its numbers, its texts and its tables.
-use Rattle.std.specs.Prelude.{◌≡◌, ℕ, ◌-◌, ◌*◌, ◌^◌, ◌<◌, ◌≤◌, ◌⊎◌, true, List, ◌++◌, length, map, sum_by, All, Contains, nat_eq, IsTrue}
+use Rattle.std.specs.Prelude.{◌≡◌, ℕ, ◌-◌, ◌*◌, ◌^◌, ◌<◌, ◌≤◌, ◌⊎◌, true, false, List, ◌++◌, length, map, filter, sum_by, Some, All, Contains, nat_eq}
+use Rattle.std.specs.Prelude.{IsTrue}
 use Rattle.std.specs.List.{IsDistinct}
 use Rattle.std.specs.Option.{option_to_list}
 use Rattle.unit_timing.specs.declared.allowance.Allowance.{Allowance}
@@ -10,7 +11,8 @@ use Rattle.unit_timing.specs.declared.framing.LastBytes.TheVariants.{Each, Sums}
 use Rattle.unit_timing.specs.declared.multiplexing_buffer.MultiplexingBuffer.{MultiplexingBuffer}
 use Rattle.description_parts.specs.Described.{Described, DescribedNetwork, DescribedProgram, DescribedStream, DescribedEvent, DescribedEntry, DescribedTable}
 use Rattle.description_values.specs.Values.{is_one_section}
-use Rattle.description_parts.specs.Tables.{pmt_length, nit_length, sdt_length, greatest_unit_packets}
+use Rattle.description_parts.specs.Tables.{pmt_length, nit_length, kind_lengths, greatest_unit_packets}
+use Rattle.description_parts.specs.declared.table_kind.TableKind.TheVariants.{Sdt}
 
 -- a PID that a description may name (ISO/IEC 13818-1, table 2-3, less the PIDs of EN 300 468)
 pub record IsPid (pid : ℕ) : Type 0 where
@@ -34,7 +36,7 @@ last_moment = 2145916799
 pub record IsNetwork (n : DescribedNetwork) : Type 0 where
   pub id : n.id ≤ 65535
   pub name : IsBytes 200 n.name
-  pub descriptors : IsBytes 772 n.descriptors
+  pub descriptors : IsBytes 966 n.descriptors
 
 pub record IsEvent (e : DescribedEvent) : Type 0 where
   pub id : e.id ≤ 65535
@@ -121,7 +123,7 @@ pub record IsStream (s : DescribedStream) : Type 0 where
   pub language : All IsLanguage (option_to_list s.language)
   pub descriptors : IsBytes 700 s.descriptors
   pub allowance : IsAllowance (greatest_unit_packets s) s.allowance
-  pub few_sharers : length s.shared_with ≤ 15
+  pub few_sharers : length s.shared_with ≤ 63
   pub multiplexing : All (IsMultiplexingBuffer s.rx) (option_to_list s.multiplexing)
   pub framing : All (IsFraming s.size) (option_to_list s.framing)
 
@@ -141,9 +143,10 @@ pub record IsTable (t : DescribedTable) : Type 0 where
   pub whole_sections : All (λ s. is_one_section s ≡ true) t.sections
   pub entry : All IsEntry (option_to_list t.entry)
 
--- every PID that the description names
+-- every PID that the description names: a shared clock's once
 abbrev pub named_pids : Described → List ℕ
-named_pids d = map (λ p. p.pmt_pid) d.programs ++ map (λ p. p.pcr_pid) d.programs ++ map (λ s. s.pid) d.streams ++ map (λ t. t.pid) d.tables
+named_pids d = map (λ p. p.pmt_pid) d.programs ++ map (λ p. p.pcr_pid) (filter (λ p. p.has_clock) d.programs) ++ option_to_list d.clock_pid
+    ++ map (λ s. s.pid) d.streams ++ map (λ t. t.pid) d.tables
 
 -- the numbers of its programs
 abbrev pub program_numbers : Described → List ℕ
@@ -166,9 +169,9 @@ IsListed d t = All (λ e. Contains (program_numbers d) e.program) (option_to_lis
 -- how many parts there are
 pub record HasCounts (d : Described) : Type 0 where
   pub some_programs : 1 ≤ length d.programs
-  pub most_programs : length d.programs ≤ 16
-  pub most_streams : length d.streams ≤ 32
-  pub most_tables : length d.tables ≤ 16
+  pub most_programs : length d.programs ≤ 64
+  pub most_streams : length d.streams ≤ 254
+  pub most_tables : length d.tables ≤ 64
   pub most_sections : All (λ t. length t.sections ≤ 8) d.tables
 
 -- all of it: numbers, counts, lengths, and no PID and no program number twice
@@ -181,18 +184,19 @@ pub record IsInRange (d : Described) : Type 0 where
   pub original_network_id : d.original_network_id ≤ 65535
   pub network : All IsNetwork (option_to_list d.network)
   pub some_programs : 1 ≤ length d.programs
-  pub most_programs : length d.programs ≤ 16
+  pub most_programs : length d.programs ≤ 64
   pub programs : All IsProgram d.programs
-  pub most_events : sum_by (λ p. length p.events) d.programs ≤ 256
-  pub most_streams : length d.streams ≤ 32
+  pub clocks : All (λ p. p.has_clock ≡ false → d.clock_pid ≡ Some p.pcr_pid) d.programs
+  pub most_events : sum_by (λ p. length p.events) d.programs ≤ 1024
+  pub most_streams : length d.streams ≤ 254
   pub streams : All IsStream d.streams
   pub declared : All (λ s. Contains (program_numbers d) s.program) d.streams
   pub sharing : All (IsSharing d) d.streams
-  pub most_tables : length d.tables ≤ 16
+  pub most_tables : length d.tables ≤ 64
   pub tables : All IsTable d.tables
   pub listed : All (IsListed d) d.tables
   pub distinct_pids : IsDistinct nat_eq (named_pids d)
   pub distinct_numbers : IsDistinct nat_eq (program_numbers d)
   pub pmt_lengths : All (λ p. pmt_length d p ≤ longest_section) d.programs
   pub nit_length : All (λ n. nit_length n ≤ longest_section) (option_to_list d.network)
-  pub sdt_length : IsTrue d.has_sdt → sdt_length d ≤ longest_section
+  pub sdt_lengths : IsTrue d.has_sdt → All (λ l. l ≤ longest_section) (kind_lengths d Sdt)

@@ -1,6 +1,6 @@
 -- The tables of a description: their numbers, PIDs, limits, sections and lengths (EN 300 468, 5.1.3; TR 101 290, 5.2).
-use Rattle.std.specs.Prelude.{ℕ, ◌+◌, ◌*◌, ◌/◌, max, Bool, List, [], ◌∷◌, ◌++◌, Option, None, Some, is_some, length, map, filter, sum_by, nat_le}
-use Rattle.std.specs.Prelude.{slice_index_or, slice_get, option_and_then, ◌==◌, if◌then◌else◌}
+use Rattle.std.specs.Prelude.{ℕ, ◌+◌, ◌*◌, ◌/◌, ◌%◌, max, not, ◌||◌, Bool, List, [], ◌∷◌, ◌++◌, Option, None, Some, is_some, length, map, filter, sum_by, nat_le}
+use Rattle.std.specs.Prelude.{slice_index_or, slice_get, option_and_then, position, unwrap_or, ◌==◌, if◌then◌else◌}
 use Rattle.std.specs.List.{list_any}
 use Rattle.std.specs.Option.{option_to_list}
 use Rattle.description_parts.specs.Described.{Described, DescribedNetwork, DescribedProgram, DescribedStream, DescribedEvent, DescribedEntry, DescribedTable}
@@ -11,6 +11,21 @@ use Rattle.description_parts.specs.declared.table_kind.TableKind.TheVariants.{Pa
 abbrev pub numbers_from : {X : Type 0} → ℕ → List X → List ℕ
 numbers_from first [] = []
 numbers_from first (x ∷ xs) = first ∷ numbers_from (first + 1) xs
+
+-- the place of the first program without PCRs of its own
+abbrev pub shares_clock : DescribedProgram → Bool
+shares_clock p = not p.has_clock
+
+abbrev pub clock_holder : List DescribedProgram → Option ℕ
+clock_holder ps = position shares_clock ps
+
+-- the number of the program whose slots carry the PCRs of the program of a number: its own, or, if programs share a clock, the first of these
+abbrev pub clock_of : Described → ℕ → ℕ
+clock_of d i = elim (slice_get d.programs i) [ None ↦ i | Some p ↦ if p.has_clock then i else unwrap_or (clock_holder d.programs) i ]
+
+-- the slots of a program carry PCRs: its own, or those of the programs that share a clock
+abbrev pub has_references : Described → ℕ → Bool
+has_references d i = clock_of d i == i
 
 -- the programs that have an event
 abbrev pub has_event : DescribedProgram → Bool
@@ -104,8 +119,25 @@ nit_length n = section_overhead + 2 + (2 + length n.name) + 2 + 6 + length n.des
 abbrev pub service_length : DescribedProgram → ℕ
 service_length p = 5 + (2 + 3 + length p.provider + length p.name)
 
-abbrev pub sdt_length : Described → ℕ
-sdt_length d = section_overhead + 3 + sum_by service_length d.programs
+-- the bytes of services in a section of the SDT of section_length 1,021 at most
+abbrev pub most_services : ℕ
+most_services = 1009
+
+-- the services of each section, in order: a section takes the next service if it has none yet, or has room for it
+abbrev pub takes_service : List DescribedProgram → DescribedProgram → Bool
+takes_service begun p = length begun == 0 || nat_le (sum_by service_length (begun ++ p ∷ [])) most_services
+
+abbrev pub services_cut : List DescribedProgram → List DescribedProgram → List (List DescribedProgram)
+services_cut begun [] = begun ∷ []
+services_cut begun (p ∷ ps) = if takes_service begun p then services_cut (begun ++ p ∷ []) ps else begun ∷ services_cut (p ∷ []) ps
+
+-- the programs in the sections of the SDT: as many sections as they need for a transponder, otherwise one
+abbrev pub sdt_parts : Described → List (List DescribedProgram)
+sdt_parts d = if d.is_transponder then services_cut [] d.programs else d.programs ∷ []
+
+-- the bytes of a section of the SDT with these services
+abbrev pub sdt_length : List DescribedProgram → ℕ
+sdt_length ps = section_overhead + 3 + sum_by service_length ps
 
 -- the bytes of an event in an EIT section, with its short_event descriptor
 abbrev pub event_length : DescribedEvent → ℕ
@@ -125,6 +157,11 @@ abbrev pub eit_lengths : List DescribedProgram → List ℕ
 eit_lengths [] = []
 eit_lengths (p ∷ ps) = eit_length p ∷ eit_length p ∷ eit_lengths ps
 
+-- the place, among the programs with an event, of the program of a section of the EIT, and the section's section_number (EN 300 468,
+-- 5.2.4): for a transponder the sections for the present events are first, otherwise a program's two sections follow one another
+abbrev pub eit_place : Described → ℕ → ℕ × ℕ
+eit_place d j = if d.is_transponder then (j % length (scheduled_programs d), j / length (scheduled_programs d)) else (j / 2, j % 2)
+
 abbrev pub tdt_length : ℕ
 tdt_length = 8
 
@@ -133,8 +170,9 @@ abbrev pub kind_lengths : Described → TableKind → List ℕ
 kind_lengths d Pat = pat_length d ∷ []
 kind_lengths d (Pmt p) = map (pmt_length d) (option_to_list (slice_get d.programs p))
 kind_lengths d Nit = map nit_length (option_to_list d.network)
-kind_lengths d Sdt = sdt_length d ∷ []
-kind_lengths d Eit = eit_lengths (scheduled_programs d)
+kind_lengths d Sdt = map sdt_length (sdt_parts d)
+kind_lengths d Eit = if d.is_transponder then map eit_length (scheduled_programs d) ++ map eit_length (scheduled_programs d)
+    else eit_lengths (scheduled_programs d)
 kind_lengths d Tdt = tdt_length ∷ []
 kind_lengths d (Private i) = elim (slice_get d.tables i) [ None ↦ [] | Some private ↦ map length private.sections ]
 

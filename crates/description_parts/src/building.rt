@@ -20,7 +20,9 @@ use crate::program::ProgramDescription;
 use crate::stream::StreamDescription;
 use arrayvec::ArrayVec;
 use clock27::Rate;
+use description_keys::clock_keys::{clock_pid, clock_pid_in, has_own_clock};
 use description_keys::frame_keys::framing;
+use description_keys::limits::is_transponder;
 use description_keys::multiplexing_keys::multiplexing;
 use description_keys::owner::{is_owned_by, owner_number, program_number};
 use description_keys::sharers::sharers;
@@ -97,7 +99,8 @@ fn program_of(
     Ok(ProgramDescription {
         number,
         pmt_pid: number_at(program, "pmt_pid", 32, 8_190) as u16,
-        pcr_pid: number_at(program, "pcr_pid", 32, 8_190) as u16,
+        pcr_pid: clock_pid_in(document, program),
+        has_clock: has_own_clock(program),
         pcr_limit: number_or(40, program, "pcr_limit", 1, 100) as u8,
         descriptors: descriptors_or_none(program, "descriptors").unwrap_or(DescriptorLoop::none()),
         service_type: number_or(1, program, "service_type", 0, 255) as u8,
@@ -243,6 +246,8 @@ pub fn contents_of(alloc: Global, document: &Value) -> Result<Contents, AllocErr
         original_network_id: number_at(document, "original_network_id", 0, 65_535) as u16,
         has_sdt: boolean_or(false, document, "sdt").unwrap_or(false),
         has_tdt: boolean_or(false, document, "tdt").unwrap_or(false),
+        is_transponder: is_transponder(document),
+        clock_pid: clock_pid(document),
         network: network_in(document),
         programs,
         streams,

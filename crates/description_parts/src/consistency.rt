@@ -1,7 +1,8 @@
 //! Refusals of the parts of a document taken together.
 
-ghost use Rattle.std.specs.Prelude.{◌≡◌, ◌≤◌, ◌+◌, ◌++◌, [], length, map, nat_lt};
+ghost use Rattle.std.specs.Prelude.{◌≡◌, ◌<◌, ◌≤◌, ◌+◌, ◌++◌, [], length, map, filter, nat_lt};
 ghost use Rattle.std.specs.List.{list_any};
+ghost use Rattle.std.specs.Option.{option_to_list};
 ghost use Rattle.arrayvec.specs.ArrayVec.{array_vec_len};
 ghost use Rattle.toml.specs.View.{view};
 ghost use Rattle.description_parts.specs.Ranges.{last_moment, named_pids, longest_section};
@@ -11,6 +12,7 @@ ghost use Rattle.description_parts.specs.Consistency as spec;
 use crate::contents::Contents;
 use crate::private_table::PrivateTable;
 use crate::program::ProgramDescription;
+use crate::section_lengths::nit_length;
 use crate::stream::StreamDescription;
 use crate::table_kind::TableKind;
 use arrayvec::ArrayVec;
@@ -21,8 +23,8 @@ use description_values::moments::moment_at;
 use description_values::values::{is_distinct, number_at};
 use toml::Value;
 
-fn push_pmt_pids(pids: &mut ArrayVec<u16, 80>, programs: &[ProgramDescription])
-    requires { array_vec_len pids.old + length programs.now ≤ 80 }
+fn push_pmt_pids(pids: &mut ArrayVec<u16, 447>, programs: &[ProgramDescription])
+    requires { array_vec_len pids.old + length programs.now ≤ 447 }
     ensures { pids.new.items ≡ pids.old.items ++ map (λ p. p.pmt_pid) programs.now }
 {
     for program in programs {
@@ -30,17 +32,31 @@ fn push_pmt_pids(pids: &mut ArrayVec<u16, 80>, programs: &[ProgramDescription])
     }
 }
 
-fn push_pcr_pids(pids: &mut ArrayVec<u16, 80>, programs: &[ProgramDescription])
-    requires { array_vec_len pids.old + length programs.now ≤ 80 }
-    ensures { pids.new.items ≡ pids.old.items ++ map (λ p. p.pcr_pid) programs.now }
+// Appends the PIDs of the programs that have clock references of their own.
+fn push_pcr_pids(pids: &mut ArrayVec<u16, 447>, programs: &[ProgramDescription])
+    requires { array_vec_len pids.old + length programs.now ≤ 447 }
+    ensures value { pids.new.items ≡ pids.old.items ++ map (λ p. p.pcr_pid) (filter (λ p. p.has_clock) programs.now) }
+    ensures most { length pids.new.items ≤ length pids.old.items + length programs.now }
 {
     for program in programs {
-        pids.push(program.pcr_pid());
+        if program.has_clock() {
+            pids.push(program.pcr_pid());
+        }
     }
 }
 
-fn push_stream_pids(pids: &mut ArrayVec<u16, 80>, streams: &[StreamDescription])
-    requires { array_vec_len pids.old + length streams.now ≤ 80 }
+fn push_clock_pid(pids: &mut ArrayVec<u16, 447>, clock_pid: Option<u16>)
+    requires { array_vec_len pids.old < 447 }
+    ensures value { pids.new.items ≡ pids.old.items ++ option_to_list clock_pid }
+    ensures most { length pids.new.items ≤ length pids.old.items + 1 }
+{
+    if let Some(pid) = clock_pid {
+        pids.push(pid);
+    }
+}
+
+fn push_stream_pids(pids: &mut ArrayVec<u16, 447>, streams: &[StreamDescription])
+    requires { array_vec_len pids.old + length streams.now ≤ 447 }
     ensures { pids.new.items ≡ pids.old.items ++ map (λ s. s.pid) streams.now }
 {
     for stream in streams {
@@ -48,8 +64,8 @@ fn push_stream_pids(pids: &mut ArrayVec<u16, 80>, streams: &[StreamDescription])
     }
 }
 
-fn push_table_pids(pids: &mut ArrayVec<u16, 80>, tables: &[PrivateTable])
-    requires { array_vec_len pids.old + length tables.now ≤ 80 }
+fn push_table_pids(pids: &mut ArrayVec<u16, 447>, tables: &[PrivateTable])
+    requires { array_vec_len pids.old + length tables.now ≤ 447 }
     ensures { pids.new.items ≡ pids.old.items ++ map (λ t. t.pid) tables.now }
 {
     for table in tables {
@@ -58,19 +74,20 @@ fn push_table_pids(pids: &mut ArrayVec<u16, 80>, tables: &[PrivateTable])
 }
 
 // Returns every PID that the description names.
-fn named_pids(contents: &Contents) -> ArrayVec<u16, 80>
+fn named_pids(contents: &Contents) -> ArrayVec<u16, 447>
     ensures { result.items ≡ named_pids contents.now }
 {
     let mut pids = ArrayVec::new();
     push_pmt_pids(&mut pids, contents.programs());
     push_pcr_pids(&mut pids, contents.programs());
+    push_clock_pid(&mut pids, contents.clock_pid());
     push_stream_pids(&mut pids, contents.streams());
     push_table_pids(&mut pids, contents.private_tables());
     pids
 }
 
-fn program_numbers(programs: &[ProgramDescription]) -> ArrayVec<u16, 16>
-    requires { length programs.now ≤ 16 }
+fn program_numbers(programs: &[ProgramDescription]) -> ArrayVec<u16, 64>
+    requires { length programs.now ≤ 64 }
     ensures { result.items ≡ map (λ p. p.number) programs.now }
 {
     let mut numbers = ArrayVec::new();
@@ -153,9 +170,15 @@ impl Contents {
         ensures { result ≡ spec.is_too_long self.now kind }
     {
         match kind {
-            TableKind::Pmt(_) | TableKind::Nit | TableKind::Sdt => {
-                has_long(self.kind_lengths(kind).as_slice())
-            }
+            TableKind::Pmt(place) => match self.programs().get(place) {
+                None => false,
+                Some(program) => self.pmt_length(program) > 1024,
+            },
+            TableKind::Nit => match self.network() {
+                None => false,
+                Some(network) => nit_length(network) > 1024,
+            },
+            TableKind::Sdt => has_long(self.sdt_lengths().as_slice()),
             TableKind::Pat | TableKind::Eit | TableKind::Tdt | TableKind::Private(_) => false,
         }
     }

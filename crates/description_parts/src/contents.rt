@@ -19,6 +19,10 @@ pub struct Contents {
     pub original_network_id: u16,
     pub has_sdt: bool,
     pub has_tdt: bool,
+    /// Whether it has the limits of a whole transponder.
+    pub is_transponder: bool,
+    /// The PID of the clock references that programs share.
+    pub clock_pid: Option<u16>,
     pub network: Option<Network>,
     pub programs: Vec<ProgramDescription>,
     pub streams: Vec<StreamDescription>,
@@ -84,5 +88,19 @@ impl Contents {
         ensures { result ≡ self.now.has_tdt }
     {
         self.has_tdt
+    }
+
+    /// Returns whether it has the limits of a whole transponder.
+    pub fn is_transponder(&self) -> bool
+        ensures { result ≡ self.now.is_transponder }
+    {
+        self.is_transponder
+    }
+
+    /// Returns the PID of the clock references that programs share, if they share some.
+    pub fn clock_pid(&self) -> Option<u16>
+        ensures { result ≡ self.now.clock_pid }
+    {
+        self.clock_pid
     }
 }

@@ -13,7 +13,10 @@ mod private_table;
 mod program;
 mod stream;
 
-// Tables: their numbers, the lengths of their sections.
+// Tables: their numbers, the lengths of their sections, the services of the SDT. Whose clock references programs have.
+mod clocks;
+pub mod laws;
+mod sdt_parts;
 pub mod section_lengths;
 pub mod table_kind;
 

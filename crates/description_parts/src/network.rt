@@ -6,11 +6,11 @@ use arrayvec::ArrayVec;
 use dvb_tables::Text;
 use std::marker::Model;
 
-/// The descriptors of the network's transport stream: at most 700 bytes, and channel numbers of at most 16 services. A
+/// The descriptors of the network's transport stream: at most 700 bytes, and channel numbers of at most 64 services. A
 /// contract sees these bytes.
 #[derive(Drop)]
 pub struct NetworkDescriptors {
-    pub(crate) bytes: ArrayVec<u8, 772>,
+    pub(crate) bytes: ArrayVec<u8, 966>,
 }
 
 impl Model for NetworkDescriptors {
@@ -23,7 +23,7 @@ impl NetworkDescriptors {
     /// Returns the bytes as they are written.
     pub fn as_bytes(&self) -> &[u8]
         ensures value { result.now ≡ self.now }
-        ensures fits { length self.now ≤ 772 }
+        ensures fits { length self.now ≤ 966 }
     {
         self.bytes.as_slice()
     }

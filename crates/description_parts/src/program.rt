@@ -13,6 +13,7 @@ pub struct ProgramDescription {
     pub(crate) number: u16,
     pub(crate) pmt_pid: u16,
     pub(crate) pcr_pid: u16,
+    pub(crate) has_clock: bool,
     pub(crate) pcr_limit: u8,
     pub(crate) descriptors: DescriptorLoop,
     pub(crate) service_type: u8,
@@ -31,6 +32,7 @@ impl Model for ProgramDescription {
       number = p.number;
       pmt_pid = p.pmt_pid;
       pcr_pid = p.pcr_pid;
+      has_clock = p.has_clock;
       pcr_limit = p.pcr_limit;
       descriptors = p.descriptors;
       service_type = p.service_type;
@@ -55,11 +57,18 @@ impl ProgramDescription {
         self.pmt_pid
     }
 
-    /// Returns the PID of its clock references.
+    /// Returns the PID of its clock references, PCR_PID in its PMT.
     pub fn pcr_pid(&self) -> u16
         ensures { result ≡ self.now.pcr_pid }
     {
         self.pcr_pid
+    }
+
+    /// Returns whether its clock references are its own, and not those that programs share.
+    pub fn has_clock(&self) -> bool
+        ensures { result ≡ self.now.has_clock }
+    {
+        self.has_clock
     }
 
     /// Returns the greatest time between two clock references, in ms.

@@ -1,7 +1,9 @@
 //! The greatest lengths of sections, over all moments.
 
-ghost use Rattle.std.specs.Prelude.{◌≡◌, ◌≤◌, [], ◌∷◌, length, map, sum_by, filter};
+ghost use Rattle.std.specs.Prelude.{◌≡◌, ◌≤◌, ◌+◌, ◌++◌, [], ◌∷◌, length, map, sum_by, filter};
+ghost use Rattle.arrayvec.specs.ArrayVec.{array_vec_len};
 ghost use Rattle.description_parts.specs.Described.{event_view};
+ghost use Rattle.description_parts.specs.Ranges.{IsInRange};
 ghost use Rattle.description_parts.specs.Tables as spec;
 
 use crate::contents::Contents;
@@ -37,9 +39,9 @@ fn entry_length(number: u16, stream: &StreamDescription) -> usize
 }
 
 fn entries_length(number: u16, streams: &[StreamDescription]) -> usize
-    requires { length streams.now ≤ 32 }
+    requires { length streams.now ≤ 254 }
     ensures value { result ≡ sum_by (spec.entry_length number) streams.now }
-    ensures bound { result ≤ 22848 }
+    ensures bound { result ≤ 181356 }
 {
     let mut total = 0;
     for stream in streams {
@@ -61,9 +63,9 @@ fn shared_length(number: u16, stream: &StreamDescription) -> usize
 }
 
 fn sharing_length(number: u16, streams: &[StreamDescription]) -> usize
-    requires { length streams.now ≤ 32 }
+    requires { length streams.now ≤ 254 }
     ensures value { result ≡ sum_by (spec.shared_length number) streams.now }
-    ensures bound { result ≤ 22848 }
+    ensures bound { result ≤ 181356 }
 {
     let mut total = 0;
     for stream in streams {
@@ -84,9 +86,9 @@ fn listed_length(number: u16, table: &PrivateTable) -> usize
 }
 
 fn tables_length(number: u16, tables: &[PrivateTable]) -> usize
-    requires { length tables.now ≤ 16 }
+    requires { length tables.now ≤ 64 }
     ensures value { result ≡ sum_by (spec.listed_length number) tables.now }
-    ensures bound { result ≤ 11280 }
+    ensures bound { result ≤ 45120 }
 {
     let mut total = 0;
     for table in tables {
@@ -96,7 +98,7 @@ fn tables_length(number: u16, tables: &[PrivateTable]) -> usize
 }
 
 // Returns the number of bytes of a service in the SDT.
-fn service_length(program: &ProgramDescription) -> usize
+pub(crate) fn service_length(program: &ProgramDescription) -> usize
     ensures value { result ≡ spec.service_length program.now }
     ensures bound { result ≤ 210 }
 {
@@ -104,15 +106,23 @@ fn service_length(program: &ProgramDescription) -> usize
 }
 
 fn services_length(programs: &[ProgramDescription]) -> usize
-    requires { length programs.now ≤ 16 }
+    requires { length programs.now ≤ 64 }
     ensures value { result ≡ sum_by spec.service_length programs.now }
-    ensures bound { result ≤ 3360 }
+    ensures bound { result ≤ 13440 }
 {
     let mut total = 0;
     for program in programs {
         total += service_length(program);
     }
     total
+}
+
+// Returns the length of a section of the SDT with these services.
+fn part_length(services: &[ProgramDescription]) -> u16
+    requires { length services.now ≤ 64 }
+    ensures { result ≡ spec.sdt_length services.now }
+{
+    15 + services_length(services) as u16
 }
 
 // Returns the number of bytes of an event in an EIT section.
@@ -134,9 +144,9 @@ fn longest_event(events: &[Event]) -> usize
     longest
 }
 
-fn nit_length(network: &Network) -> usize
+pub(crate) fn nit_length(network: &Network) -> usize
     ensures value { result ≡ spec.nit_length network.now }
-    ensures bound { result ≤ 996 }
+    ensures bound { result ≤ 1190 }
 {
     24 + network.name.as_bytes().len() + network.descriptors.as_bytes().len()
 }
@@ -148,7 +158,7 @@ fn eit_length(program: &ProgramDescription) -> usize
     18 + longest_event(program.events())
 }
 
-fn one(length: u16) -> ArrayVec<u16, 32>
+fn one(length: u16) -> ArrayVec<u16, 128>
     ensures { result.items ≡ length ∷ [] }
 {
     let mut lengths = ArrayVec::new();
@@ -157,8 +167,8 @@ fn one(length: u16) -> ArrayVec<u16, 32>
 }
 
 // Returns the lengths of each program's two sections.
-fn eit_lengths(programs: &[ProgramDescription]) -> ArrayVec<u16, 32>
-    requires { length programs.now ≤ 16 }
+fn eit_lengths(programs: &[ProgramDescription]) -> ArrayVec<u16, 128>
+    requires { length programs.now ≤ 64 }
     ensures { result.items ≡ spec.eit_lengths (filter spec.has_event programs.now) }
 {
     let mut lengths = ArrayVec::new();
@@ -172,8 +182,33 @@ fn eit_lengths(programs: &[ProgramDescription]) -> ArrayVec<u16, 32>
     lengths
 }
 
-fn lengths_of(sections: &[PrivateSection]) -> ArrayVec<u16, 32>
-    requires { length sections.now ≤ 32 }
+// Appends the length of a section of each program that has an event.
+fn push_eit_lengths(lengths: &mut ArrayVec<u16, 128>, programs: &[ProgramDescription])
+    requires { array_vec_len lengths.old + length programs.now ≤ 128 }
+    ensures value { lengths.new.items ≡ lengths.old.items ++ map spec.eit_length (filter spec.has_event programs.now) }
+    ensures most { length lengths.new.items ≤ length lengths.old.items + length programs.now }
+{
+    for program in programs {
+        if has_event(program) {
+            lengths.push(eit_length(program) as u16);
+        }
+    }
+}
+
+// Returns the lengths of the sections for the present events, then those of the sections for the following events.
+fn eit_lengths_in_turn(programs: &[ProgramDescription]) -> ArrayVec<u16, 128>
+    requires { length programs.now ≤ 64 }
+    ensures { result.items ≡ map spec.eit_length (filter spec.has_event programs.now)
+        ++ map spec.eit_length (filter spec.has_event programs.now) }
+{
+    let mut lengths = ArrayVec::new();
+    push_eit_lengths(&mut lengths, programs);
+    push_eit_lengths(&mut lengths, programs);
+    lengths
+}
+
+fn lengths_of(sections: &[PrivateSection]) -> ArrayVec<u16, 128>
+    requires { length sections.now ≤ 128 }
     ensures { result.items ≡ map length sections.now }
 {
     let mut lengths = ArrayVec::new();
@@ -185,7 +220,7 @@ fn lengths_of(sections: &[PrivateSection]) -> ArrayVec<u16, 32>
 
 /// Returns the packets of sections of these lengths.
 pub fn packets_of_sections(lengths: &[u16]) -> usize
-    requires { length lengths.now ≤ 32 }
+    requires { length lengths.now ≤ 128 }
     ensures { result ≡ sum_by spec.packets_of_section lengths.now }
 {
     let mut places = 0;
@@ -199,15 +234,16 @@ impl Contents {
     /// Returns the length of the section of the PAT, in bytes.
     pub fn pat_length(&self) -> usize
         ensures value { result ≡ spec.pat_length self.now }
-        ensures bound { result ≤ 80 }
+        ensures bound { result ≤ 272 }
     {
         let networks = if self.network().is_some() { 1 } else { 0 };
         12 + 4 * (networks + self.programs().len())
     }
 
-    fn pmt_length(&self, program: &ProgramDescription) -> usize
+    // A description that is not yet checked may have a PMT longer than any section.
+    pub(crate) fn pmt_length(&self, program: &ProgramDescription) -> usize
         ensures value { result ≡ spec.pmt_length self.now program.now }
-        ensures bound { result ≤ 57692 }
+        ensures bound { result ≤ 408548 }
     {
         16 + program.descriptors().as_bytes().len()
             + entries_length(program.number(), self.streams())
@@ -215,35 +251,66 @@ impl Contents {
             + tables_length(program.number(), self.private_tables())
     }
 
-    fn sdt_length(&self) -> usize
-        ensures value { result ≡ spec.sdt_length self.now }
-        ensures bound { result ≤ 3375 }
+    fn map_lengths(&self, place: usize) -> ArrayVec<u16, 128>
+        requires { IsInRange self.now }
+        ensures { result.items ≡ spec.kind_lengths self.now (TableKind.Pmt place) }
     {
-        15 + services_length(self.programs())
+        match self.programs().get(place) {
+            None => ArrayVec::new(),
+            Some(program) => one(self.pmt_length(program) as u16),
+        }
+    }
+
+    fn network_lengths(&self) -> ArrayVec<u16, 128>
+        ensures { result.items ≡ spec.kind_lengths self.now TableKind.Nit }
+    {
+        match self.network() {
+            None => ArrayVec::new(),
+            Some(network) => one(nit_length(network) as u16),
+        }
+    }
+
+    // Returns the lengths of the sections of the SDT.
+    pub(crate) fn sdt_lengths(&self) -> ArrayVec<u16, 128>
+        ensures { result.items ≡ spec.kind_lengths self.now TableKind.Sdt }
+    {
+        let mut lengths = ArrayVec::new();
+        for part in 0..self.programs().len() {
+            let Some(services) = self.sdt_part(part) else {
+                return lengths;
+            };
+            lengths.push(part_length(services));
+        }
+        lengths
+    }
+
+    fn event_lengths(&self) -> ArrayVec<u16, 128>
+        ensures { result.items ≡ spec.kind_lengths self.now TableKind.Eit }
+    {
+        if self.is_transponder() {
+            eit_lengths_in_turn(self.programs())
+        } else {
+            eit_lengths(self.programs())
+        }
     }
 
     /// Returns the greatest length of each section of a table.
-    pub fn kind_lengths(&self, kind: TableKind) -> ArrayVec<u16, 32>
+    pub fn kind_lengths(&self, kind: TableKind) -> ArrayVec<u16, 128>
+        requires { IsInRange self.now }
         ensures { result.items ≡ spec.kind_lengths self.now kind }
     {
         match kind {
             TableKind::Pat => one(self.pat_length() as u16),
-            TableKind::Pmt(place) => match self.programs().get(place) {
-                None => ArrayVec::new(),
-                Some(program) => one(self.pmt_length(program) as u16),
-            },
-            TableKind::Nit => match self.network() {
-                None => ArrayVec::new(),
-                Some(network) => one(nit_length(network) as u16),
-            },
-            TableKind::Sdt => one(self.sdt_length() as u16),
-            TableKind::Eit => eit_lengths(self.programs()),
+            TableKind::Pmt(place) => self.map_lengths(place),
+            TableKind::Nit => self.network_lengths(),
+            TableKind::Sdt => self.sdt_lengths(),
+            TableKind::Eit => self.event_lengths(),
             TableKind::Tdt => one(8),
             TableKind::Private(place) => self.private_lengths(place),
         }
     }
 
-    fn private_lengths(&self, place: usize) -> ArrayVec<u16, 32>
+    fn private_lengths(&self, place: usize) -> ArrayVec<u16, 128>
         ensures { result.items ≡ spec.kind_lengths self.now (TableKind.Private place) }
     {
         match self.private_tables().get(place) {
@@ -253,7 +320,8 @@ impl Contents {
     }
 
     /// Returns the greatest length of each section of the table of a number.
-    pub fn section_lengths(&self, table: usize) -> ArrayVec<u16, 32>
+    pub fn section_lengths(&self, table: usize) -> ArrayVec<u16, 128>
+        requires { IsInRange self.now }
         ensures { result.items ≡ spec.section_lengths self.now table }
     {
         match self.kind(table) {
