@@ -1,11 +1,10 @@
 -- The descriptors of channel numbers are bytes, at most 266.
-use Rattle.std.proofs.Common.{◌≡◌, ℕ, pos, ◌+◌, ◌*◌, ◌/◌, ◌%◌, ◌≤◌, ◌<◌, nat_le, Bool, true, false, List, [], ◌∷◌, ◌++◌, length, Option, None, Some, IfSome}
-use Rattle.std.proofs.Common.{unwrap_or, refl, arith, if◌then◌else◌, All, codes, length-append, take, drop}
+use Rattle.std.proofs.Common.{◌≡◌, ℕ, ◌+◌, ◌*◌, ◌≤◌, ◌<◌, nat_le, Bool, true, false, List, [], ◌∷◌, ◌++◌, length, Option, None, Some, IfSome}
+use Rattle.std.proofs.Common.{unwrap_or, refl, arith, if◌then◌else◌, codes, length-append, take, drop}
 use Rattle.std.proofs.Common.{min, ◌==◌, sym, ap, ◌∙◌, inl, inr}
 use Rattle.std.proofs.lemmas.List.{append_assoc, drop_all, length-drop, length-take, take_all}
 use Rattle.std.proofs.lemmas.Bool.{cases_lt, leb-true}
 use Rattle.std.proofs.lemmas.List.Elements.{All-append, All-drop, All-from_recursion, All-take}
-use Rattle.std.specs.List.{flat_map}
 use Rattle.toml.specs.Data.{Data}
 use Rattle.description_keys.specs.ProgramKeys.{channel_of, program_number}
 use Rattle.description_parts.specs.Channels.{channel_descriptor, channel_descriptors, channel_entries, channel_entry, described_channels, entry_of}

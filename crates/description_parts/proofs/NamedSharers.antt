@@ -1,6 +1,6 @@
 -- `shared_with` names declared programs, each once, and not the stream's own.
-use Rattle.std.proofs.Common.{◌≡◌, ℕ, ◌==◌, ◌&&◌, not, nat_eq, nat_le, Bool, true, false, List, [], ◌∷◌, length, map, Option, None, Some, unwrap_or, refl, sym}
-use Rattle.std.proofs.Common.{subst, ap, ◌≤◌, arith, All, Contains, codes, if◌then◌else◌}
+use Rattle.std.proofs.Common.{◌≡◌, ℕ, ◌==◌, ◌&&◌, not, nat_eq, nat_le, Bool, true, false, List, [], ◌∷◌, length, Option, None, Some, unwrap_or, refl, sym}
+use Rattle.std.proofs.Common.{subst, ◌≤◌, arith, All, Contains, codes, if◌then◌else◌}
 use Rattle.std.proofs.lemmas.Bool.{and_parts, eqb-false}
 use Rattle.std.proofs.lemmas.Bool.Decides.{nat_tests}
 use Rattle.std.proofs.lemmas.List.Elements.{All-nil, All-cons}

@@ -1,6 +1,6 @@
 -- Each part of a description is in its ranges.
 use Rattle.std.proofs.Common.{◌≡◌, ℕ, pos, suc, zero, ◌≤◌, ◌<◌, ◌-◌, ◌*◌, ◌/◌, max, ◌==◌, nat_le, Bool, true, false, List, [], ◌∷◌, length, filter, get_or}
-use Rattle.std.proofs.Common.{Option, None, Some, IfSome, unwrap_or, option_map, refl, arith, if◌then◌else◌, All, codes, inl, inr, is_none, replicate}
+use Rattle.std.proofs.Common.{Option, None, Some, IfSome, unwrap_or, refl, arith, if◌then◌else◌, All, codes, inl, inr, is_none, replicate}
 use Rattle.std.proofs.Math.Nat.{le_trans, div-le_self}
 use Rattle.std.proofs.lemmas.Bool.{leb-true, or_cases, eqb-true}
 use Rattle.std.proofs.lemmas.List.Elements.{All-nil, All-cons, All-map, All-weaker, All-append, All-replicate}
@@ -14,7 +14,7 @@ use Rattle.unit_timing.specs.declared.multiplexing_buffer.MultiplexingBuffer.{Mu
 use Rattle.description_parts.specs.Ranges.{IsPid, IsBytes, IsNetwork, IsEvent, IsProgram, IsStreamId, IsGroups, IsPace, IsAllowance, IsMultiplexingBuffer}
 use Rattle.description_parts.specs.Ranges.{AreLastBytes, IsFraming, IsStream, IsEntry, IsTable}
 use Rattle.description_values.specs.Values.{integer_in, integer_at, elements, is_one_section, section_in}
-use Rattle.description_keys.specs.StreamKeys.{is_owned_by, sharers_of, stream_sharers, number_in, is_stream_id, stream_id, is_video_id, id_or_private}
+use Rattle.description_keys.specs.StreamKeys.{is_owned_by, sharers_of, number_in, is_stream_id, stream_id, is_video_id, id_or_private}
 use Rattle.description_keys.specs.StreamKeys.{greatest_size, leaves_out_buffers, stream_rx, stream_main, stream_size, stream_tag, stream_group, unit_packets}
 use Rattle.description_keys.specs.StreamKeys.{greatest_group_packets, stream_group_packets, is_paced, stream_burst_packets, stream_pace, stream_allowance}
 use Rattle.description_keys.specs.StreamKeys.{has_multiplexing, greatest_rbx, multiplexing_of, has_framing, greatest_frame, stream_frame, stream_interval}

@@ -1,8 +1,8 @@
 -- If a document is not refused, every part of its description is in range.
-use Rattle.std.proofs.Common.{◌≡◌, ℕ, suc, zero, ◌+◌, ◌-◌, ◌≤◌, ◌==◌, ◌||◌, ◌&&◌, not, nat_lt, Bool, true, false, List, [], ◌∷◌, ◌++◌, map, get_or, slice_get}
-use Rattle.std.proofs.Common.{Option, None, Some, unwrap_or, option_map, refl, ap, sym, ◌∙◌, arith, if◌then◌else◌, All, Contains, codes, is_some, IsTrue, inl}
-use Rattle.std.proofs.Common.{inr, is_none, pos}
-use Rattle.std.proofs.lemmas.Bool.{or_parts, ltb-false, cases_Bool, eqb-true}
+use Rattle.std.proofs.Common.{◌≡◌, ℕ, suc, zero, ◌+◌, ◌-◌, ◌≤◌, ◌||◌, ◌&&◌, not, nat_lt, Bool, true, false, List, [], ◌∷◌, ◌++◌, map, get_or, slice_get}
+use Rattle.std.proofs.Common.{Option, None, Some, unwrap_or, option_map, refl, ap, sym, ◌∙◌, arith, if◌then◌else◌, All, Contains, codes, is_some, IsTrue}
+use Rattle.std.proofs.Common.{is_none, pos}
+use Rattle.std.proofs.lemmas.Bool.{or_parts, ltb-false}
 use Rattle.std.proofs.lemmas.List.Elements.{All-nil, All-cons, All-map}
 use Rattle.std.proofs.lemmas.List.Folds.{list_any-append}
 use Rattle.std.proofs.lemmas.Option.{slice_get-get_or}
@@ -14,8 +14,8 @@ use Rattle.description_parts.specs.Ranges.{IsInRange, IsNetwork, IsProgram, IsSt
 use Rattle.description_parts.specs.Ranges.{longest_section}
 use Rattle.description_parts.specs.Tables.{only_if, has_event, kind_lengths, service_tables, table_kinds, pmt_length, nit_length, numbers_from}
 use Rattle.description_values.specs.Values.{integer_in, is_distinct}
-use Rattle.description_keys.specs.ProgramKeys.{clock_pid_in, has_number, program_number, program_pcr_pid, refuses_pcr_pid}
-use Rattle.description_keys.specs.StreamKeys.{owner_number, declares, has_owner, has_sharers, stream_sharers}
+use Rattle.description_keys.specs.ProgramKeys.{clock_pid_in, program_pcr_pid, refuses_pcr_pid}
+use Rattle.description_keys.specs.StreamKeys.{owner_number, has_owner, has_sharers, stream_sharers}
 use Rattle.description_parts.specs.Contents.{described, described_network, described_program, described_stream, described_entry, described_table}
 use Rattle.description_keys.specs.TableKeys.{is_listed}
 use Rattle.description_keys.specs.TopKeys.{clock_pid_of, has_own_clock, limit_in}

@@ -1,6 +1,6 @@
 -- What a document describes: each key's value, with the least value of its range if the key is refused. (The
 -- document is refused then, and no description has that value.)
-use Rattle.std.specs.Prelude.{ℕ, Bool, false, List, [], ◌++◌, Option, None, Some, map, filter, unwrap_or, option_map, codes, if◌then◌else◌}
+use Rattle.std.specs.Prelude.{ℕ, false, List, [], ◌++◌, Option, None, Some, map, filter, unwrap_or, option_map, codes, if◌then◌else◌}
 use Rattle.std.specs.List.{filter_map}
 use Rattle.toml.specs.Data.{Data}
 use Rattle.description_parts.specs.Channels.{described_channels}

@@ -69,7 +69,7 @@ fn push_descriptor(out: &mut ArrayVec<u8, 966>, entries: &[u8])
     append(out, entries);
 }
 
-// Appends the specifier and the descriptors of entries, if there is an entry: two descriptors if one has no room for all.
+// Appends the specifier and the descriptors of entries, if there is an entry: a second descriptor if the first is full.
 fn push_descriptors(out: &mut ArrayVec<u8, 966>, entries: &[u8])
     requires few { length entries.now ≤ 256 }
     requires room { array_vec_len out.old ≤ 700 }

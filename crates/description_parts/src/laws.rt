@@ -2,8 +2,8 @@
 
 ghost use Rattle.description_parts.specs.SdtParts.{SdtPartsLaw};
 
-/// States that the sections of the SDT have all services in order, one section if all fit in it, and for a transponder as
-/// many as the services need.
+/// States that the sections of the SDT have all services, in order: one section if all fit in it, and for a transponder
+/// as many as the services need.
 pub fn sdt_parts()
     ensures { SdtPartsLaw }
 {}

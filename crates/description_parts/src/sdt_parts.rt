@@ -1,6 +1,7 @@
 //! The services in each section of the service description table (EN 300 468, 5.2.3).
 
-ghost use Rattle.std.specs.Prelude.{◌≡◌, ◌<◌, ◌≤◌, ◌+◌, ◌^◌, ◌==◌, ◌||◌, nat_le, [], length, option_map, slice_get, IfSome};
+ghost use Rattle.std.specs.Prelude.{◌≡◌, ◌<◌, ◌≤◌, ◌+◌, ◌^◌, ◌==◌, ◌||◌, nat_le, [], length, option_map, slice_get};
+ghost use Rattle.std.specs.Prelude.{IfSome};
 ghost use Rattle.description_parts.specs.SdtParts.{services_taken};
 ghost use Rattle.description_parts.specs.Tables.{most_services, sdt_parts, services_cut};
 
@@ -33,7 +34,7 @@ fn first_services(programs: &[ProgramDescription]) -> usize
     programs.len()
 }
 
-// Returns the services of a section of as many as they need.
+// Returns the services of a section, of as many sections as the services need.
 fn part_at(programs: &[ProgramDescription], part: usize) -> Option<&[ProgramDescription]>
     requires { length programs.now ≤ 64 }
     ensures value { option_map (λ s. s.now) result ≡ slice_get (services_cut [] programs.now) part }

@@ -1,4 +1,4 @@
-use Rattle.std.proofs.Common.{◌≡◌, ◌≤◌, ◌<◌, ◌+◌, ◌-◌, suc, [], ap, sym, ◌∙◌, arith, length, take, drop, slice_get}
+use Rattle.std.proofs.Common.{◌≡◌, ◌≤◌, ◌<◌, ◌+◌, ◌-◌, suc, [], ap, sym, ◌∙◌, arith, length, drop, slice_get}
 use Rattle.std.proofs.lemmas.List.{length-drop, length-take, take_all}
 use Rattle.description_parts.specs.Tables.{services_cut}
 use Rattle.description_parts.proofs.SdtParts.{part_here, part_later, part_none}

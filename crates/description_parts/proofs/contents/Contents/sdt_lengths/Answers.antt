@@ -1,4 +1,4 @@
-use Rattle.std.proofs.Common.{◌≡◌, ◌≤◌, ◌+◌, ap, sym, ◌∙◌, arith, length, option_map}
+use Rattle.std.proofs.Common.{◌≤◌, ap, sym, ◌∙◌, arith, length, option_map}
 use Rattle.description_parts.specs.Tables.{sdt_parts}
 use Rattle.description_parts.proofs.SdtParts.{lengths_all, lengths_pushed, most_parts}
 use Rattle.description_parts.proofs.contents.Contents.sdt_lengths.Goals as goal
