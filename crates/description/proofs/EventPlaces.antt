@@ -25,7 +25,7 @@ found p xs i h =
     let parts = cond_some (nat_lt (position_or_len p xs) (length xs)) (position_or_len p xs) i h in
     sym (find_at p xs ∙ ap (slice_get xs) parts.1)
 
-missed : {X : Type 0} (p : X → Bool) (xs : List X) → position p xs ≡ None → find p xs ≡ None
+pub missed : {X : Type 0} (p : X → Bool) (xs : List X) → position p xs ≡ None → find p xs ≡ None
 missed p xs h = elim (cases_lt (position_or_len p xs) (length xs)) [
   | inl within ↦ absurd (grind (arith, nat_tests, within, h))
   | inr past ↦ find_at p xs ∙ slice_get_past xs (position_or_len p xs) past

@@ -8,3 +8,4 @@ pub mod Pids
 pub mod Allowed
 pub mod SectionCounts
 pub mod Entries
+pub mod Services

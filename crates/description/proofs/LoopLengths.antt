@@ -96,7 +96,7 @@ pub no_service_bytes : length (services_bytes []) ≡ 0
 unfolding services_bytes
 no_service_bytes = refl
 
-pub one_transport_stream : (t : TransportStreamView) (held : List TransportStreamView) → held ≡ [] → length t.descriptors ≤ 772
+pub one_transport_stream : (t : TransportStreamView) (held : List TransportStreamView) → held ≡ [] → length t.descriptors ≤ 966
     → length (transport_streams_bytes (held ++ t ∷ [])) ≤ 1008
 one_transport_stream t held none few =
     let is : length (transport_streams_bytes (held ++ t ∷ [])) ≡ 6 + length t.descriptors = rw none (transport_streams_bytes-one t) in

@@ -1,6 +1,7 @@
 -- The number of times a number is in a list; no PID is twice among the PIDs of an output.
-use Rattle.std.proofs.Common.{◌≡◌, ◌⊎◌, ℕ, zero, suc, ◌+◌, ◌<◌, ◌≤◌, ◌==◌, nat_eq, nat_lt, Bool, true, false, cond, List, [], ◌∷◌, ◌++◌, map, slice_get, Some}
-use Rattle.std.proofs.Common.{refl, ap, sym, ◌∙◌, arith, sum_by, All, inl, inr, eq-eqb}
+use Rattle.std.proofs.Common.{◌≡◌, ◌⊎◌, ℕ, zero, suc, ◌+◌, ◌<◌, ◌≤◌, ◌==◌, nat_eq, nat_lt, Bool, true, false, cond, List, [], ◌∷◌, ◌++◌, map, slice_get}
+use Rattle.std.proofs.Common.{Option, None, Some, flat_map, refl, ap, ◌∙◌, arith, sum_by, All, inl, inr, eq-eqb}
+use Rattle.std.specs.Option.{option_to_list}
 use Rattle.std.proofs.lemmas.Bool.{and_parts, eqb-true, ltb-true, ne_eqb, cases_Bool}
 use Rattle.std.proofs.lemmas.List.Sums.{sum_by-cons, sum_by-append}
 use Rattle.std.proofs.lemmas.List.Elements.{All-head, All-tail}
@@ -27,21 +28,32 @@ not_here : (x y : ℕ) (ys : List ℕ) → (x == y) ≡ false → times x (y ∷
 not_here x y ys n = let z : cond {A = ℕ} false 1 0 + times x ys ≡ times x ys =
     omega arith in times-cons x y ys ∙ ap (λ (b : Bool). cond {A = ℕ} b 1 0 + times x ys) n ∙ z
 
+-- The PIDs of a list whose entries may have none
+abbrev pub present : List (Option ℕ) → List ℕ
+present os = flat_map option_to_list os
+
+pub present-map : {X : Type 0} (f : X → ℕ) (es : List X) → present (map (λ e. Some (f e)) es) ≡ map f es
+present-map f [] = refl
+present-map f (e ∷ es) = ap (λ (ys : List ℕ). f e ∷ ys) (present-map f es)
+
 -- If x is at some place of the list, it is there at least once.
-pub some_times : (x : ℕ) (ys : List ℕ) (i : ℕ) → slice_get ys i ≡ Some x → 0 < times x ys
+pub some_times : (x : ℕ) (os : List (Option ℕ)) (i : ℕ) → slice_get os i ≡ Some (Some x) → 0 < times x (present os)
 some_times x [] i e = absurd (cc)
-some_times x (y ∷ ys) zero e = omega (arith, here x y ys (sym (some_inj e)))
-  where
-    some_inj : {a b : ℕ} → Some a ≡ Some b → a ≡ b
-    some_inj e = cc
-some_times x (y ∷ ys) (suc i) e = omega (arith, times-cons x y ys, some_times x ys i e)
+some_times x (None ∷ os) zero e = absurd (cc)
+some_times x (None ∷ os) (suc i) e = some_times x os i e
+some_times x (Some y ∷ os) zero e = let same : x ≡ y = cc in omega (arith, here x y (present os) same)
+some_times x (Some y ∷ os) (suc i) e = omega (arith, times-cons x y (present os), some_times x os i e)
 
 -- If x is at two places of the list, it is there at least twice.
-pub two_times : (x : ℕ) (ys : List ℕ) (i j : ℕ) → i < j → slice_get ys i ≡ Some x → slice_get ys j ≡ Some x → 1 < times x ys
+pub two_times : (x : ℕ) (os : List (Option ℕ)) (i j : ℕ) → i < j → slice_get os i ≡ Some (Some x) → slice_get os j ≡ Some (Some x) →
+    1 < times x (present os)
 two_times x [] i j lt e f = absurd (cc)
-two_times x (y ∷ ys) i zero lt e f = absurd (omega (arith, lt))
-two_times x (y ∷ ys) zero (suc j) lt e f = let same : x ≡ y = cc in omega (arith, here x y ys same, some_times x ys j f)
-two_times x (y ∷ ys) (suc i) (suc j) lt e f = omega (arith, times-cons x y ys, two_times x ys i j (omega (arith, lt)) e f)
+two_times x (o ∷ os) i zero lt e f = absurd (omega (arith, lt))
+two_times x (None ∷ os) zero (suc j) lt e f = absurd (cc)
+two_times x (None ∷ os) (suc i) (suc j) lt e f = two_times x os i j (omega (arith, lt)) e f
+two_times x (Some y ∷ os) zero (suc j) lt e f = let same : x ≡ y = cc in omega (arith, here x y (present os) same, some_times x os j f)
+two_times x (Some y ∷ os) (suc i) (suc j) lt e f =
+    omega (arith, times-cons x y (present os), two_times x os i j (omega (arith, lt)) e f)
 
 -- In a list of distinct numbers each number occurs at most once.
 absent : (x y : ℕ) (ys : List ℕ) → x ≡ y → AllByRecursion (λ z. nat_eq y z ≡ false) ys → times x ys ≡ 0

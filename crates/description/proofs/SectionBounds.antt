@@ -1,10 +1,12 @@
 -- No section is longer than its greatest length.
-use Rattle.std.proofs.Common.{◌≡◌, ℕ, suc, zero, subst, ◌+◌, ◌/◌, ◌%◌, ◌<◌, ◌≤◌, ◌==◌, max, Bool, true, false, cond, List, [], ◌∷◌, ◌++◌, length, map, filter}
+use Rattle.std.proofs.Common.{◌≡◌, ℕ, suc, zero, ◌+◌, ◌-◌, ◌*◌, ◌/◌, ◌%◌, ◌<◌, ◌≤◌, ◌==◌, max, Bool, true, false, cond, List, [], ◌∷◌, ◌++◌, length, map, filter}
 use Rattle.std.proofs.Common.{find, flat_map, get_or, slice_get, sum_by, option_map, Option, None, Some, refl, ap, arith, length-append, All, if◌then◌else◌}
-use Rattle.std.proofs.lemmas.List.{length-map}
+use Rattle.std.proofs.Common.{◌∙◌, inl, inr, mod-eq_of_lt}
+use Rattle.std.proofs.Math.Nat.{mod-eq-sub-mod}
+use Rattle.std.proofs.lemmas.Bool.{cases_lt}
+use Rattle.std.proofs.lemmas.List.{length-map, get_or_append_left, get_or-append_right}
 use Rattle.std.proofs.lemmas.List.Elements.{All-head, All-tail, All-filter}
 use Rattle.std.proofs.lemmas.List.Sums.{sum_by-cons}
-use Rattle.std.proofs.lemmas.Option.{slice_get_within, get_or_from_slice_get}
 use Rattle.std.specs.Option.{option_to_list}
 use Rattle.std.specs.List.{filter_map, cons_option}
 use Rattle.psi_tables.specs.CheckWord.{check_word}
@@ -26,16 +28,18 @@ use Rattle.dvb_tables.specs.declared.running_status.RunningStatus.TheVariants.{R
 use Rattle.dvb_tables.proofs.BodyLengths.{nit_body_length, sdt_body_length, eit_body_length}
 use Rattle.description_parts.specs.Described.{Described, DescribedNetwork, DescribedProgram, DescribedStream, DescribedEvent, DescribedEntry, DescribedTable}
 use Rattle.description_parts.specs.Ranges.{IsInRange, IsProgram, IsStream, IsEvent}
-use Rattle.description_parts.specs.Tables.{has_event, pat_length, pmt_length, nit_length, sdt_length, eit_length, eit_lengths, es_info_length, entry_length}
+use Rattle.description_parts.specs.Tables.{has_event, pat_length, pmt_length, nit_length, sdt_parts, sdt_length, eit_place, eit_length, eit_lengths, es_info_length, entry_length}
 use Rattle.description_parts.specs.Tables.{is_shared_with, shared_length, entry_in, listed_length, service_length, event_length, longest_event, kind_lengths}
 use Rattle.description_parts.specs.Tables.{section_lengths, scheduled_programs, table_kind, greatest_length}
 use Rattle.description.specs.SectionBytes.{network_entries, pat_entry, pat_says, pmt_stream, is_of_program, pmt_streams, pmt_shared, table_stream, pmt_table}
-use Rattle.description.specs.SectionBytes.{pmt_tables, pmt_says, network_stream, nit_says, service_says, sdt_says, event_says, is_present_event}
+use Rattle.description.specs.SectionBytes.{pmt_tables, pmt_says, network_stream, nit_says, service_says, sdt_says, sdt_bytes, event_says, is_present_event}
 use Rattle.description.specs.SectionBytes.{is_following_event, eit_says, eit_bytes, tdt_bytes, kind_bytes, table_bytes}
 use Rattle.description_parts.specs.declared.table_kind.TableKind.{TableKind}
 use Rattle.description_parts.specs.declared.table_kind.TableKind.TheVariants as kind
 use Rattle.description.proofs.LoopLengths.{stream_descriptors-length, transport_streams_bytes-one, network_name_descriptor-length, service_descriptor-length}
 use Rattle.description.proofs.LoopLengths.{length_service_bytes, length_event_bytes}
+use Rattle.description.proofs.Pids.{at_place}
+use Rattle.description.proofs.SectionCounts.{eit_count}
 
 -- The length of a section of the long form
 long_section_length : (table_id : ℕ) (private : Bool) (h : LongHeader) (body : List ℕ)
@@ -135,7 +139,7 @@ nit_fits d n =
       network_name_descriptor-length n.name,
     )
 
-services_length : (ps : List DescribedProgram) → length (services_bytes (map service_says ps)) ≡ sum_by service_length ps
+pub services_length : (ps : List DescribedProgram) → length (services_bytes (map service_says ps)) ≡ sum_by service_length ps
 unfolding services_bytes
 services_length [] = refl
 services_length (p ∷ ps) =
@@ -148,9 +152,16 @@ services_length (p ∷ ps) =
       sum_by-cons service_length p ps,
     )
 
-sdt_fits : (d : Described) → length (section_bytes (sdt_section (sdt_says d))) ≡ sdt_length d
+sdt_fits : (d : Described) (part : List DescribedProgram) (number last : ℕ)
+    → length (section_bytes (sdt_section (sdt_says d part number last))) ≡ sdt_length part
 unfolding sdt_section
-sdt_fits d = omega (arith, long_section_length 0x42 true (sdt_says d).header (sdt_body (sdt_says d)), sdt_body_length (sdt_says d), services_length d.programs)
+sdt_fits d part number last =
+    omega (
+      arith,
+      long_section_length 0x42 true (sdt_says d part number last).header (sdt_body (sdt_says d part number last)),
+      sdt_body_length (sdt_says d part number last),
+      services_length part,
+    )
 
 -- The length of an event's entry
 entry_length_is : (status : RunningStatus) (e : DescribedEvent) → IsEvent e → length (event_bytes (event_says status e)) ≡ event_length e
@@ -195,25 +206,49 @@ eit_fits d moment p number h =
       either_fits moment p (number == 0) h,
     )
 
-eit_at : (ps : List DescribedProgram) (j : ℕ) (p : DescribedProgram) → slice_get ps (j / 2) ≡ Some p → get_or (eit_lengths ps) j 0 ≡ eit_length p
-eit_at [] j p h = absurd (cc)
-eit_at (q ∷ qs) zero p h = let same : q ≡ p = cc in ap eit_length same
-eit_at (q ∷ qs) (suc zero) p h = let same : q ≡ p = cc in ap eit_length same
-eit_at (q ∷ qs) (suc (suc k)) p h =
+-- The section at a place of the EIT is of the program at its place, in either order.
+in_pairs : (ps : List DescribedProgram) (j : ℕ) (p : DescribedProgram) → slice_get ps (j / 2) ≡ Some p → get_or (eit_lengths ps) j 0 ≡ eit_length p
+in_pairs [] j p h = absurd (cc)
+in_pairs (q ∷ qs) zero p h = let same : q ≡ p = cc in ap eit_length same
+in_pairs (q ∷ qs) (suc zero) p h = let same : q ≡ p = cc in ap eit_length same
+in_pairs (q ∷ qs) (suc (suc k)) p h =
     let is : suc (suc k) / 2 ≡ suc (k / 2) = omega arith in
-    eit_at qs k p (rw is at h)
+    in_pairs qs k p (rw is at h)
 
-event_section_fits : (d : Described) (section moment : ℕ) (o : Option DescribedProgram) → slice_get (scheduled_programs d) (section / 2) ≡ o →
-    All IsProgram d.programs
-    → length (elim o as (λ _. List ℕ) [ None ↦ [] | Some program ↦ eit_bytes d moment program (section % 2) ]) ≤ get_or (eit_lengths (scheduled_programs d))
-    section 0
-event_section_fits d section moment None is h = omega arith
-event_section_fits d section moment (Some p) is h =
-    let at = eit_at (scheduled_programs d) section p is in
+one_each : (ps : List DescribedProgram) (j : ℕ) (p : DescribedProgram) → slice_get ps j ≡ Some p → get_or (map eit_length ps) j 0 ≡ eit_length p
+one_each [] j p h = absurd (cc)
+one_each (q ∷ qs) zero p h = let same : q ≡ p = cc in ap eit_length same
+one_each (q ∷ qs) (suc j) p h = one_each qs j p h
+
+in_turn : (ps : List DescribedProgram) (j : ℕ) (p : DescribedProgram) → slice_get ps (j % length ps) ≡ Some p → j < 2 * length ps →
+    get_or (map eit_length ps ++ map eit_length ps) j 0 ≡ eit_length p
+in_turn ps j p h within = elim (cases_lt j (length ps)) [
+  | inl first ↦
+      let at : j % length ps ≡ j = mod-eq_of_lt first in
+      get_or_append_left (map eit_length ps) (map eit_length ps) 0 j (omega (arith, first, length-map ps eit_length)) ∙ one_each ps j p (rw at at h)
+  | inr past ↦
+      let at : j % length ps ≡ j - length ps = mod-eq-sub-mod past ∙ mod-eq_of_lt (omega (arith, past, within)) in
+      get_or-append_right (map eit_length ps) (map eit_length ps) (length ps) j 0 (length-map ps eit_length) past ∙ one_each ps (j - length ps) p (rw at at h)
+]
+
+abbrev place_in : Bool → ℕ → ℕ → ℕ × ℕ
+place_in b n j = if b then (j % n, j / n) else (j / 2, j % 2)
+
+eit_at : (b : Bool) (ps : List DescribedProgram) (j : ℕ) (p : DescribedProgram) → slice_get ps (place_in b (length ps) j).0 ≡ Some p → j < 2 * length ps →
+    get_or (if b then map eit_length ps ++ map eit_length ps else eit_lengths ps) j 0 ≡ eit_length p
+eit_at true ps j p h within = in_turn ps j p h within
+eit_at false ps j p h within = in_pairs ps j p h
+
+event_section_fits : (d : Described) (section moment number place : ℕ) (o : Option DescribedProgram) → (eit_place d section).0 ≡ place →
+    slice_get (scheduled_programs d) place ≡ o → All IsProgram d.programs → section < length (kind_lengths d kind.Eit)
+    → length (elim o as (λ _. List ℕ) [ None ↦ [] | Some program ↦ eit_bytes d moment program number ]) ≤ get_or (kind_lengths d kind.Eit) section 0
+event_section_fits d section moment number place None at is h within = omega arith
+event_section_fits d section moment number place (Some p) at is h within =
+    let found : slice_get (scheduled_programs d) (eit_place d section).0 ≡ Some p = ap (slice_get (scheduled_programs d)) at ∙ is in
+    let long = eit_at d.is_transponder (scheduled_programs d) section p found (omega (arith, within, eit_count d)) in
     let scheduled = All-filter has_event IsProgram d.programs h in
-    let within = slice_get_within (scheduled_programs d) (section / 2) p is in
-    let one : IsProgram p = subst IsProgram (get_or_from_slice_get (scheduled_programs d) (section / 2) p p is) (scheduled (section / 2) p within) in
-    omega (arith, at, eit_fits d moment p (section % 2) one.events)
+    let one : IsProgram p = at_place IsProgram (scheduled_programs d) place p scheduled is in
+    omega (arith, long, eit_fits d moment p number one.events)
 
 tdt_fits : (moment : ℕ) → length (tdt_bytes moment) ≡ 8
 unfolding tdt_section section_bytes with_crc header_bytes front_bytes start_bytes
@@ -242,10 +277,17 @@ network_section_fits : (d : Described) (o : Option DescribedNetwork) (section : 
 network_section_fits d None section within = omega arith
 network_section_fits d (Some n) section within = omega (arith, nit_fits d n, first_of (nit_length n) section within)
 
-services_section_fits : (d : Described) (b : Bool) (section : ℕ) → section < 1
-    → length (if b then section_bytes (sdt_section (sdt_says d)) else []) ≤ get_or (sdt_length d ∷ []) section 0
-services_section_fits d true section within = omega (arith, sdt_fits d, first_of (sdt_length d) section within)
-services_section_fits d false section within = omega arith
+part_fits : (d : Described) (parts : List (List DescribedProgram)) (number last section : ℕ)
+    → length
+    (elim (slice_get parts section) as (λ _. List ℕ) [ None ↦ [] | Some part ↦ section_bytes (sdt_section (sdt_says d part number last)) ])
+    ≤ get_or (map sdt_length parts) section 0
+part_fits d [] number last section = omega arith
+part_fits d (part ∷ parts) number last zero = omega (arith, sdt_fits d part number last)
+part_fits d (part ∷ parts) number last (suc section) = part_fits d parts number last section
+
+services_section_fits : (d : Described) (b : Bool) (section : ℕ) → length (if b then sdt_bytes d section else []) ≤ get_or (kind_lengths d kind.Sdt) section 0
+services_section_fits d true section = part_fits d (sdt_parts d) section (length (sdt_parts d) - 1) section
+services_section_fits d false section = omega arith
 
 private_section_fits : (o : Option DescribedTable) (section : ℕ)
     → length (elim o as (λ _. List ℕ) [ None ↦ [] | Some private ↦ get_or private.sections section [] ])
@@ -258,8 +300,10 @@ kind_fits : (d : Described) (k : TableKind) (section moment : ℕ) → IsInRange
 kind_fits d kind.Pat section moment h within = omega (arith, pat_fits d, first_of (pat_length d) section within)
 kind_fits d (kind.Pmt p) section moment h within = map_section_fits d (slice_get d.programs p) section h.streams within
 kind_fits d kind.Nit section moment h within = network_section_fits d d.network section within
-kind_fits d kind.Sdt section moment h within = services_section_fits d d.has_sdt section within
-kind_fits d kind.Eit section moment h within = event_section_fits d section moment (slice_get (scheduled_programs d) (section / 2)) refl h.programs
+kind_fits d kind.Sdt section moment h within = services_section_fits d d.has_sdt section
+kind_fits d kind.Eit section moment h within =
+    event_section_fits d section moment (eit_place d section).1 (eit_place d section).0 (slice_get (scheduled_programs d) (eit_place d section).0) refl refl
+    h.programs within
 kind_fits d kind.Tdt section moment h within = omega (arith, tdt_fits moment, first_of 8 section within)
 kind_fits d (kind.Private i) section moment h within = private_section_fits (slice_get d.tables i) section
 

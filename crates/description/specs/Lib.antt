@@ -2,3 +2,4 @@ pub mod Reading
 pub mod SectionBytes
 pub mod Pids
 pub mod Entries
+pub mod Services

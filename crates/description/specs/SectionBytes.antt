@@ -1,7 +1,7 @@
--- What each section of each table says at a moment, and its bytes (ISO/IEC 13818-1, 2.4.4; EN 300 468, 5.2). Version 0
--- and section 0 of 0, except in the EIT.
-use Rattle.std.specs.Prelude.{ℕ, ◌+◌, ◌/◌, ◌%◌, ◌==◌, ◌&&◌, nat_le, nat_lt, Bool, true, false, List, [], ◌∷◌, ◌++◌, map, filter, find, Option, None, Some}
-use Rattle.std.specs.Prelude.{option_map, slice_get, slice_index_or, if◌then◌else◌}
+-- What each section of each table says at a moment, and its bytes (ISO/IEC 13818-1, 2.4.4; EN 300 468, 5.2). Version 0,
+-- except in the EIT; section 0 of 0, except in the SDT and the EIT.
+use Rattle.std.specs.Prelude.{ℕ, ◌+◌, ◌-◌, ◌%◌, ◌==◌, ◌&&◌, nat_le, nat_lt, Bool, true, false, List, [], ◌∷◌, ◌++◌, map, filter, find, Option, None, Some}
+use Rattle.std.specs.Prelude.{length, option_map, slice_get, slice_index_or, if◌then◌else◌}
 use Rattle.std.specs.List.{count_by, filter_map}
 use Rattle.std.specs.Option.{option_to_list}
 use Rattle.psi_tables.specs.Encoding.{section_bytes}
@@ -22,13 +22,18 @@ use Rattle.dvb_tables.specs.TimeAndDate.{tdt_section}
 use Rattle.dvb_tables.specs.declared.running_status.RunningStatus.{RunningStatus}
 use Rattle.dvb_tables.specs.declared.running_status.RunningStatus.TheVariants.{Running, NotRunning}
 use Rattle.description_parts.specs.Described.{Described, DescribedNetwork, DescribedProgram, DescribedStream, DescribedEvent, DescribedEntry, DescribedTable}
-use Rattle.description_parts.specs.Tables.{has_event, scheduled_programs, table_kind, is_shared_with, entry_in}
+use Rattle.description_parts.specs.Tables.{has_event, scheduled_programs, sdt_parts, eit_place, table_kind, is_shared_with, entry_in}
 use Rattle.description_parts.specs.declared.table_kind.TableKind.{TableKind}
 use Rattle.description_parts.specs.declared.table_kind.TableKind.TheVariants as kind
 
--- the header of a table that is one section, version 0
+-- the header of a section of a table, by its number and the number of the table's last section, version 0
+abbrev pub part_header : ℕ → ℕ → ℕ → LongHeader
+part_header extension number last =
+    record { table_id_extension = extension; version_number = 0; current_next = true; section_number = number; last_section_number = last }
+
+-- the header of a table that is one section
 abbrev pub single_header : ℕ → LongHeader
-single_header extension = record { table_id_extension = extension; version_number = 0; current_next = true; section_number = 0; last_section_number = 0 }
+single_header extension = part_header extension 0 0
 
 -- PAT: program 0 names the NIT's PID if there is a network, then the programs
 abbrev pub network_entries : Described → List PatEntry
@@ -94,7 +99,8 @@ nit_says d n = record {
   transport_streams = network_stream d n ∷ [];
 }
 
--- SDT: each program's service, running; present and following events are carried if there are events
+-- SDT: each program's service, running; present and following events are carried if there are events. The programs of a
+-- part are the services of one section
 abbrev pub service_says : DescribedProgram → ServiceView
 service_says p = record {
   service_id = p.number;
@@ -105,12 +111,17 @@ service_says p = record {
   descriptors = service_descriptor p.service_type p.provider p.name;
 }
 
-abbrev pub sdt_says : Described → SdtView
-sdt_says d = record {
-  header = single_header d.transport_stream_id;
+abbrev pub sdt_says : Described → List DescribedProgram → ℕ → ℕ → SdtView
+sdt_says d part number last = record {
+  header = part_header d.transport_stream_id number last;
   original_network_id = d.original_network_id;
-  services = map service_says d.programs;
+  services = map service_says part;
 }
+
+-- the bytes of the section of a number
+abbrev pub sdt_bytes : Described → ℕ → List ℕ
+sdt_bytes d section =
+    elim (slice_get (sdt_parts d) section) [ None ↦ [] | Some part ↦ section_bytes (sdt_section (sdt_says d part section (length (sdt_parts d) - 1))) ]
 
 -- EIT: the event that is on at a moment, and the first that begins later
 abbrev pub is_present_event : ℕ → DescribedEvent → Bool
@@ -175,9 +186,9 @@ abbrev pub kind_bytes : Described → TableKind → ℕ → ℕ → List ℕ
 kind_bytes d kind.Pat section moment = section_bytes (pat_section (pat_says d))
 kind_bytes d (kind.Pmt p) section moment = elim (slice_get d.programs p) [ None ↦ [] | Some program ↦ section_bytes (pmt_section (pmt_says d program)) ]
 kind_bytes d kind.Nit section moment = elim d.network [ None ↦ [] | Some network ↦ section_bytes (nit_section (nit_says d network)) ]
-kind_bytes d kind.Sdt section moment = if d.has_sdt then section_bytes (sdt_section (sdt_says d)) else []
+kind_bytes d kind.Sdt section moment = if d.has_sdt then sdt_bytes d section else []
 kind_bytes d kind.Eit section moment =
-    elim (slice_get (scheduled_programs d) (section / 2)) [ None ↦ [] | Some program ↦ eit_bytes d moment program (section % 2) ]
+    elim (slice_get (scheduled_programs d) (eit_place d section).0) [ None ↦ [] | Some program ↦ eit_bytes d moment program (eit_place d section).1 ]
 kind_bytes d kind.Tdt section moment = tdt_bytes moment
 kind_bytes d (kind.Private i) section moment = elim (slice_get d.tables i) [ None ↦ [] | Some private ↦ slice_index_or private.sections section [] ]
 

@@ -3,7 +3,6 @@
 ghost use Rattle.std.specs.Prelude.{◌≡◌, ◌^◌, ◌<◌, option_map};
 
 use clock27::Rate;
-use description_parts::section_lengths::packets_of_sections;
 use description_parts::{
     Contents, Network, PrivateTable, ProgramDescription, StreamDescription, TableKind,
 };
@@ -30,8 +29,8 @@ impl Model for Description {
 
 impl Description {
     ghost use Rattle.description_parts.specs.Ranges.{IsInRange};
-    ghost use Rattle.description_parts.specs.Tables.{table_count, table_kind, table_pid, table_limit, section_count};
-    ghost use Rattle.description_parts.specs.Tables.{greatest_length, round_packets};
+    ghost use Rattle.description_parts.specs.Tables.{table_count, table_kind, table_pid, table_limit};
+    ghost use Rattle.description_parts.specs.Tables.{clock_of, has_references};
 
     /// States that the numbers of every description are in range, and its PIDs distinct.
     pub fn keeps_ranges(&self)
@@ -74,6 +73,35 @@ impl Description {
         ensures { result ≡ self.now.original_network_id }
     {
         self.contents.original_network_id
+    }
+
+    /// Returns whether it has the limits of a whole transponder.
+    pub fn is_transponder(&self) -> bool
+        ensures { result ≡ self.now.is_transponder }
+    {
+        self.contents.is_transponder()
+    }
+
+    /// Returns the PID of the clock references that programs share, if they share some.
+    pub fn clock_pid(&self) -> Option<u16>
+        ensures { result ≡ self.now.clock_pid }
+    {
+        self.contents.clock_pid()
+    }
+
+    /// Returns the number of the program whose slots carry the clock references of a program: its own, or, if programs
+    /// share a clock, the first of these.
+    pub fn clock_of(&self, program: usize) -> usize
+        ensures { result ≡ clock_of self.now program }
+    {
+        self.contents.clock_of(program)
+    }
+
+    /// Returns whether the slots of a program carry clock references.
+    pub fn has_references(&self, program: usize) -> bool
+        ensures { result ≡ has_references self.now program }
+    {
+        self.contents.has_references(program)
     }
 
     /// Returns whether there is a service description table.
@@ -150,30 +178,5 @@ impl Description {
         ensures { result ≡ table_limit self.now table }
     {
         self.contents.table_limit(table)
-    }
-
-    /// Returns the number of sections of a table.
-    pub fn sections(&self, table: usize) -> usize
-        requires { table < table_count self.now }
-        ensures { result ≡ section_count self.now table }
-    {
-        self.contents.section_lengths(table).len()
-    }
-
-    /// Returns the greatest length of a section of a table over all moments, in bytes.
-    pub fn greatest(&self, table: usize, section: usize) -> usize
-        requires table { table < table_count self.now }
-        requires section { section < section_count self.now table }
-        ensures { result ≡ greatest_length self.now table section }
-    {
-        self.contents.section_lengths(table)[section] as usize
-    }
-
-    /// Returns the packets of a round of all sections of a table.
-    pub fn round_packets(&self, table: usize) -> usize
-        requires { table < table_count self.now }
-        ensures { result ≡ round_packets self.now table }
-    {
-        packets_of_sections(self.contents.section_lengths(table).as_slice())
     }
 }

@@ -30,7 +30,7 @@ fn name_descriptor(network: &Network) -> ArrayVec<u8, 202>
 // Returns a loop of one transport stream.
 #[tactic(auto, using(crate::proofs::LoopLengths::one_transport_stream))]
 fn one_stream(entry: &TransportStream<'_>) -> TransportStreamLoop
-    requires { length entry.now.descriptors.now ≤ 772 }
+    requires { length entry.now.descriptors.now ≤ 966 }
     ensures { transport_stream_loop_of result ≡ transport_stream_view entry.now ∷ [] }
 {
     let mut entries = TransportStreamLoop::new();

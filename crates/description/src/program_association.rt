@@ -58,7 +58,7 @@ impl Description {
 
     fn association_entries(&self) -> ProgramLoop
         ensures value { program_loop_of result ≡ spec.network_entries self.now ++ map spec.pat_entry self.now.programs }
-        ensures bound { length (program_loop_of result) ≤ 17 }
+        ensures bound { length (program_loop_of result) ≤ 65 }
     {
         let mut entries = self.network_entries();
         push_programs(&mut entries, self.programs());

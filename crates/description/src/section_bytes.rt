@@ -1,11 +1,13 @@
 //! The bytes of each section of each table at a moment.
 
-ghost use Rattle.std.specs.Prelude.{◌≡◌, ◌<◌, ◌≤◌, filter, option_map, slice_get};
+ghost use Rattle.std.specs.Prelude.{◌≡◌, ◌<◌, ◌≤◌, filter, length, option_map, slice_get};
 ghost use Rattle.arrayvec.specs.ArrayVec.{array_vec_len};
 ghost use Rattle.description_parts.specs.Tables.{has_event, table_count, section_count, greatest_length};
+ghost use Rattle.description_parts.specs.Tables.{eit_place, kind_lengths};
 ghost use Rattle.description.specs.SectionBytes as spec;
 
 use crate::description::Description;
+use crate::table_lengths::scheduled_count;
 use arrayvec::ArrayVec;
 use bit_fields::append;
 use description_parts::table_kind::has_event;
@@ -62,23 +64,38 @@ impl Description {
         }
     }
 
-    fn write_sdt_if_any(&self, out: &mut ArrayVec<u8, 4096>)
-        ensures { out.new.items ≡ spec.kind_bytes self.now TableKind.Sdt 0 0 }
+    fn write_sdt_if_any(&self, section: usize, out: &mut ArrayVec<u8, 4096>)
+        ensures { out.new.items ≡ spec.kind_bytes self.now TableKind.Sdt section 0 }
     {
-        self.keeps_ranges();
         if self.has_sdt() {
-            self.write_sdt(out);
+            self.write_sdt_at(section, out);
         } else {
             out.clear();
         }
     }
 
+    // Returns the place of the program of a section of the EIT, and the number of the section.
+    fn eit_place(&self, section: usize) -> (usize, usize)
+        requires { section < length (kind_lengths self.now TableKind.Eit) }
+        ensures value { result ≡ eit_place self.now section }
+        ensures bound { result.1 < 2 }
+    {
+        if self.is_transponder() {
+            let count = scheduled_count(self.programs());
+            (section % count, section / count)
+        } else {
+            (section / 2, section % 2)
+        }
+    }
+
     fn write_eit_at(&self, section: usize, moment: u64, out: &mut ArrayVec<u8, 4096>)
+        requires { section < length (kind_lengths self.now TableKind.Eit) }
         ensures { out.new.items ≡ spec.kind_bytes self.now TableKind.Eit section moment }
     {
-        match scheduled_program(self.programs(), section / 2) {
+        let (place, number) = self.eit_place(section);
+        match scheduled_program(self.programs(), place) {
             None => out.clear(),
-            Some(program) => self.write_eit(program, section % 2, moment, out),
+            Some(program) => self.write_eit(program, number, moment, out),
         }
     }
 
@@ -95,13 +112,14 @@ impl Description {
     }
 
     fn write_kind(&self, kind: TableKind, section: usize, moment: u64, out: &mut ArrayVec<u8, 4096>)
+        requires { section < length (kind_lengths self.now kind) }
         ensures { out.new.items ≡ spec.kind_bytes self.now kind section moment }
     {
         match kind {
             TableKind::Pat => self.write_pat(out),
             TableKind::Pmt(place) => self.write_pmt_at(place, out),
             TableKind::Nit => self.write_nit_if_any(out),
-            TableKind::Sdt => self.write_sdt_if_any(out),
+            TableKind::Sdt => self.write_sdt_if_any(section, out),
             TableKind::Eit => self.write_eit_at(section, moment, out),
             TableKind::Tdt => write_tdt(moment, out),
             TableKind::Private(place) => self.write_private(place, section, out),

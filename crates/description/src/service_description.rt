@@ -1,20 +1,20 @@
-//! The service description section of a description (EN 300 468, 5.2.3).
+//! The service description sections of a description (EN 300 468, 5.2.3).
 
-ghost use Rattle.std.specs.Prelude.{◌≡◌, ◌≤◌, ◌+◌, ◌++◌, [], ◌∷◌, All, length, map, sum_by};
+ghost use Rattle.std.specs.Prelude.{◌≡◌, ◌<◌, ◌≤◌, ◌+◌, ◌++◌, [], ◌∷◌, All, IsTrue, length, map, option_map, slice_get, sum_by};
 ghost use Rattle.psi_tables.specs.Encoding.{section_bytes};
 ghost use Rattle.psi_tables.specs.declared.writing.TheConstants.{GREATEST_TABLE_LENGTH};
 ghost use Rattle.dvb_tables.specs.declared.service_loop.TheConstants.{GREATEST_SERVICE_LOOP};
 ghost use Rattle.dvb_tables.specs.Descriptors.{service_descriptor};
 ghost use Rattle.dvb_tables.specs.ServiceDescription.{sdt_section};
 ghost use Rattle.dvb_tables.specs.Services.{service_loop_of, services_of, services_bytes};
-ghost use Rattle.description_parts.specs.Ranges.{IsProgram, longest_section};
-ghost use Rattle.description_parts.specs.Tables.{service_length, sdt_length};
+ghost use Rattle.description_parts.specs.Ranges.{IsProgram};
+ghost use Rattle.description_parts.specs.Tables.{service_length, sdt_parts};
 ghost use Rattle.description.specs.SectionBytes as spec;
 
 use crate::description::Description;
 use arrayvec::ArrayVec;
-use description_parts::ProgramDescription;
 use description_parts::table_kind::has_event;
+use description_parts::{ProgramDescription, laws};
 use dvb_tables::{RunningStatus, Sdt, Service, ServiceLoop, Services, push_service};
 use psi_tables::LongHeader;
 
@@ -71,37 +71,68 @@ fn program_services(programs: &[ProgramDescription]) -> ServiceLoop
 }
 
 impl Description {
-    /// Writes the service description section.
-    pub(crate) fn write_sdt(&self, out: &mut ArrayVec<u8, 4096>)
-        requires { sdt_length self.now ≤ longest_section }
-        ensures { out.new.items ≡ section_bytes (sdt_section (spec.sdt_says self.now)) }
+    // Writes a section of the service description table, of these programs' services.
+    fn write_sdt(
+        &self,
+        part: &[ProgramDescription],
+        number: u8,
+        last: u8,
+        out: &mut ArrayVec<u8, 4096>,
+    )
+        requires ranges { All IsProgram part.now }
+        requires room { sum_by service_length part.now ≤ GREATEST_SERVICE_LOOP }
+        ensures { out.new.items ≡ section_bytes (sdt_section (spec.sdt_says self.now part.now number last)) }
     {
-        let entries = program_services(self.programs());
-        write_section(
-            self.transport_stream_id(),
-            self.original_network_id(),
-            entries.services(),
-            out,
-        );
+        let entries = program_services(part);
+        let header = LongHeader {
+            table_id_extension: self.transport_stream_id(),
+            version_number: 0,
+            current_next: true,
+            section_number: number,
+            last_section_number: last,
+        };
+        write_section(header, self.original_network_id(), entries.services(), out);
+    }
+
+    // Returns the programs whose services a section of the table has.
+    fn sdt_part(&self, section: usize) -> Option<&[ProgramDescription]>
+        ensures { option_map (λ s. s.now) result ≡ slice_get (sdt_parts self.now) section }
+    {
+        self.contents.sdt_part(section)
+    }
+
+    /// Writes the section of a number of the service description table; nothing if there is no such section.
+    pub(crate) fn write_sdt_at(&self, section: usize, out: &mut ArrayVec<u8, 4096>)
+        requires { IsTrue self.now.has_sdt }
+        ensures { out.new.items ≡ spec.sdt_bytes self.now section }
+    {
+        self.keeps_ranges();
+        laws::sdt_parts();
+        let last = self.service_sections() - 1;
+        match self.sdt_part(section) {
+            None => out.clear(),
+            Some(part) => self.write_sdt(part, section as u8, last as u8, out),
+        }
     }
 }
 
 #[tactic(auto, using(dvb_tables::proofs::BodyLengths::sdt_body_length))]
 fn write_section(
-    transport_stream_id: u16,
+    header: LongHeader,
     original_network_id: u16,
     services: Services<'_>,
     out: &mut ArrayVec<u8, 4096>,
 )
-    requires { 12 + length (services_bytes (services_of services)) ≤ GREATEST_TABLE_LENGTH }
+    requires version { header.version_number < 32 }
+    requires room { 12 + length (services_bytes (services_of services)) ≤ GREATEST_TABLE_LENGTH }
     ensures { out.new.items ≡ section_bytes (sdt_section (record {
-      header = spec.single_header transport_stream_id;
+      header = header;
       original_network_id = original_network_id;
       services = services_of services.entry;
     })) }
 {
     let section = Sdt {
-        header: LongHeader::single(transport_stream_id, 0),
+        header,
         original_network_id,
         services,
     };

@@ -1,7 +1,14 @@
-use Rattle.std.proofs.Common.{◌≡◌, rules}
+use Rattle.std.proofs.Common.{◌≡◌, ◌∙◌, Some, length, sym, refl, rules, arith}
+use Rattle.description_parts.specs.Tables.{kind_lengths, section_count, table_kind}
 use Rattle.description.specs.SectionBytes.{table_bytes}
 use Rattle.description.proofs.SectionBounds.{table_bytes_fit}
 use Rattle.description.proofs.description.Description.text.Goals as goal
+
+pub write_kind-requires : goal.write_kind-requires
+write_kind-requires c =
+    let is : table_kind c.args.self.now c.args.table ≡ Some c.in-Some.kind = sym c.kind.ensures ∙ c.in-Some.is in
+    let all : section_count c.args.self.now c.args.table ≡ length (kind_lengths c.args.self.now c.in-Some.kind) = rw is refl in
+    omega (arith, all, c.requires.section)
 
 pub returns-in-Some-clause-fits : goal.returns-in-Some-clause-fits
 returns-in-Some-clause-fits c =

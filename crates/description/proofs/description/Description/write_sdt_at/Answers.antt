@@ -1,0 +1,18 @@
+use Rattle.std.proofs.Common.{◌≡◌, ◌≤◌, ◌∙◌, Some, All, map, slice_get, option_map, sym, ap, arith}
+use Rattle.description_parts.specs.Ranges.{IsProgram, longest_section}
+use Rattle.description_parts.specs.Tables.{sdt_length, sdt_parts}
+use Rattle.description.proofs.Pids.{at_place, get_map}
+use Rattle.description.proofs.description.Description.write_sdt_at.Goals as goal
+
+pub write_sdt-requires-clause-ranges : goal.write_sdt-requires-clause-ranges
+write_sdt-requires-clause-ranges c =
+    at_place (All IsProgram) (sdt_parts c.args.self.now) c.args.section c.in-Some.part.now (c.sdt_parts.ensures c.args.self.now c.keeps_ranges.ensures).programs
+    (sym c.sdt_part.ensures ∙ ap (option_map (λ s. s.now)) c.in-Some.is)
+
+pub write_sdt-requires-clause-room : goal.write_sdt-requires-clause-room
+write_sdt-requires-clause-room c =
+    let at : slice_get (sdt_parts c.args.self.now) c.args.section ≡ Some c.in-Some.part.now =
+    sym c.sdt_part.ensures ∙ ap (option_map (λ s. s.now)) c.in-Some.is in
+    let fits = at_place (λ l. l ≤ longest_section) (map sdt_length (sdt_parts c.args.self.now)) c.args.section (sdt_length c.in-Some.part.now)
+    (c.keeps_ranges.ensures.sdt_lengths c.requires) (get_map sdt_length (sdt_parts c.args.self.now) c.args.section c.in-Some.part.now at) in
+    omega (arith, fits)
