@@ -37,11 +37,14 @@ base = record {
   original_network_id = 1;
   has_sdt = true;
   has_tdt = true;
+  is_transponder = false;
+  clock_pid = None;
   network = Some (record { id = 1; name = codes "Net"; descriptors = [] });
   programs = (record {
     number = 1;
     pmt_pid = 4096;
     pcr_pid = 257;
+    has_clock = true;
     pcr_limit = 40;
     descriptors = [];
     service_type = 2;

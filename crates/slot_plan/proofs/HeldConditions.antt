@@ -1,11 +1,11 @@
 -- If no condition fails, each condition is true.
-use Rattle.std.specs.Prelude.{ℕ, zero, suc, ◌+◌, ◌<◌, ◌≤◌, true, List, [], ◌∷◌, ◌++◌, None, length, get_or}
+use Rattle.std.specs.Prelude.{ℕ, zero, suc, ◌+◌, ◌<◌, ◌≤◌, Bool, true, false, List, [], ◌∷◌, ◌++◌, None, length, get_or}
 use Rattle.std.proofs.Common.{◌≡◌, refl, arith, inl, inr}
 use Rattle.std.proofs.lemmas.Bool.{cases_Bool, leb-true}
 use Rattle.std.proofs.lemmas.Bool.Decides.{nat_tests}
 use Rattle.own_slots.specs.Period.{per_period}
 use Rattle.description_parts.specs.Described.{Described}
-use Rattle.description_parts.specs.Tables.{table_kinds}
+use Rattle.description_parts.specs.Tables.{table_kinds, clock_of, has_references, only_if}
 use Rattle.slot_plan.specs.declared.slot.Item.TheVariants.{Stream, Pcr, Table}
 use Rattle.slot_plan.specs.declared.condition.Condition.{Condition}
 use Rattle.slot_plan.specs.declared.condition.Condition.TheVariants.{Shape}
@@ -14,8 +14,9 @@ use Rattle.slot_plan.specs.Planned.{Planned}
 use Rattle.slot_plan.specs.Items.{marks}
 use Rattle.slot_plan.specs.Entries.{Entry, at_most, equal_counts, entry_holds, first_failing}
 use Rattle.slot_plan.specs.Conditions.{shape_entries, length_entries, name_entries, stream_owner_entries, program_owner_entries, table_owner_entries}
-use Rattle.slot_plan.specs.Conditions.{claim_entries, owner_entry}
+use Rattle.slot_plan.specs.Conditions.{claim_entries, clock_owner_entries, owner_entry}
 use Rattle.slot_plan.specs.Shape.{IsShaped}
+use Rattle.slot_plan.proofs.Clocks.{clock_referenced, clock_within}
 
 -- If no condition of a list fails, the first is true and none of the rest fails.
 pub holds_first : (e : Entry) (es : List Entry) → first_failing (e ∷ es) ≡ None → (entry_holds e ≡ true) × (first_failing es ≡ None)
@@ -59,6 +60,19 @@ holds_item part xs i none lt = let e : 0 + i ≡ i = omega arith in rw e at (hol
 pub at_most_holds : (condition : Condition) (part item left right : ℕ) → first_failing (at_most condition part item left right ∷ []) ≡ None → left ≤ right
 at_most_holds condition part item left right none = leb-true left right (holds_first (at_most condition part item left right) [] none).0
 
+-- The condition on a program with clock references does not fail.
+holds_if : (b : Bool) (e : Entry) → b ≡ true → first_failing (only_if b e) ≡ None → first_failing (e ∷ []) ≡ None
+holds_if true e is none = none
+holds_if false e is none = absurd (cc)
+
+-- A program's clock has a slot.
+clock_owned : (d : Described) (p : Planned) (i : ℕ) → first_failing (program_owner_entries d p) ≡ None → i < length d.programs →
+    0 < per_period (marks (Pcr (clock_of d i)) p.slots)
+clock_owned d p i none lt = let clock = clock_of d i in
+    at_most_holds Shape 4 (length d.streams + clock) 1 (per_period (marks (Pcr clock) p.slots))
+    (holds_if (has_references d clock) (owner_entry p (length d.streams + clock) (Pcr clock)) (clock_referenced d i)
+    (holds_item (clock_owner_entries d p) d.programs clock none (clock_within d i lt)))
+
 -- The shape of the plan, as plain facts
 pub shaped : (d : Described) (p : Planned) → first_failing (shape_entries d p) ≡ None → IsShaped d p
 shaped d p none =
@@ -80,8 +94,7 @@ shaped d p none =
       streams_own =
           λ i lt. at_most_holds Shape 4 i 1 (per_period (marks (Stream i) p.slots))
           (holds_item (λ j. owner_entry p j (Stream j) ∷ []) d.streams i streams.0 lt);
-      programs_own = λ i lt. at_most_holds Shape 4 (length d.streams + i) 1 (per_period (marks (Pcr i) p.slots))
-          (holds_item (λ j. owner_entry p (length d.streams + j) (Pcr j) ∷ []) d.programs i programs.0 lt);
+      programs_own = λ i lt. clock_owned d p i programs.0 lt;
       tables_own = λ t lt. at_most_holds Shape 4 (length d.streams + length d.programs + t) 1 (per_period (marks (Table t) p.slots))
           (holds_item (λ j. owner_entry p (length d.streams + length d.programs + j) (Table j) ∷ []) (table_kinds d) t tables.0 lt);
       stream_claims = grind (arith, nat_tests, stream_count.0);

@@ -1,4 +1,5 @@
 pub mod WordReaders
+pub mod Clocks
 pub mod HeldConditions
 pub mod BaseService
 pub mod NumberedLists

@@ -1,9 +1,9 @@
 -- The slots of a plan that serves.
-use Rattle.std.specs.Prelude.{ℕ, suc, ◌+◌, ◌%◌, ◌<◌, List, [], ◌∷◌, ◌++◌, All, length}
-use Rattle.std.proofs.Common.{arith}
+use Rattle.std.specs.Prelude.{ℕ, suc, ◌+◌, ◌%◌, ◌<◌, ◌≤◌, Bool, true, false, IsTrue, List, [], ◌∷◌, ◌++◌, All, length, if◌then◌else◌}
+use Rattle.std.proofs.Common.{arith, refl}
 use Rattle.std.proofs.lemmas.List.Elements.{All-nil, All-cons, All-get_or}
 use Rattle.description_parts.specs.Described.{Described}
-use Rattle.description_parts.specs.Tables.{table_count}
+use Rattle.description_parts.specs.Tables.{table_count, has_references}
 use Rattle.slot_plan.specs.declared.slot.Slot.{Slot}
 use Rattle.slot_plan.specs.declared.slot.Slot.TheVariants.{Stream, Pcr, Table, Null}
 use Rattle.slot_plan.specs.declared.condition.Condition.TheVariants.{Shape}
@@ -14,9 +14,14 @@ use Rattle.slot_plan.specs.ServingLaws.{IsNamed, SomeSlotLaw, NamedLaw, NamedInR
 use Rattle.slot_plan.proofs.HeldConditions.{holds_both, at_most_holds}
 use Rattle.slot_plan.proofs.ConditionLists.{Hold, serves, in_turn, joint_in_turn}
 
+referenced : (b : Bool) (count n : ℕ) → n + 1 ≤ (if b then count else 0) → (n < count) × IsTrue b
+referenced true count n le = (omega (arith, le), refl)
+referenced false count n le = absurd (omega (arith, le))
+
 is_named : (d : Described) (k : ℕ) (slot : Slot) → Hold (named_entry d k slot ∷ []) → IsNamed d slot
 is_named d k (Stream n) hold = omega (arith, at_most_holds Shape 3 k (n + 1) (length d.streams) hold)
-is_named d k (Pcr n) hold = omega (arith, at_most_holds Shape 3 k (n + 1) (length d.programs) hold)
+is_named d k (Pcr n) hold =
+    referenced (has_references d n) (length d.programs) n (at_most_holds Shape 3 k (n + 1) (if has_references d n then length d.programs else 0) hold)
 is_named d k (Table n) hold = omega (arith, at_most_holds Shape 3 k (n + 1) (table_count d) hold)
 is_named d k Null hold = tt
 

@@ -30,7 +30,7 @@ use Rattle.unit_timing.proofs.AccessUnitLemmas.{framed_law}
 use Rattle.unit_timing.proofs.VideoLemmas.{video_law}
 use Rattle.description_parts.specs.Described.{Described, DescribedProgram, DescribedStream}
 use Rattle.description_parts.specs.Ranges.{IsInRange, IsMultiplexingBuffer, IsStream}
-use Rattle.description_parts.specs.Tables.{table_kinds, table_count, table_limit, round_packets, section_count, section_lengths, packets_of_section}
+use Rattle.description_parts.specs.Tables.{table_kinds, table_count, table_limit, round_packets, section_count, section_lengths, packets_of_section, clock_of}
 use Rattle.description.proofs.Allowed.{rows_some}
 use Rattle.slot_plan.specs.declared.slot.Slot.{Slot}
 use Rattle.slot_plan.specs.declared.slot.Item.{Item}
@@ -234,8 +234,9 @@ program_holds d p i serves lt = let claim = program_claim p i in record {
 -- PCRs and sections
 
 pub pcr_gap_holds : (d : Described) (p : Planned) (i : ℕ) (program : DescribedProgram) → ServingConditions d p → slice_get d.programs i ≡ Some program →
-    gap (marks (Pcr i) p.slots) 1 * slot_ms_at_1bps ≤ program.pcr_limit * d.rate
-pcr_gap_holds d p i program serves is = at_most_holds PcrGap 0 i (gap (marks (Pcr i) p.slots) 1 * slot_ms_at_1bps) (program.pcr_limit * d.rate)
+    gap (marks (Pcr (clock_of d i)) p.slots) 1 * slot_ms_at_1bps ≤ program.pcr_limit * d.rate
+pcr_gap_holds d p i program serves is =
+    at_most_holds PcrGap 0 i (gap (marks (Pcr (clock_of d i)) p.slots) 1 * slot_ms_at_1bps) (program.pcr_limit * d.rate)
     (holds_element (λ j q. pcr_gap_entry d p j q ∷ []) d.programs i program serves.pcr_gaps is)
 
 pub table_gap_holds : (d : Described) (p : Planned) (t : ℕ) → ServingConditions d p → t < table_count d →
@@ -280,10 +281,10 @@ plan_law law d p ranges serving =
       programs = λ i lt. subst (λ (o : ℕ → Bool). ProgramServed o d.rate) (sym (law.alone p.slots (System i)))
           (program_law d.rate (program_claim_of p i) (marks (System i) p.slots)
           (omega (arith, ranges.least_rate)) (some_slots (System i)) (program_holds d p i k lt));
-      pcrs = λ i program slots is. let own_marks = marks (Pcr i) p.slots in
+      pcrs = λ i program slots is. let clock = Pcr (clock_of d i) in let own_marks = marks clock p.slots in
           let lt : i < length d.programs = slice_get_within d.programs i program is in
           subst (λ (o : ℕ → Bool). Recur d.rate program.pcr_limit 0 (map (λ s. 188 * s + 10) (own_slots o 0 slots)) (188 * slots))
-          (sym (law.alone p.slots (Pcr i)))
+          (sym (law.alone p.slots clock))
           (pcr_law (own own_marks) (gap own_marks 1) d.rate program.pcr_limit slots
           (gap_law own_marks 1 (gap own_marks 1) (k.shape.programs_own i lt) (omega arith)) (pcr_gap_holds d p i program k is));
       sections = λ t j slots lt within. let own_marks = marks (Table t) p.slots in

@@ -28,7 +28,7 @@ use Rattle.unit_timing.proofs.PlanLemmas.{stream_switch_law, program_switch_law}
 use Rattle.unit_timing.proofs.VideoLemmas.{video_switch_law}
 use Rattle.description_parts.specs.Described.{Described, DescribedStream}
 use Rattle.description_parts.specs.Ranges.{IsInRange}
-use Rattle.description_parts.specs.Tables.{table_kinds, table_limit, round_packets}
+use Rattle.description_parts.specs.Tables.{table_kinds, table_limit, round_packets, clock_of}
 use Rattle.slot_plan.specs.declared.slot.Item.TheVariants.{Stream, Pcr, Table, System}
 use Rattle.slot_plan.specs.Planned.{Planned}
 use Rattle.slot_plan.specs.Entries.{Entry}
@@ -276,12 +276,12 @@ switch_law law d first second periods ranges serving switchable =
           (omega (arith, ranges.least_rate)) (omega (arith, length_marks (System i) first.slots, k.shape.some_slots))
           (omega (arith, length_marks (System i) second.slots, f.serves.shape.some_slots))
           (program_holds d first i k lt) (program_holds d second i f.serves lt) (program_joins d first second i f lt));
-      pcrs = λ i program slots is. let a = marks (Pcr i) first.slots in let b = marks (Pcr i) second.slots in
+      pcrs = λ i program slots is. let clock = Pcr (clock_of d i) in let a = marks clock first.slots in let b = marks clock second.slots in
           let lt : i < length d.programs = slice_get_within d.programs i program is in
           let across = at_most_holds PcrSwitch 0 i (gap_across a b 1 * slot_ms_at_1bps) (program.pcr_limit * d.rate)
           (holds_element (λ j q. pcr_switch_entry d first second j q ∷ []) d.programs i program f.pcrs is) in
           subst (λ (o : ℕ → Bool). Recur d.rate program.pcr_limit 0 (map (λ s. 188 * s + 10) (own_slots o 0 slots)) (188 * slots))
-          (owned_over law first.slots second.slots periods (Pcr i))
+          (owned_over law first.slots second.slots periods clock)
           (pcr_law (joined (own a) (own b) (periods * length a)) (max (gap a 1) (max (gap b 1) (gap_across a b 1))) d.rate program.pcr_limit slots
           (gaps_join a b periods 1 (k.shape.programs_own i lt) (f.serves.shape.programs_own i lt))
           (within_limit (gap a 1) (gap b 1) (gap_across a b 1) (program.pcr_limit * d.rate)

@@ -13,7 +13,7 @@ use Rattle.unit_timing.specs.Allowances.{allowance_rows}
 use Rattle.unit_timing.specs.Conditions.{Share, rate_needed, rate_given, lead_needed, time_given, bytes_waiting}
 use Rattle.unit_timing.specs.AccessUnits.{framed_waiting}
 use Rattle.description_parts.specs.Described.{Described, DescribedProgram, DescribedStream}
-use Rattle.description_parts.specs.Tables.{table_kinds, table_count, table_limit, round_packets}
+use Rattle.description_parts.specs.Tables.{table_kinds, table_count, table_limit, round_packets, clock_of, has_references, only_if}
 use Rattle.slot_plan.specs.declared.slot.Slot.{Slot}
 use Rattle.slot_plan.specs.declared.slot.Item.{Item}
 use Rattle.slot_plan.specs.declared.slot.Slot.TheVariants.{Stream, Pcr, Table, Null}
@@ -32,10 +32,10 @@ use Rattle.slot_plan.specs.Entries.{Entry, at_most, equal_counts, first_failing}
 abbrev pub longest_period : ℕ
 longest_period = 65536
 
--- code 1, part 3: a slot names an item that the description has
+-- code 1, part 3: a slot names an item that the description has; a program whose clock references are another's has no slot for them
 abbrev pub named_entry : Described → ℕ → Slot → Entry
 named_entry d s (Stream number) = at_most Shape 3 s (number + 1) (length d.streams)
-named_entry d s (Pcr number) = at_most Shape 3 s (number + 1) (length d.programs)
+named_entry d s (Pcr number) = at_most Shape 3 s (number + 1) (if has_references d number then length d.programs else 0)
 named_entry d s (Table number) = at_most Shape 3 s (number + 1) (table_count d)
 named_entry d s Null = at_most Shape 3 s 0 0
 
@@ -51,12 +51,16 @@ length_entries p = at_most Shape 1 0 1 (length p.slots) ∷ at_most Shape 2 0 (l
 abbrev pub name_entries : Described → Planned → List Entry
 name_entries d p = numbered (λ s slot. named_entry d s slot ∷ []) 0 p.slots
 
--- code 1, part 4 for each stream, program and table; their numbers are counted on
+-- code 1, part 4 for each stream, program with clock references of its own and table; their numbers are counted on, also over the
+-- programs on another's clock
 abbrev pub stream_owner_entries : Described → Planned → List Entry
 stream_owner_entries d p = numbered (λ i _. owner_entry p i (StreamItem i) ∷ []) 0 d.streams
 
+abbrev pub clock_owner_entries : Described → Planned → ℕ → List Entry
+clock_owner_entries d p i = only_if (has_references d i) (owner_entry p (length d.streams + i) (PcrItem i))
+
 abbrev pub program_owner_entries : Described → Planned → List Entry
-program_owner_entries d p = numbered (λ i _. owner_entry p (length d.streams + i) (PcrItem i) ∷ []) 0 d.programs
+program_owner_entries d p = numbered (λ i _. clock_owner_entries d p i) 0 d.programs
 
 abbrev pub table_owner_entries : Described → Planned → List Entry
 table_owner_entries d p = numbered (λ t _. owner_entry p (length d.streams + length d.programs + t) (TableItem t) ∷ []) 0 (table_kinds d)
@@ -71,9 +75,9 @@ abbrev pub shape_entries : Described → Planned → List Entry
 shape_entries d p =
     length_entries p ++ (name_entries d p ++ (stream_owner_entries d p ++ (program_owner_entries d p ++ (table_owner_entries d p ++ claim_entries d p))))
 
--- code 2: the PCRs of a program recur within its limit, in ms (ISO/IEC 13818-1, 2.7.2)
+-- code 2: the PCRs of a program's clock recur within the program's limit, in ms (ISO/IEC 13818-1, 2.7.2)
 abbrev pub pcr_gap_entry : Described → Planned → ℕ → DescribedProgram → Entry
-pcr_gap_entry d p i program = at_most PcrGap 0 i (gap (marks (PcrItem i) p.slots) 1 * slot_ms_at_1bps) (program.pcr_limit * d.rate)
+pcr_gap_entry d p i program = at_most PcrGap 0 i (gap (marks (PcrItem (clock_of d i)) p.slots) 1 * slot_ms_at_1bps) (program.pcr_limit * d.rate)
 
 -- code 3: each section of a table recurs within the table's limit, in ms (ETSI TR 101 290, 5.2)
 abbrev pub table_gap_entry : Described → Planned → ℕ → Entry

@@ -12,7 +12,7 @@ use Rattle.unit_timing.specs.VideoPlans.{Leak, VideoServed}
 use Rattle.unit_timing.specs.AccessUnits.{FramedPacket, KeepsFraming, Followed, packets_of}
 use Rattle.description_parts.specs.Described.{Described, DescribedProgram, DescribedStream}
 use Rattle.description_parts.specs.Ranges.{IsInRange}
-use Rattle.description_parts.specs.Tables.{table_count, table_limit, section_count}
+use Rattle.description_parts.specs.Tables.{table_count, table_limit, section_count, clock_of}
 use Rattle.slot_plan.specs.declared.slot.Item.TheVariants.{Stream, Pcr, System}
 use Rattle.slot_plan.specs.Planned.{Planned}
 use Rattle.slot_plan.specs.Conditions.{IsServing}
@@ -33,8 +33,8 @@ leak_of b = record { rbx = b.rbx; mb = b.size }
 -- buffer that this one, and the elementary stream buffer after it, never hold more than their sizes, and that units are whole in
 -- the latter by their decoding times (2.4.2.3), and that its transport buffer and its multiplexing buffer are empty at least once
 -- in each second (2.4.2.6); of a stream with a framing that its main buffer has room for access units that are
--- removed one by one; the buffers of a program's tables never overflow; the PCRs of a program recur within its limit; each
--- section of a table recurs within the table's limit, from the run's begin to its end
+-- removed one by one; the buffers of a program's tables never overflow; the PCRs of a program's clock recur within the program's
+-- limit; each section of a table recurs within the table's limit, from the run's begin to its end
 pub record Promised (d : Described) (schedule : Schedule) : Type 0 where
   pub streams : (i : ℕ) (s : DescribedStream) (units : List PesPacket) → slice_get d.streams i ≡ Some s → KeepsDeclaration (declaration s) units →
       StreamServed (owned schedule (Stream i)) d.rate (declaration s) units
@@ -49,7 +49,7 @@ pub record Promised (d : Described) (schedule : Schedule) : Type 0 where
       FramesServed (owned schedule (Stream i)) d.rate (declaration s) f packets
   pub programs : (i : ℕ) → i < length d.programs → ProgramServed (owned schedule (System i)) d.rate
   pub pcrs : (i : ℕ) (p : DescribedProgram) (slots : ℕ) → slice_get d.programs i ≡ Some p →
-      Recur d.rate p.pcr_limit 0 (map (λ s. 188 * s + 10) (own_slots (owned schedule (Pcr i)) 0 slots)) (188 * slots)
+      Recur d.rate p.pcr_limit 0 (map (λ s. 188 * s + 10) (own_slots (owned schedule (Pcr (clock_of d i))) 0 slots)) (188 * slots)
   pub sections : (t j : ℕ) (slots : ℕ) → t < table_count d → j < section_count d t →
       Recur d.rate (table_limit d t) 0 (map (λ s. 188 * s) (own_slots (section_starts d schedule t j) 0 slots)) (188 * slots)
 

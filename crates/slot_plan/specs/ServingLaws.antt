@@ -1,7 +1,7 @@
 -- Laws for a plan that serves a description.
-use Rattle.std.specs.Prelude.{ℕ, ◌<◌, All, length}
+use Rattle.std.specs.Prelude.{ℕ, ◌<◌, All, IsTrue, length}
 use Rattle.description_parts.specs.Described.{Described}
-use Rattle.description_parts.specs.Tables.{table_count}
+use Rattle.description_parts.specs.Tables.{table_count, has_references}
 use Rattle.slot_plan.specs.declared.slot.Slot.{Slot}
 use Rattle.slot_plan.specs.declared.slot.Slot.TheVariants.{Stream, Pcr, Table, Null}
 use Rattle.slot_plan.specs.Planned.{Planned}
@@ -12,7 +12,7 @@ use Rattle.slot_plan.specs.Schedule.{repeated}
 -- a slot carries nothing, or a packet of an item that the description has
 abbrev pub IsNamed : Described → Slot → Type 0
 IsNamed d (Stream number) = number < length d.streams
-IsNamed d (Pcr number) = number < length d.programs
+IsNamed d (Pcr number) = (number < length d.programs) × IsTrue (has_references d number)
 IsNamed d (Table number) = number < table_count d
 IsNamed d Null = Unit {0}
 

@@ -15,7 +15,7 @@ use Rattle.unit_timing.specs.Allowances.{allowance_rows}
 use Rattle.unit_timing.specs.Conditions.{Share, lead_across, time_given, bytes_across}
 use Rattle.unit_timing.specs.AccessUnits.{framed_across}
 use Rattle.description_parts.specs.Described.{Described, DescribedProgram, DescribedStream}
-use Rattle.description_parts.specs.Tables.{table_kinds, table_limit, round_packets}
+use Rattle.description_parts.specs.Tables.{table_kinds, table_limit, round_packets, clock_of}
 use Rattle.slot_plan.specs.declared.slot.Item.{Item}
 use Rattle.slot_plan.specs.declared.slot.Slot.{Slot}
 use Rattle.slot_plan.specs.declared.slot.Item.TheVariants.{Stream as StreamItem, Pcr as PcrItem, Table as TableItem, System}
@@ -34,10 +34,10 @@ use Rattle.slot_plan.specs.Conditions.{group_part, entries_from, entries}
 abbrev pub gap_across : List Bool → List Bool → ℕ → ℕ
 gap_across first second k = greatest k (λ x. position second (k - suc x) + back first (suc x))
 
--- code 12: the PCRs of a program recur across the switch
+-- code 12: the PCRs of a program's clock recur across the switch
 abbrev pub pcr_switch_entry : Described → Planned → Planned → ℕ → DescribedProgram → Entry
-pcr_switch_entry d first second i program =
-    at_most PcrSwitch 0 i (gap_across (marks (PcrItem i) first.slots) (marks (PcrItem i) second.slots) 1 * slot_ms_at_1bps) (program.pcr_limit * d.rate)
+pcr_switch_entry d first second i program = let clock = PcrItem (clock_of d i) in
+    at_most PcrSwitch 0 i (gap_across (marks clock first.slots) (marks clock second.slots) 1 * slot_ms_at_1bps) (program.pcr_limit * d.rate)
 
 -- code 13: each section of a table recurs across the switch
 abbrev pub table_switch_entry : Described → Planned → Planned → ℕ → Entry
