@@ -7,9 +7,10 @@ use Rattle.slot_plan.specs.Planned.{Planned}
 use Rattle.slot_plan.specs.Shape.{IsShaped}
 use Rattle.slot_plan.specs.Entries.{Entry, first_failing}
 use Rattle.slot_plan.specs.Conditions.{shape_entries, timing_entries, entries, pcr_gaps, table_gaps, spreads, stream_rates, stream_buffers, transport_buffers}
-use Rattle.slot_plan.specs.Conditions.{stream_leads, main_buffers, system_buffers, multiplexing_buffers, elementary_leads, IsServing}
-use Rattle.slot_plan.specs.SwitchConditions.{joint_entries, pcr_switches, table_switches, stream_works, transport_works, system_works, multiplexing_works}
-use Rattle.slot_plan.specs.SwitchConditions.{lead_switches, main_switches, elementary_switches, IsSwitchable}
+use Rattle.slot_plan.specs.Conditions.{stream_leads, main_buffers, system_buffers, multiplexing_buffers, elementary_leads, section_distances}
+use Rattle.slot_plan.specs.Conditions.{IsServing}
+use Rattle.slot_plan.specs.SwitchConditions.{joint_entries, pcr_switches, table_switches, section_switches, stream_works, transport_works, system_works}
+use Rattle.slot_plan.specs.SwitchConditions.{multiplexing_works, lead_switches, main_switches, elementary_switches, IsSwitchable}
 use Rattle.slot_plan.proofs.HeldConditions.{holds_both, shaped}
 
 -- No condition of a list fails.
@@ -30,6 +31,7 @@ pub record ServingConditions (d : Described) (p : Planned) : Type 0 where
   pub system_buffers : Hold (system_buffers d p)
   pub multiplexing_buffers : Hold (multiplexing_buffers d p)
   pub elementary_leads : Hold (elementary_leads d p)
+  pub section_distances : Hold (section_distances d p)
 
 pub in_turn : (d : Described) (p : Planned) → IsServing d p → Hold (shape_entries d p) × Hold (timing_entries d p)
 in_turn d p serving = elim (cases_Bool (is_none (first_failing (shape_entries d p)))) [
@@ -39,8 +41,9 @@ in_turn d p serving = elim (cases_Bool (is_none (first_failing (shape_entries d 
 
 pub serves : (d : Described) (p : Planned) → IsServing d p → ServingConditions d p
 serves d p serving =
-    let last = multiplexing_buffers d p ++ elementary_leads d p in
-    let system = system_buffers d p ++ last in
+    let last = elementary_leads d p ++ section_distances d p in
+    let multiplexing = multiplexing_buffers d p ++ last in
+    let system = system_buffers d p ++ multiplexing in
     let main = main_buffers d p ++ system in
     let leads = stream_leads d p ++ main in
     let transport = transport_buffers d p ++ leads in
@@ -57,8 +60,9 @@ serves d p serving =
     let i = holds_both (transport_buffers d p) leads h.1 in
     let j = holds_both (stream_leads d p) main i.1 in
     let k = holds_both (main_buffers d p) system j.1 in
-    let l = holds_both (system_buffers d p) last k.1 in
-    let m = holds_both (multiplexing_buffers d p) (elementary_leads d p) l.1 in
+    let l = holds_both (system_buffers d p) multiplexing k.1 in
+    let m = holds_both (multiplexing_buffers d p) last l.1 in
+    let n = holds_both (elementary_leads d p) (section_distances d p) m.1 in
     record {
       shape = shaped d p both.0;
       pcr_gaps = a.0;
@@ -71,7 +75,8 @@ serves d p serving =
       main_buffers = k.0;
       system_buffers = l.0;
       multiplexing_buffers = m.0;
-      elementary_leads = m.1;
+      elementary_leads = n.0;
+      section_distances = n.1;
     }
 
 -- The conditions of a second plan that may follow a first plan
@@ -79,6 +84,7 @@ pub record FollowingConditions (d : Described) (first second : Planned) : Type 0
   pub serves : ServingConditions d second
   pub pcrs : Hold (pcr_switches d first second)
   pub tables : Hold (table_switches d first second)
+  pub sections : Hold (section_switches d first second)
   pub stream_works : Hold (stream_works d first second)
   pub transport_works : Hold (transport_works d first second)
   pub system_works : Hold (system_works d first second)
@@ -101,11 +107,13 @@ follows d first second switchable =
     let system = system_works d first second ++ multiplexing in
     let transport = transport_works d first second ++ system in
     let streams = stream_works d first second ++ transport in
-    let tables = table_switches d first second ++ streams in
+    let sections = section_switches d first second ++ streams in
+    let tables = table_switches d first second ++ sections in
     let both = joint_in_turn d first second switchable in
     let a = holds_both (pcr_switches d first second) tables both.1 in
-    let b = holds_both (table_switches d first second) streams a.1 in
-    let e = holds_both (stream_works d first second) transport b.1 in
+    let b = holds_both (table_switches d first second) sections a.1 in
+    let s = holds_both (section_switches d first second) streams b.1 in
+    let e = holds_both (stream_works d first second) transport s.1 in
     let f = holds_both (transport_works d first second) system e.1 in
     let h = holds_both (system_works d first second) multiplexing f.1 in
     let i = holds_both (multiplexing_works d first second) leads h.1 in
@@ -115,6 +123,7 @@ follows d first second switchable =
       serves = serves d second both.0;
       pcrs = a.0;
       tables = b.0;
+      sections = s.0;
       stream_works = e.0;
       transport_works = f.0;
       system_works = h.0;

@@ -16,6 +16,9 @@ mod Rows
 pub mod EmptySlots
 pub mod EmptyQueues
 pub mod EmptyPlans
+pub mod LeastGaps
+mod SectionPlaces
+mod SectionsApart
 pub mod OnePlan
 pub mod OwnSlotsInTurn
 pub mod TwoPlans

@@ -1,5 +1,5 @@
 -- One plan: the conditions on the plan imply the premises of the timing laws.
-use Rattle.std.specs.Prelude.{ℕ, ◌+◌, ◌-◌, ◌*◌, ◌<◌, ◌≤◌, Bool, List, [], ◌∷◌, Some, length, slice_get, get_or, sum_by, take, map}
+use Rattle.std.specs.Prelude.{ℕ, ◌+◌, ◌-◌, ◌*◌, ◌<◌, ◌≤◌, Bool, true, List, [], ◌∷◌, Some, length, slice_get, get_or, sum_by, take, map}
 use Rattle.std.proofs.Common.{◌≡◌, sym, subst, arith}
 use Rattle.std.proofs.lemmas.List.{length-map}
 use Rattle.std.proofs.lemmas.List.Elements.{All-get_or, All-head}
@@ -46,7 +46,9 @@ use Rattle.slot_plan.specs.Conditions.{main_buffer_entry, frame_entry, frame_ent
 use Rattle.slot_plan.specs.Conditions.{elementary_lead_entries}
 use Rattle.slot_plan.specs.EmptySlots.{EmptiesEachSecond}
 use Rattle.slot_plan.specs.Schedule.{OwnedLaw, single, owned}
-use Rattle.slot_plan.specs.TableRounds.{first_packet}
+use Rattle.slot_plan.specs.LeastGaps.{least_gap}
+use Rattle.slot_plan.specs.SectionDistances.{is_spaced, places_apart, section_distance_entries}
+use Rattle.slot_plan.specs.TableRounds.{first_packet, SectionsApart}
 use Rattle.slot_plan.proofs.HeldConditions.{holds_both, holds_item, at_most_holds}
 use Rattle.slot_plan.proofs.ConditionLists.{Hold, ServingConditions, serves}
 use Rattle.slot_plan.proofs.ItemConditions.{holds_element, holds_count, holds_work, holds_emptied}
@@ -54,6 +56,7 @@ use Rattle.slot_plan.specs.Promised.{leak_of, PlanLaw}
 use Rattle.slot_plan.specs.FramesServed.{FramesServed}
 use Rattle.slot_plan.proofs.EmptyPlans.{stream_empties, video_empties}
 use Rattle.slot_plan.proofs.Waiting.{waits_law}
+use Rattle.slot_plan.proofs.SectionsApart.{apart_in_plan, distance_holds}
 
 pub length_marks : (item : Item) (slots : List Slot) → length (marks item slots) ≡ length slots
 length_marks item slots = length-map slots (is_own item)
@@ -244,6 +247,11 @@ pub table_gap_holds : (d : Described) (p : Planned) (t : ℕ) → ServingConditi
 table_gap_holds d p t serves lt = at_most_holds TableGap 0 t (gap (marks (Table t) p.slots) (round_packets d t) * slot_ms_at_1bps) (table_limit d t * d.rate)
     (holds_item (λ j. table_gap_entry d p j ∷ []) (table_kinds d) t serves.table_gaps lt)
 
+pub section_distance_holds : (d : Described) (p : Planned) (t : ℕ) → ServingConditions d p → t < table_count d → is_spaced d t ≡ true →
+    25 * d.rate + slot_ms_at_1bps ≤ least_gap (marks (Table t) p.slots) (places_apart d t) * slot_ms_at_1bps
+section_distance_holds d p t serves lt spaced = distance_holds 0 d t (least_gap (marks (Table t) p.slots) (places_apart d t)) spaced
+    (holds_item (section_distance_entries d p) (table_kinds d) t serves.section_distances lt)
+
 -- A section begins within the round.
 place_below : (ls : List ℕ) (j : ℕ) → j < length ls → sum_by packets_of_section (take j ls) < sum_by packets_of_section ls
 place_below ls j lt =
@@ -294,6 +302,8 @@ plan_law law d p ranges serving =
           (table_law (own own_marks) (round_packets d t) (first_packet d t j) (gap own_marks (round_packets d t)) d.rate (table_limit d t) slots
           (first_packet_below d t j within) (gap_law own_marks (round_packets d t) (gap own_marks (round_packets d t)) (k.shape.tables_own t lt) (omega arith))
           (table_gap_holds d p t k lt));
+      sections_apart = λ t lt spaced. subst (λ (o : ℕ → Bool). SectionsApart d t o) (sym (law.alone p.slots (Table t)))
+          (apart_in_plan d t (marks (Table t) p.slots) (k.shape.tables_own t lt) spaced (section_distance_holds d p t k lt spaced));
     }
   where
     some_slots : (item : Item) → 0 < length (marks item p.slots)

@@ -42,7 +42,9 @@ use Rattle.slot_plan.specs.SwitchConditions.{multiplexing_work_entries, lead_swi
 use Rattle.slot_plan.specs.SwitchConditions.{elementary_switch_entry, elementary_switch_entries, owns_same, is_finer, continues, if_changed}
 use Rattle.slot_plan.specs.EmptySlots.{EmptiesAcross}
 use Rattle.slot_plan.specs.Schedule.{OwnedLaw, single, switched, owned}
-use Rattle.slot_plan.specs.TableRounds.{first_packet}
+use Rattle.slot_plan.specs.LeastGaps.{least_gap_across}
+use Rattle.slot_plan.specs.SectionDistances.{places_apart, section_switch_entries}
+use Rattle.slot_plan.specs.TableRounds.{first_packet, SectionsApart}
 use Rattle.slot_plan.proofs.HeldConditions.{holds_both, holds_item, at_most_holds}
 use Rattle.slot_plan.proofs.ConditionLists.{Hold, serves, FollowingConditions, follows}
 use Rattle.slot_plan.proofs.ItemConditions.{holds_element, holds_count, holds_emptied_switch}
@@ -50,10 +52,11 @@ use Rattle.slot_plan.specs.Promised.{leak_of, Promised, SwitchLaw}
 use Rattle.slot_plan.specs.FramesServed.{FramesServed}
 use Rattle.slot_plan.proofs.OnePlan.{length_marks, proper, proper_leak, claim_of, leak_claim_of, program_claim_of, stream_holds, video_holds}
 use Rattle.slot_plan.proofs.OnePlan.{emptied_holds, leak_emptied_holds, lead_short, program_holds, pcr_gap_holds, table_gap_holds, first_packet_below}
-use Rattle.slot_plan.proofs.OnePlan.{plan_law}
+use Rattle.slot_plan.proofs.OnePlan.{section_distance_holds, plan_law}
 use Rattle.slot_plan.proofs.OwnSlotsInTurn.{owned_over, owned_on}
 use Rattle.slot_plan.proofs.EmptyPlans.{stream_switch_empties, video_switch_empties}
 use Rattle.slot_plan.proofs.Waiting.{waits_law}
+use Rattle.slot_plan.proofs.SectionsApart.{apart_over_plans, distance_holds}
 
 lead_joins : (d : Described) (first second : Planned) (i : ℕ) (s : DescribedStream) →
     Hold (entries_from (lead_switch_entry d first second i s) 1 (allowance_rows s.allowance)) →
@@ -297,4 +300,10 @@ switch_law law d first second periods ranges serving switchable =
           (gaps_join a b periods places (k.shape.tables_own t lt) (f.serves.shape.tables_own t lt))
           (within_limit (gap a places) (gap b places) (gap_across a b places) (table_limit d t * d.rate)
           (table_gap_holds d first t k lt) (table_gap_holds d second t f.serves lt) across));
+      sections_apart = λ t lt spaced. let a = marks (Table t) first.slots in let b = marks (Table t) second.slots in
+          subst (λ (o : ℕ → Bool). SectionsApart d t o) (owned_over law first.slots second.slots periods (Table t))
+          (apart_over_plans d t a b periods (k.shape.tables_own t lt) (f.serves.shape.tables_own t lt) spaced (section_distance_holds d first t k lt spaced)
+          (section_distance_holds d second t f.serves lt spaced)
+          (distance_holds 1 d t (least_gap_across a b (places_apart d t)) spaced
+          (holds_item (section_switch_entries d first second) (table_kinds d) t f.sections lt)));
     }

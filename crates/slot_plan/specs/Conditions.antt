@@ -26,6 +26,7 @@ use Rattle.slot_plan.specs.Planned.{Planned}
 use Rattle.slot_plan.specs.EmptySlots.{empty_slots}
 use Rattle.slot_plan.specs.Items.{marks}
 use Rattle.slot_plan.specs.Claims.{declaration, stream_claim, program_claim, stream_share, drained_declaration, multiplexing_claim, elementary_share}
+use Rattle.slot_plan.specs.SectionDistances.{section_distance_entries}
 use Rattle.slot_plan.specs.Entries.{Entry, at_most, equal_counts, first_failing}
 
 -- the most slots of a period
@@ -214,10 +215,13 @@ multiplexing_buffers d p = numbered (λ i s. multiplexing_buffer_entries d p i s
 abbrev pub elementary_leads : Described → Planned → List Entry
 elementary_leads d p = numbered (λ i s. elementary_lead_entries d p i s s.multiplexing) 0 d.streams
 
--- codes 2 to 11, by code, then item, then part
+abbrev pub section_distances : Described → Planned → List Entry
+section_distances d p = numbered (λ t _. section_distance_entries d p t) 0 (table_kinds d)
+
+-- codes 2 to 11, then code 18, by code, then item, then part
 abbrev pub timing_entries : Described → Planned → List Entry
 timing_entries d p = pcr_gaps d p ++ (table_gaps d p ++ (spreads d p ++ (stream_rates d p ++ (stream_buffers d p ++ (transport_buffers d p
-    ++ (stream_leads d p ++ (main_buffers d p ++ (system_buffers d p ++ (multiplexing_buffers d p ++ elementary_leads d p)))))))))
+    ++ (stream_leads d p ++ (main_buffers d p ++ (system_buffers d p ++ (multiplexing_buffers d p ++ (elementary_leads d p ++ section_distances d p))))))))))
 
 -- the conditions of a plan for a description, in their order
 abbrev pub entries : Described → Planned → List Entry

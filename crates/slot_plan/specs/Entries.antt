@@ -2,8 +2,8 @@
 use Rattle.std.specs.Prelude.{ℕ, ◌==◌, Bool, List, [], ◌∷◌, Option, Some, None, nat_le, if◌then◌else◌}
 use Rattle.slot_plan.specs.declared.condition.Condition.{Condition}
 use Rattle.slot_plan.specs.declared.condition.Condition.TheVariants.{Shape, PcrGap, TableGap, Spread, StreamRate, TransportBuffer, StreamLead, MainBuffer}
-use Rattle.slot_plan.specs.declared.condition.Condition.TheVariants.{SystemBuffer, MultiplexingBuffer, ElementaryLead, PcrSwitch, TableSwitch, WorkSwitch}
-use Rattle.slot_plan.specs.declared.condition.Condition.TheVariants.{LeadSwitch, MainSwitch, ElementarySwitch}
+use Rattle.slot_plan.specs.declared.condition.Condition.TheVariants.{SystemBuffer, MultiplexingBuffer, ElementaryLead, SectionDistance, PcrSwitch, TableSwitch}
+use Rattle.slot_plan.specs.declared.condition.Condition.TheVariants.{WorkSwitch, LeadSwitch, MainSwitch, ElementarySwitch}
 use Rattle.slot_plan.specs.declared.condition.Relation.{Relation}
 use Rattle.slot_plan.specs.declared.condition.Relation.TheVariants.{AtMost, Equal}
 
@@ -26,6 +26,7 @@ code_of WorkSwitch = 14
 code_of LeadSwitch = 15
 code_of MainSwitch = 16
 code_of ElementarySwitch = 17
+code_of SectionDistance = 18
 
 -- one case of a condition: its part, the item that it is about, its two numbers and how they have to compare
 pub record Entry : Type 0 where

@@ -10,6 +10,8 @@ pub mod ReadResults
 pub mod Entries
 pub mod Claims
 pub mod EmptySlots
+pub mod LeastGaps
+pub mod SectionDistances
 pub mod Conditions
 pub mod Shape
 pub mod SwitchConditions

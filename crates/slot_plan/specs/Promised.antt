@@ -1,5 +1,5 @@
 -- What a description asks of the schedule that serves it, over runs of any length.
-use Rattle.std.specs.Prelude.{◌≡◌, ℕ, ◌+◌, ◌*◌, ◌<◌, List, Some, length, map, slice_get, All}
+use Rattle.std.specs.Prelude.{◌≡◌, ℕ, ◌+◌, ◌*◌, ◌<◌, true, List, Some, length, map, slice_get, All}
 use Rattle.clock27.specs.Recurrence.{Recur}
 use Rattle.own_slots.specs.Slots.{own_slots}
 use Rattle.unit_timing.specs.PesPacket.{PesPacket}
@@ -13,13 +13,14 @@ use Rattle.unit_timing.specs.AccessUnits.{FramedPacket, KeepsFraming, Followed, 
 use Rattle.description_parts.specs.Described.{Described, DescribedProgram, DescribedStream}
 use Rattle.description_parts.specs.Ranges.{IsInRange}
 use Rattle.description_parts.specs.Tables.{table_count, table_limit, section_count, clock_of}
-use Rattle.slot_plan.specs.declared.slot.Item.TheVariants.{Stream, Pcr, System}
+use Rattle.slot_plan.specs.declared.slot.Item.TheVariants.{Stream, Pcr, Table, System}
 use Rattle.slot_plan.specs.Planned.{Planned}
 use Rattle.slot_plan.specs.Conditions.{IsServing}
 use Rattle.slot_plan.specs.SwitchConditions.{IsSwitchable}
 pub use Rattle.slot_plan.specs.Claims.{declaration}
 use Rattle.slot_plan.specs.Schedule.{Schedule, single, switched, owned}
-use Rattle.slot_plan.specs.TableRounds.{section_starts}
+use Rattle.slot_plan.specs.SectionDistances.{is_spaced}
+use Rattle.slot_plan.specs.TableRounds.{section_starts, SectionsApart}
 use Rattle.slot_plan.specs.FramesServed.{FramesServed}
 use Rattle.slot_plan.specs.Waits.{pes_entered, longest_wait}
 
@@ -34,7 +35,8 @@ leak_of b = record { rbx = b.rbx; mb = b.size }
 -- the latter by their decoding times (2.4.2.3), and that its transport buffer and its multiplexing buffer are empty at least once
 -- in each second (2.4.2.6); of a stream with a framing that its main buffer has room for access units that are
 -- removed one by one; the buffers of a program's tables never overflow; the PCRs of a program's clock recur within the program's
--- limit; each section of a table recurs within the table's limit, from the run's begin to its end
+-- limit; each section of a table recurs within the table's limit, from the run's begin to its end; the sections of each sub-table of a
+-- transponder's service information are 25 ms apart
 pub record Promised (d : Described) (schedule : Schedule) : Type 0 where
   pub streams : (i : ℕ) (s : DescribedStream) (units : List PesPacket) → slice_get d.streams i ≡ Some s → KeepsDeclaration (declaration s) units →
       StreamServed (owned schedule (Stream i)) d.rate (declaration s) units
@@ -52,6 +54,7 @@ pub record Promised (d : Described) (schedule : Schedule) : Type 0 where
       Recur d.rate p.pcr_limit 0 (map (λ s. 188 * s + 10) (own_slots (owned schedule (Pcr (clock_of d i))) 0 slots)) (188 * slots)
   pub sections : (t j : ℕ) (slots : ℕ) → t < table_count d → j < section_count d t →
       Recur d.rate (table_limit d t) 0 (map (λ s. 188 * s) (own_slots (section_starts d schedule t j) 0 slots)) (188 * slots)
+  pub sections_apart : (t : ℕ) → t < table_count d → is_spaced d t ≡ true → SectionsApart d t (owned schedule (Table t))
 
 -- one plan
 abbrev pub PlanLaw : Type 0

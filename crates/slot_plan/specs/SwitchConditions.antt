@@ -27,6 +27,7 @@ use Rattle.slot_plan.specs.EmptySlots.{empty_slots}
 use Rattle.slot_plan.specs.Items.{is_own, marks}
 use Rattle.slot_plan.specs.Entries.{Entry, at_most, first_failing}
 use Rattle.slot_plan.specs.Claims.{declaration, stream_claim, program_claim, stream_share, drained_declaration, multiplexing_claim, elementary_share}
+use Rattle.slot_plan.specs.SectionDistances.{section_switch_entries}
 use Rattle.slot_plan.specs.Conditions.{group_part, entries_from, entries}
 
 -- the greatest gap across the switch between k own slots in a row: from own slot -x of the first plan to own slot k - x
@@ -146,6 +147,9 @@ pcr_switches d first second = numbered (λ i program. pcr_switch_entry d first s
 abbrev pub table_switches : Described → Planned → Planned → List Entry
 table_switches d first second = numbered (λ t _. table_switch_entry d first second t ∷ []) 0 (table_kinds d)
 
+abbrev pub section_switches : Described → Planned → Planned → List Entry
+section_switches d first second = numbered (λ t _. section_switch_entries d first second t) 0 (table_kinds d)
+
 abbrev pub stream_works : Described → Planned → Planned → List Entry
 stream_works d first second = numbered (λ i s. stream_work_entries d first second i s) 0 d.streams
 
@@ -170,11 +174,11 @@ abbrev pub elementary_switches : Described → Planned → Planned → List Entr
 elementary_switches d first second =
     numbered (λ i s. if_changed d first second i (elementary_switch_entries d first second i s s.multiplexing)) 0 d.streams
 
--- codes 12 to 17, by code, then item, then part
+-- codes 12 and 13, then code 18, then codes 14 to 17, by code, then item, then part
 abbrev pub joint_entries : Described → Planned → Planned → List Entry
-joint_entries d first second = pcr_switches d first second ++ (table_switches d first second ++ (stream_works d first second ++ (transport_works d first second
-    ++ (system_works d first second ++ (multiplexing_works d first second ++ (lead_switches d first second ++ (main_switches d first second
-    ++ elementary_switches d first second)))))))
+joint_entries d first second = pcr_switches d first second ++ (table_switches d first second ++ (section_switches d first second
+    ++ (stream_works d first second ++ (transport_works d first second ++ (system_works d first second ++ (multiplexing_works d first second
+    ++ (lead_switches d first second ++ (main_switches d first second ++ elementary_switches d first second))))))))
 
 -- the conditions of a second plan after a first plan: the second plan's own conditions and, if these hold, the joint conditions
 abbrev pub switch_entries : Described → Planned → Planned → List Entry

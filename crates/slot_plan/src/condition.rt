@@ -28,6 +28,8 @@ pub enum Condition {
     MultiplexingBuffer,
     /// A unit has left the multiplexing buffer, and is in the elementary stream buffer, by its decoding time.
     ElementaryLead,
+    /// The sections of a transponder's sub-tables are 25 ms apart, also across a switch (ETSI EN 300 468, 5.1.4.1).
+    SectionDistance,
     /// PCRs recur across the switch.
     PcrSwitch,
     /// Sections recur across the switch.
@@ -43,7 +45,7 @@ pub enum Condition {
 }
 
 impl Condition {
-    /// Returns the number of the condition, 1 to 17.
+    /// Returns the number of the condition, 1 to 18.
     pub fn code(self) -> u8
         ensures { result ≡ code_of self }
     {
@@ -59,6 +61,7 @@ impl Condition {
             Condition::SystemBuffer => 9,
             Condition::MultiplexingBuffer => 10,
             Condition::ElementaryLead => 11,
+            Condition::SectionDistance => 18,
             Condition::PcrSwitch => 12,
             Condition::TableSwitch => 13,
             Condition::WorkSwitch => 14,
