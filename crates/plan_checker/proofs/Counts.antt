@@ -32,6 +32,6 @@ few_service_tables d =
       at_most_one d.has_tdt Tdt,
     )
 
--- The tables are the PAT, at most 16 PMTs, 4 tables of the service information, and at most 16 tables of the description itself.
-pub few_tables : (d : Described) → IsInRange d → table_count d ≤ 37
+-- The tables are the PAT, at most 64 PMTs, 4 tables of the service information, and at most 64 tables of the description itself.
+pub few_tables : (d : Described) → IsInRange d → table_count d ≤ 133
 few_tables d r = omega (arith, table_count-is d, few_service_tables d, r.most_programs, r.most_tables)

@@ -1,15 +1,16 @@
 -- The round of a table is not long.
-use Rattle.std.specs.Prelude.{sum_by, filter, All, cond}
-use Rattle.std.proofs.Common.{◌≡◌, ℕ, suc, ◌*◌, ◌≤◌, Bool, true, false, List, [], ◌∷◌, length, map, get_or, Option, None, Some, slice_get, refl, ap, sym, ◌∙◌}
-use Rattle.std.proofs.Common.{arith}
+use Rattle.std.specs.Prelude.{sum_by, All, if◌then◌else◌}
+use Rattle.std.proofs.Common.{◌≡◌, ℕ, ◌+◌, ◌*◌, ◌≤◌, Bool, true, false, List, [], ◌∷◌, ◌++◌, length, map, get_or, Option, None, Some, slice_get, refl, ap, sym, ◌∙◌}
+use Rattle.std.proofs.Common.{flat_map, length-append, arith}
 use Rattle.std.specs.Option.{option_to_list, unwrap_or}
-use Rattle.std.proofs.lemmas.List.Elements.{All-get_or, All-head, All-tail}
-use Rattle.std.proofs.lemmas.List.Sums.{sum_by-cons}
+use Rattle.std.proofs.lemmas.List.Elements.{All-filter, All-get_or, All-head, All-tail}
+use Rattle.std.proofs.lemmas.List.Sums.{count_by-le-length, length-filter, sum_by-append, sum_by-cons}
 use Rattle.std.proofs.lemmas.Option.{slice_get_within, unwrap_or-slice_get}
 use Rattle.description_parts.specs.Described.{Described, DescribedProgram, DescribedEvent, DescribedTable}
 use Rattle.description_parts.specs.Ranges.{IsInRange, IsProgram, IsEvent, IsBytes, IsTable}
 use Rattle.description_parts.specs.Tables.{packets_of_section, pmt_length, nit_length, service_length, longest_event, eit_length, eit_lengths, has_event}
-use Rattle.description_parts.specs.Tables.{kind_lengths, table_kind, round_packets}
+use Rattle.description_parts.specs.Tables.{kind_lengths, sdt_length, sdt_parts, scheduled_programs, table_kind, round_packets}
+use Rattle.description_parts.proofs.SdtParts.{sdt_parts_law}
 use Rattle.description_parts.specs.declared.table_kind.TableKind.{TableKind}
 use Rattle.description_parts.specs.declared.table_kind.TableKind.TheVariants.{Pat, Pmt, Nit, Sdt, Eit, Tdt, Private}
 
@@ -38,23 +39,52 @@ longest : (es : List DescribedEvent) → All IsEvent es → longest_event es ≤
 longest [] all = omega arith
 longest (e ∷ es) all = let is = All-head IsEvent e es all in omega (arith, is.name.fits, is.text.fits, longest es (All-tail IsEvent e es all))
 
-few_of_program : (p : DescribedProgram) (ps : List DescribedProgram) → IsProgram p → (b : Bool) →
-    sum_by packets_of_section (eit_lengths (filter has_event ps)) ≤ 1200 * length ps →
-    sum_by packets_of_section (eit_lengths (cond b (p ∷ filter has_event ps) (filter has_event ps))) ≤ 1200 * suc (length ps)
-few_of_program p ps is true rest =
-    let more = eit_lengths (filter has_event ps) in
+short_section : (p : DescribedProgram) → IsProgram p → packets_of_section (eit_length p) ≤ 2
+short_section p is = omega (arith, longest p.events is.events)
+
+-- The sections of the EIT are two for each program, in either order.
+few_firsts : (ps : List DescribedProgram) → All IsProgram ps → sum_by packets_of_section (map eit_length ps) ≤ 2 * length ps
+few_firsts [] all = omega arith
+few_firsts (p ∷ ps) all =
     omega (
       arith,
-      longest p.events is.events,
-      rest,
-      sum_by-cons packets_of_section (eit_length p) (eit_length p ∷ more),
-      sum_by-cons packets_of_section (eit_length p) more,
+      short_section p (All-head IsProgram p ps all),
+      few_firsts ps (All-tail IsProgram p ps all),
+      sum_by-cons packets_of_section (eit_length p) (map eit_length ps),
     )
-few_of_program p ps is false rest = omega (arith, rest)
 
-few_events : (ps : List DescribedProgram) → All IsProgram ps → sum_by packets_of_section (eit_lengths (filter has_event ps)) ≤ 1200 * length ps
-few_events [] all = omega arith
-few_events (p ∷ ps) all = few_of_program p ps (All-head IsProgram p ps all) (has_event p) (few_events ps (All-tail IsProgram p ps all))
+few_pairs : (ps : List DescribedProgram) → All IsProgram ps → sum_by packets_of_section (eit_lengths ps) ≤ 4 * length ps
+few_pairs [] all = omega arith
+few_pairs (p ∷ ps) all =
+    omega (
+      arith,
+      short_section p (All-head IsProgram p ps all),
+      few_pairs ps (All-tail IsProgram p ps all),
+      sum_by-cons packets_of_section (eit_length p) (eit_length p ∷ eit_lengths ps),
+      sum_by-cons packets_of_section (eit_length p) (eit_lengths ps),
+    )
+
+few_events : (b : Bool) (ps : List DescribedProgram) → All IsProgram ps →
+    sum_by packets_of_section (if b then map eit_length ps ++ map eit_length ps else eit_lengths ps) ≤ 4 * length ps
+few_events true ps all = omega (arith, few_firsts ps all, sum_by-append packets_of_section (map eit_length ps) (map eit_length ps))
+few_events false ps all = few_pairs ps all
+
+-- The sections of the SDT have few services each.
+few_of_parts : (pss : List (List DescribedProgram)) → All (All IsProgram) pss →
+    sum_by packets_of_section (map sdt_length pss) ≤ 2 * length pss + 2 * length (flat_map (λ ps. ps) pss)
+few_of_parts [] all = omega arith
+few_of_parts (ps ∷ pss) all =
+    omega (
+      arith,
+      few_services ps (All-head (All IsProgram) ps pss all),
+      few_of_parts pss (All-tail (All IsProgram) ps pss all),
+      sum_by-cons packets_of_section (sdt_length ps) (map sdt_length pss),
+      length-append ps (flat_map (λ (qs : List DescribedProgram). qs) pss),
+    )
+
+few_parts : (d : Described) → IsInRange d → sum_by packets_of_section (kind_lengths d Sdt) ≤ 256
+few_parts d r = let parts = sdt_parts_law d r in
+    omega (arith, few_of_parts (sdt_parts d) parts.programs, parts.most, ap (λ (ps : List DescribedProgram). length ps) parts.whole, r.most_programs)
 
 few_privates : (ss : List (List ℕ)) → All (IsBytes 4096) ss → sum_by packets_of_section (map length ss) ≤ 24 * length ss
 few_privates [] all = omega arith
@@ -71,8 +101,15 @@ few_of_kind d r Pat = omega (arith, at_most_one d.network, r.most_programs)
 few_of_kind d r (Pmt p) =
     omega (arith, few_of_option (pmt_length d) (slice_get d.programs p) (λ x e. found_at (λ q. pmt_length d q ≤ 1024) d.programs p x e r.pmt_lengths))
 few_of_kind d r Nit = omega (arith, few_of_option nit_length d.network (λ x e. All-head (λ n. nit_length n ≤ 1024) x [] (rw e at r.nit_length)))
-few_of_kind d r Sdt = omega (arith, few_services d.programs r.programs, r.most_programs)
-few_of_kind d r Eit = omega (arith, few_events d.programs r.programs, r.most_programs)
+few_of_kind d r Sdt = omega (arith, few_parts d r)
+few_of_kind d r Eit =
+    omega (
+      arith,
+      few_events d.is_transponder (scheduled_programs d) (All-filter has_event IsProgram d.programs r.programs),
+      length-filter has_event d.programs,
+      count_by-le-length has_event d.programs,
+      r.most_programs,
+    )
 few_of_kind d r Tdt = omega arith
 few_of_kind d r (Private i) = few_of_table (slice_get d.tables i) (λ t e. found_at IsTable d.tables i t e r.tables)
 

@@ -45,6 +45,7 @@ pub use gap::greatest_gap;
 pub use leads::packets_in_row;
 pub use main_buffers::{bytes_by_units, waiting_slots};
 pub use own_counts::own_count;
+pub use recurrence::clock_item;
 pub use refusal::Refusal;
 pub use slot_plan::{Condition, Relation};
 pub use spread::spread_of;

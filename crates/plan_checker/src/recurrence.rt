@@ -1,8 +1,9 @@
 //! PCRs and sections recur in time.
 
-ghost use Rattle.std.specs.Prelude.{◌∷◌, []};
-ghost use Rattle.description_parts.specs.Tables.{table_kinds};
+ghost use Rattle.std.specs.Prelude.{◌≡◌, ◌<◌, ◌∷◌, [], length};
+ghost use Rattle.description_parts.specs.Tables.{clock_of, table_kinds};
 ghost use Rattle.slot_plan.specs.Conditions.{pcr_gap_entry, table_gap_entry};
+ghost use Rattle.slot_plan.specs.declared.slot.Item.TheVariants.{Pcr};
 
 use crate::comparison::at_most;
 use crate::conditions::ItemCondition;
@@ -10,10 +11,20 @@ use crate::failure_search::FailureSearch;
 use crate::gap::greatest_gap;
 use crate::plans::ShapedPlan;
 use clock27::SLOT_MS_AT_1BPS;
-use slot_plan::{Condition, Item, ProgramDescription, TableKind};
+use slot_plan::{Condition, Description, Item, ProgramDescription, TableKind};
 use std::alloc::Allocator;
 
-/// The PCRs of each program recur within its limit.
+/// Returns the item whose slots carry the clock references of program number `i`.
+#[tactic(auto, using(slot_plan::proofs::Clocks::clock_within))]
+pub fn clock_item(description: &Description, i: usize) -> Item
+    requires { i < length description.now.programs }
+    ensures { result ≡ Pcr (clock_of description.now i) }
+{
+    description.keeps_ranges();
+    Item::Pcr(description.clock_of(i) as u8)
+}
+
+/// The PCRs of each program's clock recur within the program's limit.
 pub struct PcrGaps;
 
 impl<A: Allocator> ItemCondition<ShapedPlan<'_, A>> for PcrGaps {
@@ -28,7 +39,8 @@ impl<A: Allocator> ItemCondition<ShapedPlan<'_, A>> for PcrGaps {
     }
 
     fn check_item(plans: &ShapedPlan<'_, A>, i: usize, search: &mut FailureSearch) {
-        let gap = greatest_gap(plans.plan.slots(), Item::Pcr(i as u8), 1);
+        let clock = clock_item(plans.description, i);
+        let gap = greatest_gap(plans.plan.slots(), clock, 1);
         let limit = plans.description.programs()[i].pcr_limit();
         at_most(
             Condition::PcrGap,

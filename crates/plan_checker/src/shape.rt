@@ -1,12 +1,12 @@
 //! The shape of a plan: its period, the items that its slots name, the items that have slots, the entries of its
 //! certificate.
 
-ghost use Rattle.std.specs.Prelude.{◌≡◌, ◌+◌, ◌<◌, ◌∷◌, [], is_none, length};
-ghost use Rattle.description_parts.specs.Tables.{table_kinds};
-ghost use Rattle.slot_plan.specs.declared.slot.Item.TheVariants.{Stream as StreamItem, Pcr as PcrItem};
-ghost use Rattle.slot_plan.specs.declared.slot.Item.TheVariants.{Table as TableItem};
+ghost use Rattle.std.specs.Prelude.{◌≡◌, ◌+◌, ◌<◌, ◌∷◌, [], if◌then◌else◌, is_none, length};
+ghost use Rattle.description_parts.specs.Tables.{has_references, table_kinds};
+ghost use Rattle.slot_plan.specs.declared.slot.Item.TheVariants.{Stream as StreamItem, Table as TableItem};
 ghost use Rattle.slot_plan.specs.Entries.{first_failing};
 ghost use Rattle.slot_plan.specs.Conditions.{named_entry, length_entries, claim_entries, shape_entries, owner_entry};
+ghost use Rattle.slot_plan.specs.Conditions.{clock_owner_entries};
 ghost use Rattle.plan_checker.specs.Failing.{after, search_of};
 
 use crate::comparison::{at_most, equal_counts};
@@ -53,6 +53,18 @@ fn period<A: Allocator>(plan: &Plan<A>, search: &mut FailureSearch)
     at_most(Condition::Shape, 2, 0, slots, MAX_PERIOD, search);
 }
 
+/// Returns how many programs a slot for the clock references of that program may name: none if another program's slots
+/// carry these.
+fn clocks_named(description: &Description, number: usize) -> usize
+    ensures { result ≡ if has_references description.now number then length description.now.programs else 0 }
+{
+    if description.has_references(number) {
+        description.programs().len()
+    } else {
+        0
+    }
+}
+
 /// Each slot names an item of the description.
 struct Names;
 
@@ -70,7 +82,10 @@ impl<A: Allocator> ItemCondition<AnyPlan<'_, A>> for Names {
     fn check_item(plans: &AnyPlan<'_, A>, i: usize, search: &mut FailureSearch) {
         let (number, count) = match plans.plan.slots()[i] {
             Slot::Stream(number) => (number as u128 + 1, plans.description.streams().len()),
-            Slot::Pcr(number) => (number as u128 + 1, plans.description.programs().len()),
+            Slot::Pcr(number) => (
+                number as u128 + 1,
+                clocks_named(plans.description, number as usize),
+            ),
             Slot::Table(number) => (number as u128 + 1, plans.description.tables()),
             Slot::Null => (0, 0),
         };
@@ -113,7 +128,7 @@ impl<A: Allocator> ItemCondition<AnyPlan<'_, A>> for StreamOwners {
     }
 }
 
-/// Each program has a slot for its PCR.
+/// Each program whose slots carry clock references has a slot.
 struct ProgramOwners;
 
 impl<A: Allocator> ItemCondition<AnyPlan<'_, A>> for ProgramOwners {
@@ -121,15 +136,17 @@ impl<A: Allocator> ItemCondition<AnyPlan<'_, A>> for ProgramOwners {
 
     ghost items = { λ s. s.description.now.programs };
 
-    ghost entries = { λ s i _. owner_entry s.plan.now (length s.description.now.streams + i) (PcrItem i) ∷ [] };
+    ghost entries = { λ s i _. clock_owner_entries s.description.now s.plan.now i };
 
     fn count(plans: &AnyPlan<'_, A>) -> usize {
         plans.description.programs().len()
     }
 
     fn check_item(plans: &AnyPlan<'_, A>, i: usize, search: &mut FailureSearch) {
-        let before = plans.description.streams().len();
-        owner(plans.plan, before + i, Item::Pcr(i as u8), search);
+        if plans.description.has_references(i) {
+            let before = plans.description.streams().len();
+            owner(plans.plan, before + i, Item::Pcr(i as u8), search);
+        }
     }
 }
 
