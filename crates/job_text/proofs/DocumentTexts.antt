@@ -16,11 +16,11 @@ use Rattle.toml.specs.Text.{expressions, pairs, sections, elements}
 use Rattle.toml.specs.Tables.{Expression, array_table}
 use Rattle.toml.proofs.Lines.{after}
 use Rattle.job_text.specs.DescriptionParts.{EventPartView, FramingPartView, HeadingView, NetworkPartView, ProgramPartView, StreamPartView, TablePartView}
-use Rattle.job_text.specs.KeyLines.{with_numbers, with_hex, with_list, header, hex_line, list_line, key_line, number_lines}
+use Rattle.job_text.specs.KeyLines.{with_numbers, number_if_any, with_set, with_hex, with_list, header, hex_line, list_line, key_line, number_lines, set_line}
 use Rattle.job_text.specs.Notes.{type_note}
 use Rattle.job_text.specs.Fields.{program_numbers, burst_numbers, rest_numbers, group_numbers, time_numbers, size_numbers, pace_numbers, place_numbers}
-use Rattle.job_text.specs.Fields.{leak_numbers, limit_numbers, drain_numbers, last_numbers}
-use Rattle.job_text.specs.Documents.{document, elements_of, with_table, with_tables, event_table, network_table, program_table, stream_last, stream_drain}
+use Rattle.job_text.specs.Fields.{leak_numbers, drain_numbers, last_numbers}
+use Rattle.job_text.specs.Documents.{document, elements_of, with_table, with_tables, event_table, network_table, program_service, program_table, stream_last, stream_drain}
 use Rattle.job_text.specs.Documents.{stream_place, stream_middle, stream_rest, stream_members, stream_table, table_table}
 use Rattle.job_text.specs.Texts.{event_text, framing_if_any, heading_text, network_text, network_if_any, program_text, stream_end, stream_text, table_text}
 use Rattle.job_text.specs.Laws.{Fits, FitsEvent, FitsHeading, FitsNetwork, FitsProgram, FitsAllowance, FitsMultiplexing, FitsFrames, FitsFraming, FitsStream, FitsTable}
@@ -93,6 +93,59 @@ list_after : (key at ns : List ℕ) (more : Members) → is_lt (slice_cmp nat_cm
 list_after key at [] more first last = last
 list_after key at (n ∷ ns) more first last = first
 
+-- A number before other keys, if there is a number, is a scalar.
+any_scalars : (key : List ℕ) (n : Option ℕ) (more : Members) → key_text key ≡ key → IfSome n Fits → AreScalars more
+    → AreScalars (with_numbers (number_if_any key n) more)
+any_scalars key None more plain f h = h
+any_scalars key (Some n) more plain f h = (plain, small n f, h)
+
+any_sorted : (key : List ℕ) (n : Option ℕ) (more : Members) → is_before key more ≡ true → members_are_sorted more ≡ true
+    → members_are_sorted (with_numbers (number_if_any key n) more) ≡ true
+any_sorted key None more first sorted = sorted
+any_sorted key (Some n) more first sorted = rw (first, sorted)
+
+any_after : (key at : List ℕ) (n : Option ℕ) (more : Members) → is_lt (slice_cmp nat_cmp key at) ≡ true → is_before key more ≡ true
+    → is_before key (with_numbers (number_if_any at n) more) ≡ true
+any_after key at None more first last = last
+any_after key at (Some n) more first last = first
+
+any_lines : (key : List ℕ) (n : Option ℕ) (more : Members) → scalar_lines (with_numbers (number_if_any key n) more)
+    ≡ number_lines (number_if_any key n) ++ scalar_lines more
+any_lines key None more = refl
+any_lines key (Some n) more = simp (append_assoc, append-nil)
+
+any_pairs : (key : List ℕ) (n : Option ℕ) (some none : Members) → pairs some ≡ pairs none
+    → pairs (with_numbers (number_if_any key n) some) ≡ pairs (with_numbers (number_if_any key n) none)
+any_pairs key None some none same = same
+any_pairs key (Some n) some none same = rw same
+
+any_sections : (key : List ℕ) (n : Option ℕ) (more : Members) → sections [] (with_numbers (number_if_any key n) more) ≡ sections [] more
+any_sections key None more = refl
+any_sections key (Some n) more = refl
+
+-- A flag that is set before other keys is a scalar.
+set_scalars : (key : List ℕ) (flag : Bool) (more : Members) → key_text key ≡ key → AreScalars more → AreScalars (with_set key flag more)
+set_scalars key false more plain h = h
+set_scalars key true more plain h = (plain, tt, h)
+
+set_sorted : (key : List ℕ) (flag : Bool) (more : Members) → is_before key more ≡ true → members_are_sorted more ≡ true
+    → members_are_sorted (with_set key flag more) ≡ true
+set_sorted key false more first sorted = sorted
+set_sorted key true more first sorted = rw (first, sorted)
+
+set_after : (key at : List ℕ) (flag : Bool) (more : Members) → is_lt (slice_cmp nat_cmp key at) ≡ true → is_before key more ≡ true
+    → is_before key (with_set at flag more) ≡ true
+set_after key at false more first last = last
+set_after key at true more first last = first
+
+set_sections : (key : List ℕ) (flag : Bool) (more : Members) → sections [] (with_set key flag more) ≡ sections [] more
+set_sections key false more = refl
+set_sections key true more = refl
+
+set_lines : (key : List ℕ) (flag : Bool) (more : Members) → scalar_lines (with_set key flag more) ≡ set_line key flag ++ scalar_lines more
+set_lines key false more = refl
+set_lines key true more = refl
+
 -- The table of an event
 event_scalars : (e : EventPartView) → FitsEvent e → AreScalars (event_table e)
 unfolding key_text
@@ -132,8 +185,7 @@ program_rest : ProgramPartView → Members
 program_rest p =
     member (codes "name") (string p.name)
     (with_numbers (program_numbers p)
-    (member (codes "provider") (string p.provider)
-    (member (codes "service_type") (integer (pos p.service_type)) no_members)))
+    (with_numbers (number_if_any (codes "pcr_pid") p.pcr_pid) (program_service p)))
 
 program_scalars : (p : ProgramPartView) → FitsProgram p → AreScalars (program_table p)
 unfolding key_text program_rest
@@ -147,18 +199,24 @@ program_scalars p h =
         (
           refl,
           small p.pcr_limit h.pcr_limit,
-          (refl, small p.pcr_pid h.pcr_pid, (refl, small p.pmt_pid h.pmt_pid, (refl, tt, (refl, small p.service_type h.service_type, tt)))),
+          any_scalars (codes "pcr_pid") p.pcr_pid (program_service p) refl h.pcr_pid
+              (refl, small p.pmt_pid h.pmt_pid, (refl, tt, (refl, small p.service_type h.service_type, tt))),
         ),
       ),
     )
 
 program_sorted : (p : ProgramPartView) → members_are_sorted (program_table p) ≡ true
 unfolding program_rest
-program_sorted p = hex_sorted p.descriptors (program_rest p) refl refl
+program_sorted p =
+    hex_sorted p.descriptors (program_rest p) refl (rw (
+      any_after (codes "pcr_limit") (codes "pcr_pid") p.pcr_pid (program_service p) refl refl,
+      any_sorted (codes "pcr_pid") p.pcr_pid (program_service p) refl refl,
+    ))
 
 program_lines : (p : ProgramPartView) → element_lines (codes "program") (program_table p) ≡ program_text p
 unfolding program_rest
-program_lines p = rw (hex_lines p.descriptors (program_rest p)) (simp (append_assoc, append-nil))
+program_lines p =
+    rw (hex_lines p.descriptors (program_rest p), any_lines (codes "pcr_pid") p.pcr_pid (program_service p)) (simp (append_assoc, append-nil))
 
 -- The table of a stream
 end_scalars : (s : StreamPartView) → FitsStream s → AreScalars (with_list (codes "shared_with") s.shared_with (stream_last s))
@@ -171,7 +229,7 @@ limit_scalars None s f h = (refl, small s.rx h.rx, end_scalars s h)
 limit_scalars (Some m) s f h = (refl, small m.rbx f.0, (refl, small s.rx h.rx, end_scalars s h))
 
 drain_scalars : (m : Option MultiplexingBuffer) (l : Option ℕ) (s : StreamPartView) → FitsMultiplexing m → IfSome l Fits → FitsStream s
-    → AreScalars (with_numbers (limit_numbers l) (stream_drain m s))
+    → AreScalars (with_numbers (number_if_any (codes "pts_limit") l) (stream_drain m s))
 unfolding key_text
 drain_scalars m None s f k h = limit_scalars m s f h
 drain_scalars m (Some n) s f k h = (refl, small n k, limit_scalars m s f h)
@@ -315,14 +373,14 @@ drain_lines : (m : Option MultiplexingBuffer) (s : StreamPartView) → own_lines
 drain_lines None s = rw (own_list s (codes "shared_with") s.shared_with (stream_last s)) (simp (append_assoc, append-nil))
 drain_lines (Some m) s = rw (own_list s (codes "shared_with") s.shared_with (stream_last s)) (simp (append_assoc, append-nil))
 
-limit_lines : (m : Option MultiplexingBuffer) (l : Option ℕ) (s : StreamPartView) → own_lines s (with_numbers (limit_numbers l) (stream_drain m s))
-    ≡ number_lines (limit_numbers l) ++ own_lines s (stream_drain m s)
+limit_lines : (m : Option MultiplexingBuffer) (l : Option ℕ) (s : StreamPartView) → own_lines s (with_numbers (number_if_any (codes "pts_limit") l) (stream_drain m s))
+    ≡ number_lines (number_if_any (codes "pts_limit") l) ++ own_lines s (stream_drain m s)
 limit_lines m None s = refl
 limit_lines m (Some n) s = simp (append_assoc, append-nil)
 
 middle_lines : (a : Allowance) (m : Option MultiplexingBuffer) (l : Option ℕ) (s : StreamPartView) → own_lines s (stream_middle a m l s)
     ≡ number_lines (group_numbers a) ++ (number_lines (time_numbers s) ++ (number_lines (size_numbers m) ++ (number_lines (pace_numbers a)
-    ++ (number_lines (place_numbers s) ++ (number_lines (limit_numbers l) ++ own_lines s (stream_drain m s))))))
+    ++ (number_lines (place_numbers s) ++ (number_lines (number_if_any (codes "pts_limit") l) ++ own_lines s (stream_drain m s))))))
 middle_lines (Groups units packets) None l s = rw (limit_lines None l s) (simp (append_assoc, append-nil))
 middle_lines (Groups units packets) (Some m) l s = rw (limit_lines (Some m) l s) (simp (append_assoc, append-nil))
 middle_lines (Pace burst pace) None l s = rw (limit_lines None l s) (simp (append_assoc, append-nil))
@@ -428,24 +486,12 @@ privates_lines [] = refl
 privates_lines (t ∷ ts) = ap₂ (λ (a b : List ℕ). a ++ b) (private_lines t) (privates_lines ts)
 
 -- The heading
-heading_scalars : (h : HeadingView) → FitsHeading h → AreScalars (document h [] None [] [] [])
-unfolding key_text
-heading_scalars h f = (
-  refl,
-  small h.base0 f.base0,
-  (
-    refl,
-    small h.original_network_id f.original_network_id,
-    (refl, small h.rate f.rate, (refl, tt, (refl, tt, (refl, tt, (refl, small h.transport_stream_id f.transport_stream_id, tt))))),
-  ),
-)
+-- The document after `transponder`, its tables, its streams, its programs, its network, its events and its clock
+abbrev after_flag : HeadingView → Members
+after_flag h = member (codes "ts_id") (integer (pos h.transport_stream_id)) no_members
 
-heading_lines : (h : HeadingView) → scalar_lines (document h [] None [] [] []) ≡ heading_text h
-heading_lines h = simp (append_assoc, append-nil)
-
--- The document after its streams, its programs, its network and its events
 abbrev after_tables : HeadingView → Members
-after_tables h = member (codes "tdt") (boolean h.tdt) (member (codes "ts_id") (integer (pos h.transport_stream_id)) no_members)
+after_tables h = member (codes "tdt") (boolean h.tdt) (with_set (codes "transponder") h.transponder (after_flag h))
 
 abbrev after_streams : HeadingView → List Members → Members
 after_streams h ws = with_tables (codes "table") ws (after_tables h)
@@ -464,9 +510,29 @@ after_network h ts us ws =
 abbrev after_events : HeadingView → Option Members → List Members → List Members → List Members → Members
 after_events h n ts us ws = with_table (codes "network") n (after_network h ts us ws)
 
-whole_pairs : (h : HeadingView) (es : List Members) (n : Option Members) (ts us ws : List Members) →
-    pairs (document h es n ts us ws) ≡ pairs (document h [] None [] [] [])
-whole_pairs h es n ts us ws =
+abbrev after_clock : HeadingView → List Members → Option Members → List Members → List Members → List Members → Members
+after_clock h es n ts us ws = with_tables (codes "event") es (after_events h n ts us ws)
+
+heading_scalars : (h : HeadingView) → FitsHeading h → AreScalars (document h [] None [] [] [])
+unfolding key_text
+heading_scalars h f =
+    let last = set_scalars (codes "transponder") h.transponder (after_flag h) refl (refl, small h.transport_stream_id f.transport_stream_id, tt) in (
+      refl,
+      small h.base0 f.base0,
+      any_scalars (codes "clock_pid") h.clock_pid (after_clock h [] None [] [] []) refl f.clock_pid
+          (refl, small h.original_network_id f.original_network_id, (refl, small h.rate f.rate, (refl, tt, (refl, tt, (refl, tt, last))))),
+    )
+
+heading_lines : (h : HeadingView) → scalar_lines (document h [] None [] [] []) ≡ heading_text h
+heading_lines h =
+    rw (
+      any_lines (codes "clock_pid") h.clock_pid (after_clock h [] None [] [] []),
+      set_lines (codes "transponder") h.transponder (after_flag h),
+    ) (simp (append_assoc, append-nil))
+
+pairs_after_clock : (h : HeadingView) (es : List Members) (n : Option Members) (ts us ws : List Members) →
+    pairs (after_clock h es n ts us ws) ≡ pairs (after_clock h [] None [] [] [])
+pairs_after_clock h es n ts us ws =
     rw (
       pairs_past (codes "event") es (after_events h n ts us ws),
       pairs_past_table (codes "network") n (after_network h ts us ws),
@@ -474,6 +540,11 @@ whole_pairs h es n ts us ws =
       pairs_past (codes "stream") us (after_streams h ws),
       pairs_past (codes "table") ws (after_tables h),
     )
+
+whole_pairs : (h : HeadingView) (es : List Members) (n : Option Members) (ts us ws : List Members) →
+    pairs (document h es n ts us ws) ≡ pairs (document h [] None [] [] [])
+whole_pairs h es n ts us ws =
+    rw (any_pairs (codes "clock_pid") h.clock_pid (after_clock h es n ts us ws) (after_clock h [] None [] [] []) (pairs_after_clock h es n ts us ws))
 
 -- The arrays of tables in the document
 abbrev arrays : List Members → List Members → List Members → List Expression
@@ -499,11 +570,13 @@ whole_sections : (h : HeadingView) (es : List Members) (n : Option Members) (ts 
     sections [] (document h es n ts us ws) ≡ all_tables_of es n ts us ws
 whole_sections h es n ts us ws =
     rw (
+      any_sections (codes "clock_pid") h.clock_pid (after_clock h es n ts us ws),
       sections_with (codes "event") es (after_events h n ts us ws),
       sections_with_table (codes "network") n (after_network h ts us ws),
       sections_with (codes "program") ts (after_programs h us ws),
       sections_with (codes "stream") us (after_streams h ws),
       sections_with (codes "table") ws (after_tables h),
+      set_sections (codes "transponder") h.transponder (after_flag h),
     )
 
 begun : (es : List Expression) → 1 ≤ length es → after false es ≡ true
@@ -566,12 +639,11 @@ before_events : (other : List ℕ) (h : HeadingView) (n : Option Members) (ts us
     → is_lt (slice_cmp nat_cmp other (codes "original_network_id")) ≡ true → is_before other (after_events h n ts us ws) ≡ true
 before_events other h n ts us ws first last = before_table other (codes "network") n (after_network h ts us ws) first last
 
-document_sorted : (h : HeadingView) (es : List Members) (n : Option Members) (ts us ws : List Members) → AreTables es → IsTable n → AreTables ts →
+tables_sorted : (h : HeadingView) (es : List Members) (n : Option Members) (ts us ws : List Members) → AreTables es → IsTable n → AreTables ts →
     AreTables us → AreTables ws →
-    members_are_sorted (document h es n ts us ws) ≡ true
-document_sorted h es n ts us ws e t a b w =
+    members_are_sorted (after_clock h es n ts us ws) ≡ true
+tables_sorted h es n ts us ws e t a b w =
     rw (
-      before_tables (codes "base0") (codes "event") es (after_events h n ts us ws) refl (before_events (codes "base0") h n ts us ws refl refl),
       sorted_past (codes "event") es (after_events h n ts us ws) (before_events (codes "event") h n ts us ws refl refl) e,
       sorted_past_table (codes "network") n (after_network h ts us ws) refl t,
       before_tables (codes "original_network_id") (codes "program") ts (after_programs h us ws) refl refl,
@@ -579,6 +651,20 @@ document_sorted h es n ts us ws e t a b w =
       before_tables (codes "start") (codes "stream") us (after_streams h ws) refl (before_tables (codes "start") (codes "table") ws (after_tables h) refl refl),
       sorted_past (codes "stream") us (after_streams h ws) (before_tables (codes "stream") (codes "table") ws (after_tables h) refl refl) b,
       sorted_past (codes "table") ws (after_tables h) refl w,
+      set_after (codes "tdt") (codes "transponder") h.transponder (after_flag h) refl refl,
+      set_sorted (codes "transponder") h.transponder (after_flag h) refl refl,
+    )
+
+document_sorted : (h : HeadingView) (es : List Members) (n : Option Members) (ts us ws : List Members) → AreTables es → IsTable n → AreTables ts →
+    AreTables us → AreTables ws →
+    members_are_sorted (document h es n ts us ws) ≡ true
+document_sorted h es n ts us ws e t a b w =
+    rw (
+      any_after (codes "base0") (codes "clock_pid") h.clock_pid (after_clock h es n ts us ws) refl
+          (before_tables (codes "base0") (codes "event") es (after_events h n ts us ws) refl (before_events (codes "base0") h n ts us ws refl refl)),
+      any_sorted (codes "clock_pid") h.clock_pid (after_clock h es n ts us ws)
+          (before_tables (codes "clock_pid") (codes "event") es (after_events h n ts us ws) refl (before_events (codes "clock_pid") h n ts us ws refl refl))
+          (tables_sorted h es n ts us ws e t a b w),
     )
 
 pub texts_are_read : TextsAreRead

@@ -19,6 +19,8 @@ pub record HeadingView : Type 0 where
   pub original_network_id : ℕ
   pub sdt : Bool
   pub tdt : Bool
+  pub transponder : Bool
+  pub clock_pid : Option ℕ
 
 pub record EventPartView : Type 0 where
   pub program : ℕ
@@ -37,7 +39,7 @@ pub record NetworkPartView : Type 0 where
 pub record ProgramPartView : Type 0 where
   pub number : ℕ
   pub pmt_pid : ℕ
-  pub pcr_pid : ℕ
+  pub pcr_pid : Option ℕ
   pub pcr_limit : ℕ
   pub descriptors : List ℕ
   pub service_type : ℕ
@@ -86,6 +88,8 @@ heading_view h = record {
   original_network_id = h.original_network_id;
   sdt = h.sdt;
   tdt = h.tdt;
+  transponder = h.transponder;
+  clock_pid = h.clock_pid;
 }
 
 abbrev pub event_view : EventPart → EventPartView

@@ -5,9 +5,9 @@ use Rattle.toml.specs.Data.{string, integer, boolean, array, table, Items, no_it
 use Rattle.unit_timing.specs.declared.allowance.Allowance.{Allowance}
 use Rattle.unit_timing.specs.declared.multiplexing_buffer.MultiplexingBuffer.{MultiplexingBuffer}
 use Rattle.job_text.specs.DescriptionParts.{EventPartView, FramingPartView, HeadingView, NetworkPartView, ProgramPartView, StreamPartView, TablePartView}
-use Rattle.job_text.specs.KeyLines.{with_numbers, with_hex, with_list, digits_of}
+use Rattle.job_text.specs.KeyLines.{with_numbers, number_if_any, with_set, with_hex, with_list, digits_of}
 use Rattle.job_text.specs.Fields.{program_numbers, burst_numbers, frame_numbers, rest_numbers, group_numbers, time_numbers, size_numbers, pace_numbers}
-use Rattle.job_text.specs.Fields.{place_numbers, leak_numbers, limit_numbers, drain_numbers, last_numbers, table_numbers}
+use Rattle.job_text.specs.Fields.{place_numbers, leak_numbers, drain_numbers, last_numbers, table_numbers}
 
 -- tables as the elements of an array
 abbrev pub elements_of : List Members → Items
@@ -37,13 +37,19 @@ event_table e =
 abbrev pub network_table : NetworkPartView → Members
 network_table n = with_hex (codes "descriptors") n.descriptors (member (codes "id") (integer (pos n.id)) (member (codes "name") (string n.name) no_members))
 
+-- for a program: the keys after its clock, and all keys
+abbrev pub program_service : ProgramPartView → Members
+program_service p =
+    member (codes "pmt_pid") (integer (pos p.pmt_pid))
+    (member (codes "provider") (string p.provider)
+    (member (codes "service_type") (integer (pos p.service_type)) no_members))
+
 abbrev pub program_table : ProgramPartView → Members
 program_table p =
     with_hex (codes "descriptors") p.descriptors
     (member (codes "name") (string p.name)
     (with_numbers (program_numbers p)
-    (member (codes "provider") (string p.provider)
-    (member (codes "service_type") (integer (pos p.service_type)) no_members))))
+    (with_numbers (number_if_any (codes "pcr_pid") p.pcr_pid) (program_service p))))
 
 -- for a stream: its last keys, the keys from its PID on, after its access units, after its descriptors, and all keys
 abbrev pub stream_last : StreamPartView → Members
@@ -55,7 +61,7 @@ stream_drain m s =
     (with_numbers (drain_numbers s) (with_list (codes "shared_with") s.shared_with (stream_last s)))
 
 abbrev pub stream_place : Option MultiplexingBuffer → Option ℕ → StreamPartView → Members
-stream_place m l s = with_numbers (place_numbers s) (with_numbers (limit_numbers l) (stream_drain m s))
+stream_place m l s = with_numbers (place_numbers s) (with_numbers (number_if_any (codes "pts_limit") l) (stream_drain m s))
 
 abbrev pub stream_middle : Allowance → Option MultiplexingBuffer → Option ℕ → StreamPartView → Members
 stream_middle a m l s =
@@ -88,6 +94,7 @@ table_table t =
 abbrev pub document : HeadingView → List Members → Option Members → List Members → List Members → List Members → Members
 document h events network programs streams tables =
     member (codes "base0") (integer (pos h.base0))
+    (with_numbers (number_if_any (codes "clock_pid") h.clock_pid)
     (with_tables (codes "event") events
     (with_table (codes "network") network
     (member (codes "original_network_id") (integer (pos h.original_network_id))
@@ -98,4 +105,5 @@ document h events network programs streams tables =
     (with_tables (codes "stream") streams
     (with_tables (codes "table") tables
     (member (codes "tdt") (boolean h.tdt)
-    (member (codes "ts_id") (integer (pos h.transport_stream_id)) no_members)))))))))))
+    (with_set (codes "transponder") h.transponder
+    (member (codes "ts_id") (integer (pos h.transport_stream_id)) no_members)))))))))))))

@@ -3,19 +3,11 @@ use Rattle.std.specs.Prelude.{ℕ, List, [], ◌∷◌, Option, None, Some, code
 use Rattle.unit_timing.specs.declared.allowance.Allowance.{Allowance}
 use Rattle.unit_timing.specs.declared.allowance.Allowance.TheVariants.{Groups, Pace}
 use Rattle.unit_timing.specs.declared.multiplexing_buffer.MultiplexingBuffer.{MultiplexingBuffer}
-use Rattle.job_text.specs.DescriptionParts.{FramingPartView, HeadingView, ProgramPartView, StreamPartView, TablePartView}
+use Rattle.job_text.specs.DescriptionParts.{FramingPartView, ProgramPartView, StreamPartView, TablePartView}
 
--- the numbers of a heading, up to the array `program`
-abbrev pub first_numbers : HeadingView → List (List ℕ × ℕ)
-first_numbers h = (codes "base0", h.base0) ∷ (codes "original_network_id", h.original_network_id) ∷ []
-
--- the numbers of a program, between its name and its provider
+-- the numbers of a program, between its name and the PID of its clock references
 abbrev pub program_numbers : ProgramPartView → List (List ℕ × ℕ)
-program_numbers p =
-    (codes "number", p.number)
-    ∷ (codes "pcr_limit", p.pcr_limit)
-    ∷ (codes "pcr_pid", p.pcr_pid)
-    ∷ (codes "pmt_pid", p.pmt_pid) ∷ []
+program_numbers p = (codes "number", p.number) ∷ (codes "pcr_limit", p.pcr_limit) ∷ []
 
 -- the numbers of a stream, before its descriptors: the burst of a pace
 abbrev pub burst_numbers : Allowance → List (List ℕ × ℕ)
@@ -53,11 +45,6 @@ pace_numbers (Pace burst pace) = (codes "pace", pace) ∷ []
 -- the numbers before the programs that it is shared with: its place, and the leak rates of the multiplexing buffer and of the transport buffer
 abbrev pub place_numbers : StreamPartView → List (List ℕ × ℕ)
 place_numbers s = (codes "pid", s.pid) ∷ (codes "program", s.program) ∷ []
-
--- the limit of PTS after its program
-abbrev pub limit_numbers : Option ℕ → List (List ℕ × ℕ)
-limit_numbers None = []
-limit_numbers (Some n) = (codes "pts_limit", n) ∷ []
 
 abbrev pub leak_numbers : Option MultiplexingBuffer → List (List ℕ × ℕ)
 leak_numbers None = []

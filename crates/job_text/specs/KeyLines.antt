@@ -1,5 +1,5 @@
 -- Lines of TOML: a key, and its value.
-use Rattle.std.specs.Prelude.{ℕ, pos, ◌==◌, Bool, true, false, if◌then◌else◌, List, [], ◌∷◌, ◌++◌, length, codes, decimal}
+use Rattle.std.specs.Prelude.{ℕ, pos, ◌==◌, Bool, true, false, if◌then◌else◌, List, [], ◌∷◌, ◌++◌, length, codes, decimal, Option, None, Some}
 use Rattle.std.specs.Borrow.{Bor}
 use Rattle.std.specs.List.{flat_map}
 use Rattle.std.specs.Fmt.{signed_decimal}
@@ -46,6 +46,21 @@ number_lines fields = flat_map number_line fields
 abbrev pub with_numbers : List (List ℕ × ℕ) → Members → Members
 with_numbers [] more = more
 with_numbers (field ∷ fields) more = member field.0 (integer (pos field.1)) (with_numbers fields more)
+
+-- a number with its key, if there is a number
+abbrev pub number_if_any : List ℕ → Option ℕ → List (List ℕ × ℕ)
+number_if_any key None = []
+number_if_any key (Some n) = (key, n) ∷ []
+
+-- a flag that is set; no line if it is not
+abbrev pub set_line : List ℕ → Bool → List ℕ
+set_line key false = []
+set_line key true = key_line key (boolean true)
+
+-- the same in a table, before its other keys
+abbrev pub with_set : List ℕ → Bool → Members → Members
+with_set key false more = more
+with_set key true more = member key (boolean true) more
 
 -- bytes as pairs of hexadecimal digits; no line if there are no bytes
 unfoldable pub hex_line : List ℕ → List ℕ → List ℕ

@@ -19,6 +19,7 @@ Fits n = n < 2 ^ 63
 -- the numbers of a heading are TOML's
 pub record FitsHeading (h : HeadingView) : Type 0 where
   pub base0 : Fits h.base0
+  pub clock_pid : IfSome h.clock_pid Fits
   pub original_network_id : Fits h.original_network_id
   pub rate : Fits h.rate
   pub transport_stream_id : Fits h.transport_stream_id
@@ -37,7 +38,7 @@ FitsNetwork n = IfSome n (λ n. Fits n.id)
 pub record FitsProgram (p : ProgramPartView) : Type 0 where
   pub number : Fits p.number
   pub pcr_limit : Fits p.pcr_limit
-  pub pcr_pid : Fits p.pcr_pid
+  pub pcr_pid : IfSome p.pcr_pid Fits
   pub pmt_pid : Fits p.pmt_pid
   pub service_type : Fits p.service_type
 

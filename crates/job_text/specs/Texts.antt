@@ -3,20 +3,25 @@ use Rattle.std.specs.Prelude.{ℕ, List, [], ◌∷◌, ◌++◌, codes, Option,
 use Rattle.hex.specs.Hex.{encode_lower}
 use Rattle.toml.specs.Data.{string, boolean, array}
 use Rattle.job_text.specs.DescriptionParts.{EventPartView, FramingPartView, HeadingView, NetworkPartView, ProgramPartView, StreamPartView, TablePartView}
-use Rattle.job_text.specs.KeyLines.{key_line, noted_line, number_line, number_lines, hex_line, list_line, digits_of, table_header, header}
+use Rattle.job_text.specs.KeyLines.{key_line, noted_line, number_line, number_lines, number_if_any, set_line, hex_line, list_line, digits_of, table_header, header}
 use Rattle.job_text.specs.Notes.{type_note}
-use Rattle.job_text.specs.Fields.{first_numbers, program_numbers, burst_numbers, frame_numbers, rest_numbers, group_numbers, time_numbers, size_numbers}
-use Rattle.job_text.specs.Fields.{pace_numbers, place_numbers, leak_numbers, limit_numbers, drain_numbers, last_numbers, table_numbers}
+use Rattle.job_text.specs.Fields.{program_numbers, burst_numbers, frame_numbers, rest_numbers, group_numbers, time_numbers, size_numbers}
+use Rattle.job_text.specs.Fields.{pace_numbers, place_numbers, leak_numbers, drain_numbers, last_numbers, table_numbers}
 
--- the keys of the document itself
+-- the keys of the document itself: its numbers up to the rate, the lines after its start, and all lines
+abbrev pub heading_numbers : HeadingView → List ℕ
+heading_numbers h =
+    number_line (codes "base0", h.base0)
+    ++ (number_lines (number_if_any (codes "clock_pid") h.clock_pid)
+    ++ (number_line (codes "original_network_id", h.original_network_id) ++ number_line (codes "rate", h.rate)))
+
+abbrev pub heading_back : HeadingView → List ℕ
+heading_back h =
+    key_line (codes "tdt") (boolean h.tdt)
+    ++ (set_line (codes "transponder") h.transponder ++ number_line (codes "ts_id", h.transport_stream_id))
+
 abbrev pub heading_text : HeadingView → List ℕ
-heading_text h =
-    number_lines (first_numbers h)
-    ++ (number_line (codes "rate", h.rate)
-    ++ (key_line (codes "sdt") (boolean h.sdt)
-    ++ (key_line (codes "start") (string h.start)
-    ++ (key_line (codes "tdt") (boolean h.tdt)
-    ++ number_line (codes "ts_id", h.transport_stream_id)))))
+heading_text h = heading_numbers h ++ (key_line (codes "sdt") (boolean h.sdt) ++ (key_line (codes "start") (string h.start) ++ heading_back h))
 
 -- for an event: its first numbers, its language and name, and the lines after them
 abbrev pub event_numbers : EventPartView → List (List ℕ × ℕ)
@@ -42,16 +47,21 @@ abbrev pub network_if_any : Option NetworkPartView → List ℕ
 network_if_any None = []
 network_if_any (Some n) = network_text n
 
--- for a program: the lines up to its name, and the lines of its service after the numbers
+-- for a program: the lines up to its name, its clock and the lines after it
 abbrev pub program_front : ProgramPartView → List ℕ
 program_front p = (header (codes "program") ++ hex_line (codes "descriptors") p.descriptors) ++ key_line (codes "name") (string p.name)
 
+abbrev pub program_clock : ProgramPartView → List ℕ
+program_clock p = number_lines (program_numbers p) ++ number_lines (number_if_any (codes "pcr_pid") p.pcr_pid)
+
 abbrev pub program_service : ProgramPartView → List ℕ
-program_service p = key_line (codes "provider") (string p.provider) ++ number_line (codes "service_type", p.service_type)
+program_service p =
+    number_line (codes "pmt_pid", p.pmt_pid)
+    ++ (key_line (codes "provider") (string p.provider) ++ number_line (codes "service_type", p.service_type))
 
 -- an element of the array `program`
 abbrev pub program_text : ProgramPartView → List ℕ
-program_text p = program_front p ++ (number_lines (program_numbers p) ++ program_service p)
+program_text p = program_front p ++ (program_clock p ++ program_service p)
 
 -- the lines of access units, if a stream has several in a unit
 abbrev pub framing_text : FramingPartView → List ℕ
@@ -74,7 +84,7 @@ stream_times s = number_lines (time_numbers s) ++ (number_lines (size_numbers s.
 abbrev pub stream_place : StreamPartView → List ℕ
 stream_place s =
     number_lines (place_numbers s)
-    ++ (number_lines (limit_numbers s.pts_limit) ++ (number_lines (leak_numbers s.multiplexing) ++ number_lines (drain_numbers s)))
+    ++ (number_lines (number_if_any (codes "pts_limit") s.pts_limit) ++ (number_lines (leak_numbers s.multiplexing) ++ number_lines (drain_numbers s)))
 
 -- the line of its stream_type, with the profile and level in its headers
 abbrev pub type_line : StreamPartView → List ℕ

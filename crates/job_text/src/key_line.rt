@@ -8,6 +8,7 @@ ghost use Rattle.toml.specs.Data.{string, boolean, array};
 ghost use Rattle.job_text.specs.KeyLines.{key_line, noted_line, number_line, field_line, table_header, header, hex_line, list_line};
 ghost use Rattle.job_text.specs.Notes.{type_note};
 ghost use Rattle.job_text.specs.KeyLines.{next_number, array_line, digits_of, next_digits};
+ghost use Rattle.job_text.specs.KeyLines.{number_if_any, number_lines, set_line};
 
 use crate::measure::measure_of;
 use crate::note::{write_note, write_type_note};
@@ -84,6 +85,20 @@ pub(crate) fn write_numbers<A: Allocator>(
     Ok(())
 }
 
+/// Appends a key with its PID, and no line without a PID.
+pub(crate) fn write_pid<A: Allocator>(
+    text: &mut String<A>,
+    key: &str,
+    pid: Option<u16>,
+) -> Result<(), AllocError>
+    ensures { OnOk result (string_bytes text.new ≡ string_bytes text.old ++ number_lines (number_if_any key.now pid)) }
+{
+    match pid {
+        None => Ok(()),
+        Some(pid) => write_number(text, key, pid as u64),
+    }
+}
+
 #[tactic(auto, unfolding(crate::specs::KeyLines::key_line))]
 pub(crate) fn write_flag<A: Allocator>(
     text: &mut String<A>,
@@ -93,6 +108,21 @@ pub(crate) fn write_flag<A: Allocator>(
     ensures { OnOk result (string_bytes text.new ≡ string_bytes text.old ++ key_line key.now (boolean flag)) }
 {
     write!(text, "{key} = {flag}\n")
+}
+
+/// Appends a key with `true`, and no line if the flag is not set.
+pub(crate) fn write_set<A: Allocator>(
+    text: &mut String<A>,
+    key: &str,
+    flag: bool,
+) -> Result<(), AllocError>
+    ensures { OnOk result (string_bytes text.new ≡ string_bytes text.old ++ set_line key.now flag) }
+{
+    if flag {
+        write_flag(text, key, true)
+    } else {
+        Ok(())
+    }
 }
 
 #[tactic(auto, unfolding(crate::specs::KeyLines::key_line))]

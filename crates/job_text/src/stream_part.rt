@@ -3,8 +3,8 @@
 ghost use Rattle.std.specs.Prelude.{◌≡◌, ◌++◌, OnOk, codes, option_map, string_bytes};
 ghost use Rattle.job_text.specs.DescriptionParts.{framing_view, stream_view};
 ghost use Rattle.job_text.specs.Fields.{burst_numbers, group_numbers};
-ghost use Rattle.job_text.specs.Fields.{size_numbers, pace_numbers, leak_numbers, limit_numbers};
-ghost use Rattle.job_text.specs.KeyLines.{hex_line, number_lines};
+ghost use Rattle.job_text.specs.Fields.{size_numbers, pace_numbers, leak_numbers};
+ghost use Rattle.job_text.specs.KeyLines.{hex_line, number_if_any, number_lines};
 ghost use Rattle.job_text.specs.Texts.{framing_if_any, stream_text, stream_front, stream_times, stream_place, stream_end};
 
 use crate::framing_part::{FramingPart, write_framing};
@@ -162,7 +162,7 @@ impl StreamPart<'_> {
     // Appends the line of its limit, if it has one.
     fn write_limit<A: Allocator>(&self, text: &mut String<A>) -> Result<(), AllocError>
         ensures { OnOk result (string_bytes text.new ≡ string_bytes text.old
-            ++ number_lines (limit_numbers self.now.pts_limit)) }
+            ++ number_lines (number_if_any (codes "pts_limit") self.now.pts_limit)) }
     {
         match self.pts_limit {
             None => Ok(()),
