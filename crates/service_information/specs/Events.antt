@@ -45,14 +45,14 @@ event_in program v =
     option_and_then (λ said. option_and_then (λ start. option_and_then (λ duration. if_said (timed_event program v said start duration))
     (seconds_in v.duration)) (moment_in v.start_time)) (in_descriptors (descriptors_in v.descriptors))
 
--- 2. The events of sections, in the order of their findings, without an event that overlaps an earlier event of the same program, 256 at most; in the
+-- 2. The events of sections, in the order of their findings, without an event that overlaps an earlier event of the same program, 1,024 at most; in the
 -- order of their starts
 
 unfoldable pub overlaps : FoundEventView → FoundEventView → Bool
 overlaps e f = e.program == f.program && (nat_lt e.start (f.start + f.duration) && nat_lt f.start (e.start + e.duration))
 
 unfoldable pub is_free : List FoundEventView → FoundEventView → Bool
-is_free taken e = nat_lt (length taken) 256 && not (list_any (overlaps e) taken)
+is_free taken e = nat_lt (length taken) 1024 && not (list_any (overlaps e) taken)
 
 -- how many begin before it
 unfoldable pub place_of : List FoundEventView → FoundEventView → ℕ

@@ -18,7 +18,7 @@ use std::alloc::{AllocError, Global};
 use std::marker::Model;
 
 /// The most events that a description has.
-const MOST_EVENTS: usize = 256;
+const MOST_EVENTS: usize = 1_024;
 
 /// An event of a program, as its present and following event information says it. The texts are still coded (EN 300
 /// 468, annex A).
@@ -223,8 +223,8 @@ fn take_section<'f>(
 }
 
 /// Returns the events of programs, by their numbers: from the sections in force on PID 0x12 (table_id 0x4E) the events,
-/// in their order, that overlap no earlier event of the same program, 256 at most; in the order of their starts. An
-/// event needs a time from 1970 to 2037, a length, and a short event descriptor with a language of three letters.
+/// in their order, that overlap no earlier event of the same program, 1,024 at most; in the order of their starts.
+/// An event needs a time from 1970 to 2037, a length, and a short event descriptor with a language of three letters.
 #[tactic(auto, unfolding(crate::specs::Events::stream_events))]
 pub fn stream_events<'f>(
     alloc: Global,
