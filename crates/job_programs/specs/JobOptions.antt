@@ -5,15 +5,16 @@ use Rattle.psi_tables.specs.declared.pat.programs.Program.{Program}
 use Rattle.stream_programs.specs.Streams.{FoundStreamView}
 use Rattle.given_values.specs.GivenNames.{NetworkNameView, ServiceNameView}
 use Rattle.given_values.specs.declared.clock_base.ClockBase.{ClockBase}
+use Rattle.given_values.specs.declared.clock_sharing.ClockSharing.{ClockSharing}
 use Rattle.given_values.specs.declared.declare_by.DeclareBy.{DeclareBy}
 use Rattle.es_buffers.specs.declared.buffers.PidBuffers.{PidBuffers}
 
 -- the rate in bits a second, if one is asked for; the moment of the first slot as its characters, if it is given; limits in ms and in units
 -- of 90 kHz; how the packets of units are declared; whether DTS are made from PTS; whether a stream that can't be carried refuses the
--- input; whether a program is written without a picture or sound that can't be carried; the system clock at the begin of the run; the
--- network and the names of services that replace the stream's; the programs to take, none for all; PIDs to leave out; buffers that replace
--- the buffers by coding; whether units at which a decoder may begin are marked; PIDs whose units are aligned; and whether the parts of a
--- joined recording come one after another
+-- input; whether a program is written without a picture or sound that can't be carried; the system clock at the begin of the run; which
+-- programs share a clock; the network and the names of services that replace the stream's; the programs to take, none for all; PIDs to
+-- leave out; buffers that replace the buffers by coding; whether units at which a decoder may begin are marked; PIDs whose units are
+-- aligned; and whether the parts of a joined recording come one after another
 pub record JobOptionsView : Type 0 where
   pub rate : Option ℕ
   pub start : Option (List ℕ)
@@ -24,6 +25,7 @@ pub record JobOptionsView : Type 0 where
   pub strict : Bool
   pub lenient : Bool
   pub base : ClockBase
+  pub clock : ClockSharing
   pub network : Option NetworkNameView
   pub names : List ServiceNameView
   pub programs : List ℕ

@@ -85,9 +85,9 @@ unfoldable pub tables_on : List ℕ → ℕ → List FindingView → List JobPro
 tables_on without count findings programs streams e =
     if can_take without programs e then table_if streams e (steady_sections count e.pid findings) else []
 
--- the first 16 of all, as many as a description has
+-- the first 64 of all, as many as a description has
 unfoldable pub job_tables : List ℕ → ℕ → List FindingView → List JobProgramView → List WireStreamView → List FoundStreamView → List JobTableView
-job_tables without count findings programs streams entries = take 16 (flat_map (tables_on without count findings programs streams) entries)
+job_tables without count findings programs streams entries = take 64 (flat_map (tables_on without count findings programs streams) entries)
 
 -- 3. Warnings that tables make void
 

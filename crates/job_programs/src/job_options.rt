@@ -4,7 +4,7 @@ ghost use Rattle.std.specs.Prelude.{◌≡◌};
 ghost use Rattle.job_programs.specs.JobOptions.{is_among, is_selected_program};
 
 use es_buffers::PidBuffers;
-use given_values::{ClockBase, DeclareBy, NetworkName, ServiceName};
+use given_values::{ClockBase, ClockSharing, DeclareBy, NetworkName, ServiceName};
 use psi_tables::Program;
 use std::marker::Model;
 
@@ -30,6 +30,8 @@ pub struct JobOptions<'a> {
     pub lenient: bool,
     /// What the system clock shows as the run begins.
     pub base: ClockBase,
+    /// Which programs share a clock.
+    pub clock: ClockSharing,
     /// The network, in place of the stream's network.
     pub network: Option<NetworkName<'a>>,
     /// Names of services in place of the stream's names.
@@ -66,6 +68,7 @@ impl<'a> Model for JobOptions<'a> {
       strict = o.strict;
       lenient = o.lenient;
       base = o.base;
+      clock = o.clock;
       network = option_map network_name_view o.network;
       names = o.names.now;
       programs = o.programs.now;

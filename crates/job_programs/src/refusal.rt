@@ -76,9 +76,9 @@ pub enum JobRefusal {
         pid: u16,
         id: u8,
     },
-    /// A description has at most 16 programs.
+    /// A description has at most 64 programs.
     Programs(usize),
-    /// A description has at most 32 streams.
+    /// A description has at most 254 streams.
     Streams(usize),
     /// The PES packets of a PID have no PTS.
     NoStamps(u16),
