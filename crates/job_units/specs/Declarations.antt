@@ -47,8 +47,8 @@ use Rattle.job_units.specs.FrameRests.{least_rest}
 unfoldable pub too_many : ℕ → ℕ → Option JobRefusal
 too_many programs streams =
     if streams == 0 then Some refusals.NoStream
-    else (if nat_lt 16 programs then Some (refusals.Programs programs)
-    else (if nat_lt 32 streams then Some (refusals.Streams streams) else None))
+    else (if nat_lt 64 programs then Some (refusals.Programs programs)
+    else (if nat_lt 254 streams then Some (refusals.Streams streams) else None))
 
 -- the first stream of more units than a multiplexer may hold
 unfoldable pub is_too_long : TimedStreamView → Bool

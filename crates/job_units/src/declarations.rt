@@ -17,9 +17,9 @@ use stream_coding::{Coding, coding_of};
 use unit_timing::multiplexing_buffer::MultiplexingBuffer;
 
 /// The greatest number of programs, and of streams, in a description.
-const MAX_PROGRAMS: usize = 16;
+const MAX_PROGRAMS: usize = 64;
 
-const MAX_STREAMS: usize = 32;
+const MAX_STREAMS: usize = 254;
 
 /// The greatest number of units in a stream of a job.
 const MAX_UNITS: usize = 1_048_576;
@@ -64,7 +64,7 @@ impl Model for UnitCounts {
 #[tactic(auto, unfolding(crate::specs::Declarations::too_many))]
 pub fn too_many(programs: usize, streams: usize) -> Option<JobRefusal>
     ensures value { result ≡ spec.too_many programs streams }
-    ensures bound { IfNone result (streams ≤ 32) }
+    ensures bound { IfNone result (streams ≤ 254) }
 {
     if streams == 0 {
         Some(JobRefusal::NoStream)
