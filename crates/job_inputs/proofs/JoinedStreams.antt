@@ -71,15 +71,15 @@ fits_with r [] all = All-nil FitsQueue
 fits_with r (s ∷ ss) all =
     All-cons FitsQueue (stream_with r s) (map (stream_with r) ss) (All-head FitsQueue s ss all) (fits_with r ss (All-tail FitsQueue s ss all))
 
-few : (programs streams : ℕ) → too_many programs streams ≡ None → streams ≤ 32
+few : (programs streams : ℕ) → too_many programs streams ≡ None → streams ≤ 254
 unfolding too_many
 few programs streams is = elim (cases_Bool (streams == 0)) [
   | inl nothing ↦ absurd (let no : ⊥ = (let e : Some refusals.NoStream ≡ None = rw nothing at is in cc) in no)
-  | inr some ↦ elim (cases_Bool (nat_lt 16 programs)) [
+  | inr some ↦ elim (cases_Bool (nat_lt 64 programs)) [
     | inl many ↦ absurd (let no : ⊥ = (let e : Some (refusals.Programs programs) ≡ None = rw (some, many) at is in cc) in no)
-    | inr less ↦ elim (cases_Bool (nat_lt 32 streams)) [
+    | inr less ↦ elim (cases_Bool (nat_lt 254 streams)) [
       | inl over ↦ absurd (let no : ⊥ = (let e : Some (refusals.Streams streams) ≡ None = rw (some, less, over) at is in cc) in no)
-      | inr within ↦ let most = leb-false 33 streams within in omega (arith, most)
+      | inr within ↦ let most = leb-false 255 streams within in omega (arith, most)
     ]
   ]
 ]
@@ -90,7 +90,7 @@ pub record IsNext (number : ℕ) (j : JoinedInputsView) (m : JobInputView) (more
   pub numbers : RenumberingView
   pub input_is : numbers.input ≡ number
   pub is : with_renumbered j m numbers ≡ more
-  pub stream_count : length more.input.streams ≤ 32
+  pub stream_count : length more.input.streams ≤ 254
 
 pub next_of : (number : ℕ) (j : JoinedInputsView) (m : JobInputView) (more : JoinedInputsView) → with_input number j m ≡ Ok more → IsNext number j m more
 unfolding with_input within_limits
@@ -103,7 +103,7 @@ next_of number j m more is =
       numbers = made.value;
       input_is = its_input number j.input m made.value (some_of (renumbering_of number j.input m) made.value refusals.Pids made.first_is);
       is = same;
-      stream_count = subst (λ (x : JoinedInputsView). length x.input.streams ≤ 32) same
+      stream_count = subst (λ (x : JoinedInputsView). length x.input.streams ≤ 254) same
           (few (length all.input.programs) (length all.input.streams) (not_against against (Ok all) more made.last_is));
     }
 
@@ -185,9 +185,9 @@ all_fit made inputs number j (m ∷ ms) all is so_far of =
     (subst (λ (x : JoinedInputsView). All FitsQueue x.input.streams) next.is (renumbered_fits j m next.numbers so_far of.0.fits)) of.1
 
 all_few : (number : ℕ) (j : JoinedInputsView) (ms : List JobInputView) (all : JoinedInputsView) → with_inputs number j ms ≡ Ok all →
-    length j.input.streams ≤ 32 → length all.input.streams ≤ 32
+    length j.input.streams ≤ 254 → length all.input.streams ≤ 254
 unfolding with_inputs
-all_few number j [] all is so_far = subst (λ (x : JoinedInputsView). length x.input.streams ≤ 32) (same_value j all is) so_far
+all_few number j [] all is so_far = subst (λ (x : JoinedInputsView). length x.input.streams ≤ 254) (same_value j all is) so_far
 all_few number j (m ∷ ms) all is so_far =
     let step = comes (λ more. with_inputs (number + 1) more ms) (with_input number j m) all is in
     all_few (number + 1) step.value ms all step.last_is (next_of number j m step.value step.first_is).stream_count
@@ -196,7 +196,7 @@ first_fits : (m : JobInputView) → All FitsQueue m.streams → All FitsQueue (f
 unfolding first_input
 first_fits m fits = fits
 
-first_few : (m : JobInputView) → length m.streams ≤ 32 → length (first_input m).input.streams ≤ 32
+first_few : (m : JobInputView) → length m.streams ≤ 254 → length (first_input m).input.streams ≤ 254
 unfolding first_input
 first_few m few = few
 
@@ -257,6 +257,6 @@ constants_answered made inputs constant first more (Ok j) is all = constants_kep
 constants_answered made inputs constant first more (Err error) is all = tt
 
 pub few_answered : (first : JobInputView) (more : List JobInputView) (r : Result JoinedInputsView JobError) →
-    IfOk r (λ j. joined_inputs first more ≡ Ok j) → length first.streams ≤ 32 → IfOk r (λ j. length j.input.streams ≤ 32)
+    IfOk r (λ j. joined_inputs first more ≡ Ok j) → length first.streams ≤ 254 → IfOk r (λ j. length j.input.streams ≤ 254)
 few_answered first more (Ok j) is few_streams = all_few 1 (first_input first) more j is (first_few first few_streams)
 few_answered first more (Err error) is few_streams = tt

@@ -50,7 +50,7 @@ pub record JobInputView : Type 0 where
 pub record AreStreams (made : Bool) (findings : List FindingView) (input : JobInputView) : Type 0 where
   pub moved : All (IsMoved made findings) input.streams
   pub fits : All FitsQueue input.streams
-  pub stream_count : length input.streams ≤ 32
+  pub stream_count : length input.streams ≤ 254
 
 -- a stream of this PID is carried
 abbrev pub has_stream : JobInputView → ℕ → Bool

@@ -37,7 +37,7 @@ pub record JoinedInputsView : Type 0 where
 
 -- a description has as many events at most
 abbrev pub most_events : ℕ
-most_events = 256
+most_events = 1024
 
 -- the information of the first input; for programs, a service description table and the events of both inputs, up to the greatest number
 unfoldable pub information_joined : JobInformationView → JobInformationView → JobInformationView
@@ -162,7 +162,7 @@ AreMadeOf made inputs number (m ∷ ms) = AreStreams made (findings_in inputs nu
 pub record AreStreamsIn (made : Bool) (inputs : List (List FindingView)) (j : JoinedInputsView) : Type 0 where
   pub found : AllZip (IsFoundIn made inputs) j.origins j.input.streams
   pub fits : All FitsQueue j.input.streams
-  pub stream_count : length j.input.streams ≤ 32
+  pub stream_count : length j.input.streams ≤ 254
 
 -- the streams of joined inputs have such units
 abbrev pub JoinedAreStreams : Type 0

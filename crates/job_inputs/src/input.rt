@@ -97,7 +97,7 @@ fn with_moved(
         warnings.items streams.items) result }
     ensures same { IfOk result (λ i. i.streams ≡ streams.items) }
     ensures fits { IfOk result (λ i. All FitsQueue i.streams) }
-    ensures stream_count { IfOk result (λ i. length i.streams ≤ 32) }
+    ensures stream_count { IfOk result (λ i. length i.streams ≤ 254) }
 {
     if let Some(refusal) = too_many(programs.len(), streams.len()) {
         return Err(JobError::Refused(refusal));

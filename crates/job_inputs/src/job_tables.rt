@@ -197,7 +197,7 @@ pub(crate) fn job_tables(
         programs.now streams.now entries.now) }
 {
     let mut tables = all_tables(alloc, without, count, findings, programs, streams, entries)?;
-    tables.truncate(16);
+    tables.truncate(64);
     Ok(tables)
 }
 

@@ -24,7 +24,7 @@ use std::collections::VecDeque;
 use std::marker::Model;
 
 /// The most events of a description.
-const MOST_EVENTS: usize = 256;
+const MOST_EVENTS: usize = 1_024;
 
 /// Where a stream of a job was found: the number of an input, from 0 on, its PID there, and the clock of its stamps
 /// there.
@@ -350,7 +350,7 @@ pub fn join_inputs(
     more: Vec<JobInput>,
 ) -> Result<JoinedInputs, JobError>
     ensures value { Answers (spec.joined_inputs first more.items) result }
-    ensures few { length first.streams ≤ 32 → IfOk result (λ j. length j.input.streams ≤ 32) }
+    ensures few { length first.streams ≤ 254 → IfOk result (λ j. length j.input.streams ≤ 254) }
     ensures streams { (made : Bool) (inputs : List (List FindingView)) → AreMadeOf made inputs 0 (first ∷ more.items) →
         IfOk result (AreStreamsIn made inputs) }
     ensures constants { (made : Bool) (inputs : List (List FindingView)) (constant : ℕ → ProgramClock → ℕ) →
