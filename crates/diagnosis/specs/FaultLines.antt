@@ -34,20 +34,20 @@ row_line (Some place) textless row item = row_words (Some place) ++ (table_words
 unfoldable pub key_line : List (List ℕ) → KeyRow → ℕ → List ℕ
 key_line lines row item = row_line (row_of row.part item row.name lines) (length lines == 0) row item
 
--- the tables of an array, by the key of the array
-abbrev pub most_words : ℕ → List ℕ → List ℕ
-most_words most name = codes "expected at most " ++ decimal most ++ codes " [[" ++ name ++ codes "]] tables\n"
+-- the tables of an array, by the key of the array: how many it may have, and the end of the line with the number for a transponder
+abbrev pub most_words : ℕ → ℕ → List ℕ
+most_words least most = if least == 0 then codes "expected at most " ++ decimal most else codes "expected " ++ (decimal least ++ (codes " to " ++ decimal most))
 
-abbrev pub some_words : ℕ → ℕ → List ℕ → List ℕ
-some_words least most name = codes "expected " ++ decimal least ++ codes " to " ++ decimal most ++ codes " [[" ++ name ++ codes "]] tables\n"
+abbrev pub more_words : ℕ → List ℕ → List ℕ
+more_words more name = codes " [[" ++ (name ++ (codes "]] tables, with transponder = true up to " ++ (decimal more ++ codes "\n")))
 
-abbrev pub tables_words : ℕ → ℕ → List ℕ → List ℕ
-tables_words least most name = if least == 0 then most_words most name else some_words least most name
+abbrev pub tables_words : ℕ → ℕ → ℕ → List ℕ → List ℕ
+tables_words least most more name = most_words least most ++ more_words more name
 
 -- the network, an array, or another key
 unfoldable pub kind_line_by : KeyKind → List (List ℕ) → KeyRow → ℕ → List ℕ
 kind_line_by kind.OneTable lines row item = rule_words row
-kind_line_by (kind.Tables least most) lines row item = tables_words least most row.name
+kind_line_by (kind.Tables least most more) lines row item = tables_words least most more row.name
 kind_line_by other lines row item = key_line lines row item
 
 unfoldable pub kind_line : List (List ℕ) → KeyRow → ℕ → List ℕ

@@ -66,29 +66,39 @@ fn write_key(lines: &[&str], row: &KeyRow, item: usize, text: &mut String) -> Re
     }
 }
 
-// Appends that an array of tables has too many tables.
-fn write_most(most: usize, name: &str, text: &mut String) -> Result<(), AllocError>
-    ensures { OnOk result (string_bytes text.new ≡ string_bytes text.old ++ spec.most_words most name.now) }
+// Appends how many tables an array may have.
+fn write_most(least: usize, most: usize, text: &mut String) -> Result<(), AllocError>
+    ensures { OnOk result (string_bytes text.new ≡ string_bytes text.old ++ spec.most_words least most) }
 {
-    write!(text, "expected at most {most} [[{name}]] tables\n")
+    if least == 0 {
+        write!(text, "expected at most {most}")
+    } else {
+        write!(text, "expected {least} to {most}")
+    }
 }
 
-// Appends that an array of tables has too few or too many tables.
-fn write_some(least: usize, most: usize, name: &str, text: &mut String) -> Result<(), AllocError>
-    ensures { OnOk result (string_bytes text.new ≡ string_bytes text.old ++ spec.some_words least most name.now) }
+// Appends the end of the line: the key of the array, and how many tables a transponder may have.
+fn write_more(more: usize, name: &str, text: &mut String) -> Result<(), AllocError>
+    ensures { OnOk result (string_bytes text.new ≡ string_bytes text.old ++ spec.more_words more name.now) }
 {
-    write!(text, "expected {least} to {most} [[{name}]] tables\n")
+    write!(
+        text,
+        " [[{name}]] tables, with transponder = true up to {more}\n"
+    )
 }
 
 // Appends how many tables of an array are expected.
-fn write_tables(least: usize, most: usize, name: &str, text: &mut String) -> Result<(), AllocError>
-    ensures { OnOk result (string_bytes text.new ≡ string_bytes text.old ++ spec.tables_words least most name.now) }
+fn write_tables(
+    least: usize,
+    most: usize,
+    more: usize,
+    name: &str,
+    text: &mut String,
+) -> Result<(), AllocError>
+    ensures { OnOk result (string_bytes text.new ≡ string_bytes text.old ++ spec.tables_words least most more name.now) }
 {
-    if least == 0 {
-        write_most(most, name, text)
-    } else {
-        write_some(least, most, name, text)
-    }
+    write_most(least, most, text)?;
+    write_more(more, name, text)
 }
 
 // Appends the line of a key's row, of the table with a number in its array.
@@ -104,7 +114,7 @@ fn write_kind(
 {
     match row.3 {
         KeyKind::OneTable => write_rule(row, text),
-        KeyKind::Tables(least, most) => write_tables(least, most, row.2, text),
+        KeyKind::Tables(least, most, more) => write_tables(least, most, more, row.2, text),
         _ => write_key(lines, row, item, text),
     }
 }
