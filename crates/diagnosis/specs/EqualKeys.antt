@@ -27,7 +27,9 @@ key_value key line = if has_key key line then after_equals (unindented (drop (le
 -- 2. The lines of keys that may not be equal
 
 unfoldable pub value_on : EqualKeys → List ℕ → Option (List ℕ)
-value_on Pids line = option_or (option_or (key_value (codes "pmt_pid") line) (key_value (codes "pcr_pid") line)) (key_value (codes "pid") line)
+value_on Pids line =
+    option_or (option_or (option_or (key_value (codes "clock_pid") line) (key_value (codes "pmt_pid") line)) (key_value (codes "pcr_pid") line))
+    (key_value (codes "pid") line)
 value_on Numbers line = key_value (codes "number") line
 
 abbrev pub is_value : List ℕ → Option (List ℕ) → Bool

@@ -9,7 +9,7 @@ use std::alloc::AllocError;
 /// Keys whose values may not be equal.
 #[derive(Clone, Copy)]
 pub enum EqualKeys {
-    /// `pmt_pid`, `pcr_pid` and `pid`.
+    /// `clock_pid`, `pmt_pid`, `pcr_pid` and `pid`.
     Pids,
     /// `number` of programs.
     Numbers,
@@ -63,7 +63,8 @@ fn value_on(keys: EqualKeys, line: &str) -> Option<&[u8]>
 {
     let line = line.as_bytes();
     match keys {
-        EqualKeys::Pids => key_value(b"pmt_pid", line)
+        EqualKeys::Pids => key_value(b"clock_pid", line)
+            .or(key_value(b"pmt_pid", line))
             .or(key_value(b"pcr_pid", line))
             .or(key_value(b"pid", line)),
         EqualKeys::Numbers => key_value(b"number", line),
