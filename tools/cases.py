@@ -87,7 +87,7 @@ def part(folder, word, rest, program):
     if word == "file":
         return bytes_of(folder / rest, program)
     if word == "changed":
-        return changed(folder, rest)
+        return changed(folder, rest, program)
     if word == "hex":
         return joined(rest)
     if word == "packet":
@@ -126,11 +126,11 @@ def lines(text):
     return text.replace("\\n", "\n").replace("\\r", "\r")
 
 
-def changed(folder, rest):
+def changed(folder, rest, program):
     """A file with one place changed: FILE: OLD -> NEW."""
     name, _, change = rest.partition(": ")
     old, _, new = (lines(text).encode() for text in change.partition(" -> "))
-    data = (folder / name).read_bytes()
+    data = bytes_of(folder / name, program)
     if data.count(old) != 1:
         raise ValueError(f"{old.decode()} does not stand in {name} once")
     return data.replace(old, new)
