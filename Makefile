@@ -144,6 +144,7 @@ bench: binary tsjob tsair tsview ## Measure speed and how full a multiplex can b
 	python3 bench/check.py
 	python3 bench/measure.py
 	python3 bench/plan.py $(BINARY) 40
+	python3 bench/transponders.py $(BINARY) 20
 
 clean: ## Remove everything that was built.
 	rm -rf out crates/*/out

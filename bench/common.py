@@ -282,8 +282,21 @@ def audio_rate(streams):
     return 330_000 * streams + 100_000
 
 
+def transponder_service(streams):
+    """The description of 64 services on one clock with so many of these streams between them, with all tables."""
+    top, _, event = PROGRAM.partition("[[program]]")
+    event = event[event.index("[[event]]"):]
+    text = f"rate = {audio_rate(streams)}\ntransponder = true\nclock_pid = 257\n" + top
+    for p in range(64):
+        text += f'[[program]]\nnumber = {p + 1}\npmt_pid = {4096 + p}\nname = "Service {p + 1}"\n' + event.replace("program = 1", f"program = {p + 1}")
+    return text + "".join(STREAM.replace("program = 1", f"program = {k % 64 + 1}").format(pid=300 + k, id=192 + k // 64) for k in range(streams))
+
+
 def audio_service(streams):
-    """The description of a service of so many streams of MPEG audio, with all tables: a unit of 576 bytes each 24 ms, in 4 packets."""
+    """The description of a service of so many streams of MPEG audio, of more than 32 of a transponder, with all tables: a unit of 576 bytes each
+    24 ms, in 4 packets."""
+    if streams > 32:
+        return transponder_service(streams)
     parts = [STREAM.format(pid=300 + k, id=192 + k) for k in range(streams)]
     return f"rate = {audio_rate(streams)}\n" + PROGRAM + "".join(parts)
 

@@ -1,6 +1,6 @@
 #!/usr/bin/env python3
 """instructions.py TSMUX PROGRAM..: the instructions that programs take for a packet, of tsmux and of those of tsjob, tsair, tsremux and
-tsview that are given, on streams of 1 and of 32 streams of audio and of television, with all tables. From those for about 16 MB of packets
+tsview that are given, on 1, 32 and 254 streams of audio and on television, with all tables. From those for about 16 MB of packets
 those for about 8 MB are taken away, so that what a program does once does not count. It needs valgrind."""
 
 import re
@@ -12,7 +12,7 @@ from pathlib import Path
 from common import audio_job, television_job
 
 SIZES = (8_000_000, 16_000_000)
-STREAMS = ("1 stream", "32 streams", "television")
+STREAMS = ("1 stream", "32 streams", "254 streams", "television")
 tsmux, *others = sys.argv[1:]
 
 

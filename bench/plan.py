@@ -102,10 +102,10 @@ PRIVATE = [(dict(pid=7000, limit=2000), [section(0x74, bytes(200))]),
 
 def text(made, rate, ample):
     lines = [f'rate = {rate}', 'start = "2026-03-29T00:59:50"', 'ts_id = 1', 'original_network_id = 1', 'sdt = true', 'tdt = true',
-             '[network]', 'id = 1', 'name = "Net"']
+             *made.get("top", []), '[network]', 'id = 1', 'name = "Net"']
     for p, limit in enumerate(pcr_limits(made)):
-        lines += ['[[program]]', f'number = {p + 1}', f'pmt_pid = {200 + p}', f'pcr_pid = {300 + p}', f'name = "Service {p + 1}"',
-                  f'pcr_limit = {limit}']
+        lines += ['[[program]]', f'number = {p + 1}', f'pmt_pid = {200 + p}', f'name = "Service {p + 1}"', f'pcr_limit = {limit}']
+        lines += [] if p in made.get("shared", ()) else [f'pcr_pid = {300 + p}']
     for k, s in enumerate(made["streams"]):
         main = s["main"] if ample else s.get("tight", s["main"])
         lines += ['[[stream]]', f'program = {s["program"]}', f'pid = {1000 + k}', f'id = {s["id"]}', f'type = {s["type"]}',
@@ -128,13 +128,31 @@ def pcr_limits(made):
     return made.get("pcr_limits", [40] * made["programs"])
 
 
+def clock_limits(made):
+    """In ms, of each clock: of a shared one the least of its programs."""
+    shared = made.get("shared", ())
+    limits = pcr_limits(made)
+    return [limit for p, limit in enumerate(limits) if p not in shared] + ([min(limits[p] for p in shared)] if shared else [])
+
+
+def sdt_lengths(programs):
+    """Of the SDT's sections, each with as many services as 1,009 bytes hold."""
+    lengths = [15]
+    for p in range(programs):
+        size = 10 + len(f"Service {p + 1}")
+        if lengths[-1] + size > 15 + 1009:
+            lengths.append(15)
+        lengths[-1] += size
+    return lengths
+
+
 def tables(made):
     """Limit in ms and places in a round of each table, by the greatest lengths of the sections."""
     programs = made["programs"]
     found = [(LIMITS["PAT"], [12 + 4 * (programs + 1)])]
     for p in range(programs):
         found.append((LIMITS["PMT"], [16 + 5 * sum(s["program"] == p + 1 for s in made["streams"])]))
-    found += [(LIMITS["NIT"], [27]), (LIMITS["SDT"], [15 + sum(10 + len(f"Service {p + 1}") for p in range(programs))])]
+    found += [(LIMITS["NIT"], [27]), (LIMITS["SDT"], sdt_lengths(programs))]
     if made["events"]:
         one = 18 + 12 + 5 + 1 + len("News of the hour") + 1 + len("What happened")
         found.append((LIMITS["EIT"], [one, one] * programs))
@@ -146,7 +164,7 @@ def tables(made):
 def load(made, rate):
     """The least share of slots, or None where a limit is shorter than its slots."""
     total = sum(Fraction(s["packets"] * SLOT, s["group"] * s["interval"] * rate) for s in made["streams"])
-    for limit, k in [(limit, 1) for limit in pcr_limits(made)] + tables(made):
+    for limit, k in [(limit, 1) for limit in clock_limits(made)] + tables(made):
         gap = limit * rate // 1_504_000
         if gap < k:
             return None
