@@ -1,5 +1,5 @@
 -- A small service and its plan, for examples of conditions.
-use Rattle.std.specs.Prelude.{ℕ, true, List, [], ◌∷◌, ◌++◌, None, Some, codes}
+use Rattle.std.specs.Prelude.{ℕ, true, false, List, [], ◌∷◌, ◌++◌, None, Some, codes}
 use Rattle.unit_timing.specs.declared.allowance.Allowance.TheVariants.{Groups}
 use Rattle.description_parts.specs.Described.{Described, DescribedStream}
 use Rattle.slot_plan.specs.declared.slot.Slot.{Slot}
