@@ -30,6 +30,7 @@ pub mod own_positions;
 mod plans;
 mod recurrence;
 mod refusal;
+pub mod section_distances;
 mod shape;
 mod spread;
 mod stream_slots;

@@ -12,11 +12,12 @@ use crate::leads::{ElementaryLeads, StreamLeads};
 use crate::main_buffers::MainBuffers;
 use crate::plans::ShapedPlan;
 use crate::recurrence::{PcrGaps, TableGaps};
+use crate::section_distances::SectionDistances;
 use crate::stream_slots::{Spreads, StreamRates};
 use slot_plan::{Description, Plan};
 use std::alloc::Allocator;
 
-/// Codes 2 to 11.
+/// Codes 2 to 11, and code 18.
 pub fn timing<A: Allocator>(description: &Description, plan: &Plan<A>, search: &mut FailureSearch)
     requires shaped { IsShaped description.now plan.now }
     ensures { search_of search.new ≡ after (search_of search.old) (timing_entries description.now plan.now) }
@@ -33,4 +34,5 @@ pub fn timing<A: Allocator>(description: &Description, plan: &Plan<A>, search: &
     check_each::<SystemBuffers, _>(plans, search);
     check_each::<MultiplexingBuffers, _>(plans, search);
     check_each::<ElementaryLeads, _>(plans, search);
+    check_each::<SectionDistances, _>(plans, search);
 }
