@@ -14,6 +14,7 @@ mod leads;
 mod main_buffers;
 mod plan_pair;
 mod recurrence;
+mod section_switches;
 mod shares;
 mod succession;
 mod work;

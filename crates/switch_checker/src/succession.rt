@@ -12,6 +12,7 @@ use crate::leads::{ElementarySwitches, LeadSwitches};
 use crate::main_buffers::MainSwitches;
 use crate::plan_pair::PlanPair;
 use crate::recurrence::{PcrSwitches, TableSwitches};
+use crate::section_switches::SectionSwitches;
 use crate::work::{MultiplexingWorks, StreamWorks, SystemWorks, TransportWorks};
 use plan_checker::checking::first_failing;
 use plan_checker::conditions::check_each;
@@ -20,7 +21,8 @@ use plan_checker::{CheckedPlan, Refusal};
 use slot_plan::{Description, Plan};
 use std::alloc::Allocator;
 
-/// Returns the first of the conditions of two plans together, codes 12 to 17, that they do not keep.
+/// Returns the first of the conditions of two plans together, codes 12 to 17, and code 18 after 13, that they do not
+/// keep.
 fn joint<A: Allocator>(
     description: &Description,
     first: &Plan<A>,
@@ -40,6 +42,7 @@ fn joint<A: Allocator>(
     let mut search = FailureSearch::new(0, 1);
     check_each::<PcrSwitches, _>(plans, &mut search);
     check_each::<TableSwitches, _>(plans, &mut search);
+    check_each::<SectionSwitches, _>(plans, &mut search);
     check_each::<StreamWorks, _>(plans, &mut search);
     check_each::<TransportWorks, _>(plans, &mut search);
     check_each::<SystemWorks, _>(plans, &mut search);
