@@ -3,15 +3,15 @@
 use Rattle.std.specs.Prelude.{ℕ, ◌+◌, ◌-◌, ◌*◌, ◌/◌, ◌==◌, max, List, [], ◌++◌, length, Option, Some, None, codes, decimal, nat_lt, slice_get, if◌then◌else◌}
 use Rattle.std.specs.Int.{div_ceil}
 use Rattle.std.specs.List.{flat_map}
-use Rattle.clock27.specs.Units.{slot_seconds_at_1bps}
+use Rattle.clock27.specs.Units.{slot_ms_at_1bps, slot_seconds_at_1bps}
 use Rattle.unit_timing.specs.Allowances.{steady_time}
 use Rattle.description_parts.specs.Described.{Described, DescribedProgram, DescribedStream}
 use Rattle.slot_plan.specs.Entries.{Entry, code_of}
 use Rattle.slot_plan.specs.Planned.{Planned}
 use Rattle.slot_plan.specs.declared.condition.Condition.{Condition}
 use Rattle.slot_plan.specs.declared.condition.Condition.TheVariants.{Shape, PcrGap, TableGap, Spread, StreamRate, TransportBuffer, StreamLead, MainBuffer}
-use Rattle.slot_plan.specs.declared.condition.Condition.TheVariants.{SystemBuffer, MultiplexingBuffer, ElementaryLead, PcrSwitch, TableSwitch, WorkSwitch}
-use Rattle.slot_plan.specs.declared.condition.Condition.TheVariants.{LeadSwitch, MainSwitch, ElementarySwitch}
+use Rattle.slot_plan.specs.declared.condition.Condition.TheVariants.{SystemBuffer, MultiplexingBuffer, ElementaryLead, SectionDistance, PcrSwitch, TableSwitch}
+use Rattle.slot_plan.specs.declared.condition.Condition.TheVariants.{WorkSwitch, LeadSwitch, MainSwitch, ElementarySwitch}
 use Rattle.plan_checker.specs.Failing.{failing}
 use Rattle.plan_diagnosis.specs.ItemNames.{name_of_stream, program_name, stream_name, table_name}
 use Rattle.plan_diagnosis.specs.ReasonLines.{greatest_lead, key_of, key_words, least_words, pcr_words, steady_cause, stream_line}
@@ -65,6 +65,16 @@ claim_words key claimed counted = codes " " ++ key ++ codes " " ++ decimal claim
 
 abbrev pub table_gap_line : Described → Entry → List ℕ
 table_gap_line d e = table_name d e.item ++ claim_words (codes "limit") (e.right / d.rate) (div_ceil e.left d.rate)
+
+-- how long after the end of a section the next one of its sub-table begins, in ms, rounded down
+abbrev pub distance_of : ℕ → Entry → ℕ
+distance_of rate e = (e.right - slot_ms_at_1bps) / rate
+
+unfoldable pub distance_words : ℕ → List ℕ
+distance_words distance = codes " sections " ++ decimal distance ++ codes " ms apart, at least 25\n"
+
+abbrev pub section_distance_line : Described → Entry → List ℕ
+section_distance_line d e = table_name d e.item ++ distance_words (distance_of d.rate e)
 
 abbrev pub spread_line : Described → Entry → List ℕ
 spread_line d e = stream_name d e.item ++ claim_words (codes "spread") e.right e.left
@@ -171,6 +181,7 @@ line_for MainBuffer d e = stream_line Main e.item e.left (slice_get d.streams e.
 line_for SystemBuffer d e = system_line d e
 line_for MultiplexingBuffer d e = multiplexing_line d e
 line_for ElementaryLead d e = stream_lead_line e (slice_get d.streams e.item)
+line_for SectionDistance d e = section_distance_line d e
 line_for PcrSwitch d e = switch_line e
 line_for TableSwitch d e = switch_line e
 line_for WorkSwitch d e = switch_line e

@@ -8,7 +8,9 @@ ghost use Rattle.plan_diagnosis.specs.ConditionLines as spec;
 use crate::buffer_conditions::{write_lead, write_multiplexing, write_system, write_transport};
 use crate::item_names::write_stream_name;
 use crate::shape_conditions::write_shape;
-use crate::slot_conditions::{write_claim, write_pcr_gap, write_stream_rate, write_table_gap};
+use crate::slot_conditions::{
+    write_claim, write_pcr_gap, write_section_distance, write_stream_rate, write_table_gap,
+};
 use crate::stream_numbers::{StreamNumber, write_stream};
 use description::Description;
 use plan_checker::{Condition, Refusal, failing};
@@ -85,6 +87,7 @@ fn write_condition(
         }
         Condition::SystemBuffer => write_system(description, refusal, text),
         Condition::MultiplexingBuffer => write_multiplexing(description, refusal, text),
+        Condition::SectionDistance => write_section_distance(description, refusal, text),
         Condition::PcrSwitch
         | Condition::TableSwitch
         | Condition::WorkSwitch

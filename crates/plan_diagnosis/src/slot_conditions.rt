@@ -7,7 +7,7 @@ ghost use Rattle.plan_diagnosis.specs.ConditionLines as spec;
 use crate::item_names::{write_name_of_stream, write_table_name};
 use crate::program_limits::write_pcr_limit;
 use crate::stream_numbers::steady_cause;
-use clock27::Rate;
+use clock27::{Rate, SLOT_MS_AT_1BPS};
 use description::Description;
 use description_parts::{ProgramDescription, StreamDescription};
 use plan_checker::{Refusal, steady_time};
@@ -73,6 +73,34 @@ pub fn write_table_gap(
         refusal.left.div_ceil(rate),
         text,
     )
+}
+
+// Returns how long after the end of a section the next one of its sub-table begins, in ms, rounded down.
+fn distance_of(rate: Rate, refusal: Refusal) -> u128
+    ensures { result ≡ spec.distance_of rate (entry_of refusal) }
+{
+    refusal.right.saturating_sub(SLOT_MS_AT_1BPS) / u128::from(rate.bits_per_second())
+}
+
+// Appends how far apart sections are.
+#[tactic(auto, unfolding(crate::specs::ConditionLines::distance_words))]
+fn write_distance(distance: u128, text: &mut String) -> Result<(), AllocError>
+    ensures { OnOk result (string_bytes text.new ≡ string_bytes text.old ++ spec.distance_words distance) }
+{
+    write!(text, " sections {distance} ms apart, at least 25\n")
+}
+
+/// Appends the line of a table whose sections are too near to each other.
+pub fn write_section_distance(
+    description: &Description,
+    refusal: Refusal,
+    text: &mut String,
+) -> Result<(), AllocError>
+    ensures { OnOk result (string_bytes text.new
+        ≡ string_bytes text.old ++ spec.section_distance_line description.now (entry_of refusal)) }
+{
+    write_table_name(description, refusal.item as usize, text)?;
+    write_distance(distance_of(description.rate(), refusal), text)
 }
 
 // Returns the share that one slot of a period gives a stream.
