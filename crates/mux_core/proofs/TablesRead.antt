@@ -69,4 +69,5 @@ table_kept d units slots t r p fits lt =
       sections = table_carried (table_of d t) slots (content_at d units) (table_alone d units t k.0 r fits k.1);
       begins = λ j s within before e. begins (table_of d t) slots j s (content_at d units) (table_alone d units t k.0 r fits k.1) within before e;
       sections_recur = λ j within. p.sections t j slots lt within;
+      sections_apart = λ spaced. p.sections_apart t lt spaced;
     }

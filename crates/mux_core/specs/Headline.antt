@@ -15,7 +15,10 @@ use Rattle.description_parts.specs.Tables.{table_count, table_limit, section_cou
 use Rattle.slot_plan.specs.declared.slot.Slot.{Slot}
 use Rattle.slot_plan.specs.declared.slot.Slot.TheVariants.{Pcr}
 use Rattle.slot_plan.specs.SlotPids.{slot_pid}
-use Rattle.slot_plan.specs.TableRounds.{section_starts}
+use Rattle.slot_plan.specs.declared.slot.Item.TheVariants.{Table}
+use Rattle.slot_plan.specs.Schedule.{owned}
+use Rattle.slot_plan.specs.SectionDistances.{is_spaced}
+use Rattle.slot_plan.specs.TableRounds.{section_starts, SectionsApart}
 use Rattle.own_slots.specs.Slots.{own_slots}
 use Rattle.unit_timing.specs.declared.framing.FrameDeclaration.{FrameDeclaration}
 use Rattle.unit_timing.specs.declared.multiplexing_buffer.MultiplexingBuffer.{MultiplexingBuffer}
@@ -107,6 +110,9 @@ pub record TableKept (d : Scheduled) (t slots : ℕ) (bytes : List ℕ) : Type 0
   pub sections_recur : (j : ℕ) → j < section_count d.description t →
       Recur d.description.rate (table_limit d.description t) 0 (map (λ s. 188 * s) (own_slots (section_starts d.description d.schedule t j) 0 slots))
       (188 * slots)
+  -- a transponder's sections of service information are 25 ms apart: from the slot in which one ends to the slot in which the next of its
+  -- sub-table begins
+  pub sections_apart : is_spaced d.description t ≡ true → SectionsApart d.description t (owned d.schedule (Table t))
 
 -- 188 bytes are a packet, by the standard's table of fields (ISO/IEC 13818-1, 2.4.3.2)
 abbrev pub IsTransportPacket : List ℕ → Type 0
