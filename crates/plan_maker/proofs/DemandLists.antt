@@ -6,6 +6,7 @@ use Rattle.std.proofs.lemmas.List.{map-append}
 use Rattle.description_parts.specs.Described.{Described, DescribedStream, DescribedProgram}
 use Rattle.description_parts.specs.Tables.{table_kinds, table_limit, round_packets}
 use Rattle.slot_plan.specs.declared.slot.Slot.TheVariants.{Stream, Pcr, Table}
+use Rattle.plan_maker.specs.Clocks.{clock_limit}
 use Rattle.plan_maker.specs.Recurrences.{recurrence_of}
 use Rattle.plan_maker.specs.StreamNeeds.{StreamView, stream_at}
 use Rattle.plan_maker.specs.Demands.{StreamNeed, RecurringNeed, DemandView, demand_view, demand_of, stream_demand, pcr_demand, table_demand}
@@ -27,7 +28,7 @@ module _ (d : Described) (period i : ℕ) (shown : DemandView) (rate kind : ℕ)
   stream_demand_is x v is need rates kinds = is ∙ rw (need, rates, kinds) refl
 
   pub pcr_demand_is : (x : DescribedProgram) (limit : ℕ) (r : Recurrence) → shown ≡ demand_of (Pcr i) (RecurringNeed r) i kind period →
-      r ≡ recurrence_of limit rate 1 0 → limit ≡ x.pcr_limit → rate ≡ d.rate → kind ≡ length d.programs → shown ≡ pcr_demand d period i x
+      r ≡ recurrence_of limit rate 1 0 → limit ≡ clock_limit d x → rate ≡ d.rate → kind ≡ length d.programs → shown ≡ pcr_demand d period i x
   pcr_demand_is x limit r is need limits rates kinds = is ∙ rw (need, limits, rates, kinds) refl
 
   pub table_demand_is : (distance limit packets apart : ℕ) (r : Recurrence) → shown ≡ demand_of (Table i) (RecurringNeed r) i kind period →

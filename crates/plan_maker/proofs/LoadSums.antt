@@ -1,7 +1,7 @@
 -- Sums that grow by one element, and the loads of faster outputs.
-use Rattle.std.proofs.Common.{◌≡◌, ℕ, zero, suc, ◌+◌, ◌-◌, ◌*◌, ◌/◌, ◌<◌, ◌≤◌, max, false, Option, Some, None, List, [], ◌∷◌, ◌++◌, length, take, get_or}
+use Rattle.std.proofs.Common.{◌≡◌, ℕ, zero, suc, ◌+◌, ◌-◌, ◌*◌, ◌/◌, ◌<◌, ◌≤◌, max, false, Bool, true, Option, Some, None, List, [], ◌∷◌, ◌++◌, length, take, get_or}
 use Rattle.std.proofs.Common.{nat_le, refl, ap, sym, ◌∙◌, arith}
-use Rattle.std.specs.Prelude.{IfSome, IsNone, option_map}
+use Rattle.std.specs.Prelude.{IfSome, IsNone, option_map, if◌then◌else◌}
 use Rattle.std.specs.List.{sum_by}
 use Rattle.std.proofs.Math.Nat.{mul-le-mul_left, div-mul-le_self, zero-mul}
 use Rattle.std.proofs.lemmas.Nat.{le-div}
@@ -11,12 +11,13 @@ use Rattle.clock27.specs.Units.{slot_ms_at_1bps}
 use Rattle.clock27.specs.LeastRate.{IsLeastRate, HasNoRate}
 use Rattle.clock27.specs.declared.rate.TheConstants.{GREATEST_RATE}
 use Rattle.description_parts.specs.Described.{Described}
-use Rattle.description_parts.specs.Tables.{table_kinds, table_limit, round_packets}
+use Rattle.description_parts.specs.Tables.{table_kinds, table_limit, round_packets, has_references}
 use Rattle.slot_plan.specs.Numbered.{numbered}
 use Rattle.slot_plan.proofs.NumberedLists.{numbered-more}
 use Rattle.unit_timing.specs.Allowances.{steady_packets, steady_time}
 use Rattle.unit_timing.specs.Shares.{parts}
-use Rattle.plan_maker.specs.Loads.{stream_load, recurring_load, total, load, has_slots, least_rate}
+use Rattle.plan_maker.specs.Clocks.{clock_limit}
+use Rattle.plan_maker.specs.Loads.{stream_load, recurring_load, clock_load, total, load, has_slots, least_rate}
 use Rattle.plan_maker.proofs.FirstNumbers.{first_fails, first_here}
 use Rattle.plan_maker.proofs.OwnSlotCounts.{each_at_most}
 
@@ -64,12 +65,19 @@ recurring_less r r' limit k le =
     (omega (arith, div-mul-le_self (limit * r) slot_ms_at_1bps, mul-le-mul_left limit le)) in
     less_of (parts * k) (max 1 (limit * r / slot_ms_at_1bps)) (max 1 (limit * r' / slot_ms_at_1bps)) (omega arith) (omega (arith, near))
 
+if_less : (b : Bool) (x y : ℕ) → x ≤ y → (if b then x else 0) ≤ (if b then y else 0)
+if_less true x y le = le
+if_less false x y le = omega arith
+
 pub load_less : (d : Described) (r r' : ℕ) → 0 < r → r ≤ r' → load d r' ≤ load d r
 load_less d r r' pos le =
     let streams = each_at_most (λ _ s. stream_load r' s) (λ _ s. stream_load r s) 1 1 0 d.streams
     (λ i s is. omega (arith, stream_less (parts * steady_packets s.allowance) (steady_time s.allowance s.interval) r r' pos le)) in
-    let pcrs = each_at_most (λ _ p. recurring_load r' p.pcr_limit 1) (λ _ p. recurring_load r p.pcr_limit 1) 1 1 0 d.programs
-    (λ i p is. omega (arith, recurring_less r r' p.pcr_limit 1 le)) in
+    let pcrs = each_at_most (clock_load d r') (clock_load d r) 1 1 0 d.programs
+    (λ i p is. let less : clock_load d r' (0 + i) p ≤ clock_load d r (0 + i) p =
+    if_less (has_references d (0 + i)) (recurring_load r' (clock_limit d p) 1) (recurring_load r (clock_limit d p) 1)
+    (recurring_less r r' (clock_limit d p) 1 le) in
+    omega (arith, less)) in
     let tables = each_at_most (λ t _. recurring_load r' (table_limit d t) (round_packets d t)) (λ t _. recurring_load r (table_limit d t) (round_packets d t)) 1
     1 0 (table_kinds d)
     (λ t x is. omega (arith, recurring_less r r' (table_limit d (0 + t)) (round_packets d (0 + t)) le)) in

@@ -1,10 +1,10 @@
 -- If a description has a reason, no plan serves it.
-use Rattle.std.proofs.Common.{◌≡◌, ℕ, zero, suc, ◌+◌, ◌-◌, ◌*◌, ◌/◌, ◌%◌, ◌<◌, ◌≤◌, max, Bool, true, false, List, [], ◌∷◌, Option, Some, None, length, get_or}
+use Rattle.std.proofs.Common.{◌≡◌, ℕ, zero, suc, ◌+◌, ◌-◌, ◌*◌, ◌/◌, ◌%◌, ◌<◌, ◌≤◌, max, min, Bool, true, false, List, [], ◌∷◌, Option, Some, None, length, get_or}
 use Rattle.std.proofs.Common.{nat_lt, nat_le, refl, ap, ◌∙◌, inl, inr, arith, add-one}
-use Rattle.std.specs.Prelude.{slice_get}
+use Rattle.std.specs.Prelude.{slice_get, fold, if◌then◌else◌}
 use Rattle.std.proofs.Math.Nat.{mul-le-mul_left, le_of_mul-le-mul_right, mod-eq_of_lt}
 use Rattle.std.proofs.lemmas.Nat.{le-div}
-use Rattle.std.proofs.lemmas.Bool.{cases_Bool, cases_lt}
+use Rattle.std.proofs.lemmas.Bool.{cases_Bool, cases_lt, eqb-true}
 use Rattle.std.proofs.lemmas.Bool.Decides.{nat_tests}
 use Rattle.std.proofs.lemmas.Option.{slice_get_within}
 use Rattle.clock27.specs.Units.{slot_units_at_1bps}
@@ -22,17 +22,19 @@ use Rattle.unit_timing.specs.declared.multiplexing_buffer.MultiplexingBuffer.{Mu
 use Rattle.unit_timing.specs.Allowances.{allowance_rows, steady_packets, steady_time}
 use Rattle.unit_timing.specs.Conditions.{StreamConditions, packets_in_row, waiting_slots}
 use Rattle.description_parts.specs.Described.{Described, DescribedProgram, DescribedStream}
-use Rattle.description_parts.specs.Tables.{table_kinds, table_count, table_limit, round_packets}
+use Rattle.description_parts.specs.Tables.{table_kinds, table_count, table_limit, round_packets, clock_of, has_references}
 use Rattle.slot_plan.specs.declared.slot.Item.TheVariants.{Stream, Pcr, Table}
 use Rattle.slot_plan.specs.Numbered.{numbered}
 use Rattle.slot_plan.specs.Planned.{Planned}
 use Rattle.slot_plan.specs.Items.{marks}
 use Rattle.slot_plan.specs.Claims.{declaration, multiplexing_claim}
+use Rattle.slot_plan.proofs.Clocks.{one_clock}
 use Rattle.slot_plan.proofs.ConditionLists.{ServingConditions, serves}
 use Rattle.slot_plan.proofs.OnePlan.{length_marks, claim_of, stream_holds, leak_holds, pcr_gap_holds, table_gap_holds}
 use Rattle.plan_maker.specs.declared.reason.Reason.{Reason}
 use Rattle.unit_timing.specs.Shares.{parts}
-use Rattle.plan_maker.specs.Loads.{stream_load, recurring_load, streams_load, pcrs_load, tables_load, load}
+use Rattle.plan_maker.specs.Clocks.{with_sharer, clock_limit}
+use Rattle.plan_maker.specs.Loads.{stream_load, recurring_load, clock_load, streams_load, pcrs_load, tables_load, load}
 use Rattle.plan_maker.specs.Reasons.{units_lead, least_lead, least_main, pcr_reason, table_reason, drain_reason, leak_reason, lead_reason, main_reason}
 use Rattle.plan_maker.specs.Reasons.{stream_reason, load_reason, pcr_reasons, table_reasons, stream_reasons, ReasonLaw}
 use Rattle.plan_maker.proofs.OwnSlotCounts.{owned, each_at_most, all_owned}
@@ -126,7 +128,8 @@ module _ (d : Described) (p : Planned) (k : ServingConditions d p) where
   pcr_kept : (i : ℕ) (x : DescribedProgram) → slice_get d.programs i ≡ Some x → i < length d.programs → pcr_reason d i x ≡ []
   pcr_kept i x is lt =
       let le = pcr_gap_holds d p i x k is in
-      let least : 1 ≤ gap (marks (Pcr i) p.slots) 1 = least_gap (marks (Pcr i) p.slots) 1 (k.shape.programs_own i lt) in
+      let own_marks = marks (Pcr (clock_of d i)) p.slots in
+      let least : 1 ≤ gap own_marks 1 = least_gap own_marks 1 (k.shape.programs_own i lt) in
       rw (not_less (x.pcr_limit * d.rate) 1504000 (omega (arith, le, least))) refl
 
   table_kept : (t : ℕ) → t < table_count d → table_reason d t ≡ []
@@ -209,6 +212,27 @@ leak_pace d p i s k is b some =
 
 -- All items together
 
+-- What is within the limit of each program that shares a clock is within the least of these limits.
+each_kept : (n rate limit : ℕ) (ps : List DescribedProgram) → n ≤ limit * rate →
+    ((i : ℕ) (p : DescribedProgram) → slice_get ps i ≡ Some p → p.has_clock ≡ false → n ≤ p.pcr_limit * rate) → n ≤ fold with_sharer limit ps * rate
+each_kept n rate limit [] le each = le
+each_kept n rate limit (p ∷ ps) le each =
+    each_kept n rate (with_sharer limit p) ps (by_clock p.has_clock refl) (λ i q is shares. each (suc i) q is shares)
+  where
+    lesser : (a b : ℕ) → n ≤ a * rate → n ≤ b * rate → n ≤ min a b * rate
+    lesser a b first second = elim (cases_lt a b) [
+      | inl less ↦ let e : min a b ≡ a = omega (arith, less) in rw e first
+      | inr other ↦ let e : min a b ≡ b = omega (arith, other) in rw e second
+    ]
+
+    by_clock : (b : Bool) → p.has_clock ≡ b → n ≤ with_sharer limit p * rate
+    by_clock true has = rw (has, with_sharer) le
+    by_clock false shares = rw (shares, with_sharer) (lesser limit p.pcr_limit le (each 0 p refl shares))
+
+if_referenced : (b : Bool) (n x y : ℕ) → (b ≡ true → n * x ≤ y) → n * (if b then x else 0) ≤ y
+if_referenced true n x y kept = kept refl
+if_referenced false n x y kept = omega arith
+
 module _ (d : Described) (p : Planned) (k : ServingConditions d p) where
   streams_share : length p.slots * streams_load d d.rate ≤ parts * owned Stream 0 d.streams p.slots
   streams_share = each_at_most (λ _ s. stream_load d.rate s) (λ i _. per_period (marks (Stream i) p.slots)) (length p.slots) parts 0 d.streams
@@ -230,17 +254,34 @@ module _ (d : Described) (p : Planned) (k : ServingConditions d p) where
       recurring_kept (length marks) (per_period marks) k (gap marks k) (limit * d.rate / slot_ms_at_1bps) parts (omega (arith, pos, per_period_le marks))
       (recurs marks k pos) (le-div (gap marks k) (limit * d.rate) slot_ms_at_1bps (omega arith) le)
 
+  -- The slots of a clock keep the limit of each program on it.
+  limit_kept : (i : ℕ) (q : DescribedProgram) → slice_get d.programs i ≡ Some q → clock_of d i ≡ i →
+      gap (marks (Pcr i) p.slots) 1 * slot_ms_at_1bps ≤ clock_limit d q * d.rate
+  limit_kept i q is own = by_clock q.has_clock refl
+    where
+      own_limit : gap (marks (Pcr i) p.slots) 1 * slot_ms_at_1bps ≤ q.pcr_limit * d.rate
+      own_limit = rw own at (pcr_gap_holds d p i q k is)
+
+      by_clock : (b : Bool) → q.has_clock ≡ b → gap (marks (Pcr i) p.slots) 1 * slot_ms_at_1bps ≤ clock_limit d q * d.rate
+      by_clock true has = rw (has, clock_limit) own_limit
+      by_clock false shares = rw (shares, clock_limit) (each_kept (gap (marks (Pcr i) p.slots) 1 * slot_ms_at_1bps) d.rate q.pcr_limit d.programs own_limit
+          (λ j x there too. let same : clock_of d j ≡ i = one_clock d j i x q there too is shares ∙ own in rw same at (pcr_gap_holds d p j x k there)))
+
   pcrs_share : length p.slots * pcrs_load d d.rate ≤ parts * owned Pcr 0 d.programs p.slots
-  pcrs_share = each_at_most (λ _ q. recurring_load d.rate q.pcr_limit 1) (λ i _. per_period (marks (Pcr i) p.slots)) (length p.slots) parts 0 d.programs
+  pcrs_share = each_at_most (clock_load d d.rate) (λ i _. per_period (marks (Pcr i) p.slots)) (length p.slots) parts 0 d.programs
       (λ i q is. share i q is)
     where
+      kept : (i : ℕ) (q : DescribedProgram) → slice_get d.programs i ≡ Some q → clock_of d i ≡ i →
+          length p.slots * recurring_load d.rate (clock_limit d q) 1 ≤ parts * per_period (marks (Pcr i) p.slots)
+      kept i q is own =
+          let some : 0 < per_period (marks (Pcr i) p.slots) = rw own at (k.shape.programs_own i (slice_get_within d.programs i q is)) in
+          rw (length_marks (Pcr i) p.slots) at (recurring_share (marks (Pcr i) p.slots) (clock_limit d q) 1 some (limit_kept i q is own))
+
       share : (i : ℕ) (q : DescribedProgram) → slice_get d.programs i ≡ Some q →
-          length p.slots * recurring_load d.rate q.pcr_limit 1 ≤ parts * per_period (marks (Pcr (0 + i)) p.slots)
-      share i q is =
-          let e : 0 + i ≡ i = omega arith in
-          let kept = recurring_share (marks (Pcr i) p.slots) q.pcr_limit 1 (k.shape.programs_own i (slice_get_within d.programs i q is))
-          (pcr_gap_holds d p i q k is) in
-          rw e (rw (length_marks (Pcr i) p.slots) at kept)
+          length p.slots * clock_load d d.rate (0 + i) q ≤ parts * per_period (marks (Pcr (0 + i)) p.slots)
+      share i q is = let e : 0 + i ≡ i = omega arith in
+          rw e (if_referenced (has_references d i) (length p.slots) (recurring_load d.rate (clock_limit d q) 1) (parts * per_period (marks (Pcr i) p.slots))
+          (λ own. kept i q is (eqb-true (clock_of d i) i own)))
 
   tables_share : length p.slots * tables_load d d.rate ≤ parts * owned Table 0 (table_kinds d) p.slots
   tables_share = each_at_most (λ t _. recurring_load d.rate (table_limit d t) (round_packets d t)) (λ t _. per_period (marks (Table t) p.slots))

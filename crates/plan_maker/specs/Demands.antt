@@ -3,11 +3,12 @@ use Rattle.std.specs.Prelude.{ℕ, ◌+◌, ◌-◌, min, Bool, true, false, ◌
 use Rattle.std.specs.Prelude.{nat_le, nat_lt, if◌then◌else◌}
 use Rattle.std.specs.List.{sum_by, list_any}
 use Rattle.description_parts.specs.Described.{Described, DescribedProgram, DescribedStream}
-use Rattle.description_parts.specs.Tables.{table_kinds, table_pid, table_limit, round_packets}
+use Rattle.description_parts.specs.Tables.{table_kinds, table_pid, table_limit, round_packets, has_references, only_if}
 use Rattle.slot_plan.specs.declared.slot.Slot.{Slot}
 use Rattle.slot_plan.specs.declared.slot.Slot.TheVariants.{Stream, Pcr, Table}
 use Rattle.slot_plan.specs.Numbered.{numbered}
 use Rattle.plan_maker.specs.Bounded.{most_long}
+use Rattle.plan_maker.specs.Clocks.{clock_limit}
 use Rattle.plan_maker.specs.Recurrences.{recurrence_of, recurrence_count, recurrence_width}
 use Rattle.plan_maker.specs.StreamNeeds.{StreamView, stream_view, stream_at, stream_count, stream_width, main_width}
 use Rattle.plan_maker.specs.declared.search.recurrence.Recurrence.{Recurrence}
@@ -70,7 +71,11 @@ abbrev pub stream_demand : Described → ℕ → ℕ → DescribedStream → Dem
 stream_demand d period i s = demand_of (Stream i) (StreamNeed (stream_at s d.rate)) i (length d.streams) period
 
 abbrev pub pcr_demand : Described → ℕ → ℕ → DescribedProgram → DemandView
-pcr_demand d period i p = demand_of (Pcr i) (RecurringNeed (recurrence_of p.pcr_limit d.rate 1 0)) i (length d.programs) period
+pcr_demand d period i p = demand_of (Pcr i) (RecurringNeed (recurrence_of (clock_limit d p) d.rate 1 0)) i (length d.programs) period
+
+-- of a program whose slots carry clock references
+abbrev pub clock_demand : Described → ℕ → ℕ → DescribedProgram → List DemandView
+clock_demand d period i p = only_if (has_references d i) (pcr_demand d period i p)
 
 -- service information is on the PIDs 0x10 to 0x14 (EN 300 468, 5.1.3)
 abbrev pub is_service_information : ℕ → Bool
@@ -91,7 +96,7 @@ abbrev pub stream_demands : Described → ℕ → List DemandView
 stream_demands d period = numbered (λ i s. stream_demand d period i s ∷ []) 0 d.streams
 
 abbrev pub pcr_demands : Described → ℕ → List DemandView
-pcr_demands d period = numbered (λ i p. pcr_demand d period i p ∷ []) 0 d.programs
+pcr_demands d period = numbered (clock_demand d period) 0 d.programs
 
 abbrev pub table_demands : Described → ℕ → ℕ → List DemandView
 table_demands d distance period = numbered (λ t _. table_demand d distance period t ∷ []) 0 (table_kinds d)

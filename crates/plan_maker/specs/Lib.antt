@@ -1,4 +1,5 @@
 pub mod FirstNumbers
+pub mod Clocks
 pub mod Certificates
 pub mod Spacings
 pub mod PlainPlan

@@ -10,6 +10,7 @@
 #![tactic(auto)]
 
 mod certificates;
+mod clocks;
 mod free_slots;
 mod item_order;
 mod making;

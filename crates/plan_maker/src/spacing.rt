@@ -4,8 +4,9 @@ ghost use Rattle.std.specs.Prelude.{◌≡◌, ◌<◌, ◌≤◌, ◌++◌, IfO
 ghost use Rattle.description_parts.specs.Ranges.{IsStream};
 ghost use Rattle.description_parts.specs.Tables.{table_count};
 ghost use Rattle.plan_maker.specs.Spacings.{within, spacing, stream_room, pcr_room, table_room};
-ghost use Rattle.plan_maker.specs.Spacings.{spaced_streams, spaced_pcrs, spaced_tables, spaced_items};
+ghost use Rattle.plan_maker.specs.Spacings.{spaced_streams, spaced_clock, spaced_pcrs, spaced_tables, spaced_items};
 
+use crate::clocks::clock_limit;
 use clock27::SLOT_MS_AT_1BPS;
 use plan_checker::{steady_packets, steady_time};
 use slot_plan::{Description, ProgramDescription, Slot, StreamDescription};
@@ -48,11 +49,12 @@ fn stream_room(description: &Description, stream: &StreamDescription) -> u64
     steady_time(stream) * description.rate().bits_per_second() / steady_packets(stream)
 }
 
-/// Returns the slots within which a program needs a PCR.
+/// Returns the slots within which a program's clock needs a PCR.
 fn pcr_room(description: &Description, program: &ProgramDescription) -> u64
     ensures { result ≡ pcr_room description.now program.now }
 {
-    program.pcr_limit() as u64 * description.rate().bits_per_second() / SLOT_MS_AT_1BPS as u64
+    let limit = clock_limit(description, program) as u64;
+    limit * description.rate().bits_per_second() / SLOT_MS_AT_1BPS as u64
 }
 
 /// Returns the slots within which a table needs a packet.
@@ -96,6 +98,27 @@ fn push_streams<A: Allocator>(
     Ok(())
 }
 
+/// Appends the clock references of program number `i`, if its slots carry any.
+fn push_clock<A: Allocator>(
+    items: &mut Vec<Spaced, A>,
+    description: &Description,
+    i: usize,
+    program: &ProgramDescription,
+) -> Result<(), AllocError>
+    requires { i < 256 }
+    ensures { OnOk result (items.new.items ≡ items.old.items ++ spaced_clock description.now i program.now) }
+{
+    if !description.has_references(i) {
+        return Ok(());
+    }
+    let spacing = spacing_of(pcr_room(description, program));
+    items.push(Spaced {
+        slot: Slot::Pcr(i as u8),
+        spacing,
+    })?;
+    Ok(())
+}
+
 fn push_pcrs<A: Allocator>(
     items: &mut Vec<Spaced, A>,
     description: &Description,
@@ -103,11 +126,7 @@ fn push_pcrs<A: Allocator>(
     ensures { OnOk result (items.new.items ≡ items.old.items ++ spaced_pcrs description.now) }
 {
     for (i, program) in description.programs().iter().enumerate() {
-        let spacing = spacing_of(pcr_room(description, program));
-        items.push(Spaced {
-            slot: Slot::Pcr(i as u8),
-            spacing,
-        })?;
+        push_clock(items, description, i, program)?;
     }
     Ok(())
 }

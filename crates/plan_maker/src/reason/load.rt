@@ -3,15 +3,16 @@
 ghost use Rattle.std.specs.Prelude.{◌≡◌, ◌^◌, ◌<◌, ◌≤◌};
 ghost use Rattle.std.specs.Option.{option_to_list};
 ghost use Rattle.description_parts.specs.Ranges.{IsStream};
-ghost use Rattle.plan_maker.specs.Loads.{stream_load, recurring_load, streams_load, pcrs_load, tables_load};
-ghost use Rattle.plan_maker.specs.Loads.{has_slots, least_rate};
+ghost use Rattle.plan_maker.specs.Loads.{stream_load, recurring_load, clock_load, streams_load, pcrs_load};
+ghost use Rattle.plan_maker.specs.Loads.{tables_load, has_slots, least_rate};
 ghost use Rattle.plan_maker.specs.Reasons.{load_reason};
 
+use crate::clocks::clock_limit;
 use crate::reason::Reason;
 use clock27::SLOT_MS_AT_1BPS;
 use clock27::rate_search::{self, Load};
 use plan_checker::{steady_packets, steady_time};
-use slot_plan::{Description, StreamDescription};
+use slot_plan::{Description, ProgramDescription, StreamDescription};
 use unit_timing::shares::PARTS;
 
 /// Returns the least share of slots of a stream, at that rate.
@@ -52,6 +53,19 @@ fn streams_load(description: &Description, rate: u64) -> u128
     total
 }
 
+/// Returns the least share of the clock references of program number `i`: 0 if another program's slots carry them.
+fn clock_load(description: &Description, i: usize, program: &ProgramDescription, rate: u64) -> u128
+    requires high { rate ≤ 100000000 }
+    ensures load { result ≡ clock_load description.now rate i program.now }
+    ensures bound { result ≤ 2 ^ 90 }
+{
+    if description.has_references(i) {
+        recurring_load(clock_limit(description, program) as u64, 1, rate)
+    } else {
+        0
+    }
+}
+
 /// Returns the share of the PCRs of all programs.
 fn pcrs_load(description: &Description, rate: u64) -> u128
     requires high { rate ≤ 100000000 }
@@ -60,7 +74,7 @@ fn pcrs_load(description: &Description, rate: u64) -> u128
 {
     let mut total = 0;
     for (i, program) in description.programs().iter().enumerate() {
-        total += recurring_load(program.pcr_limit() as u64, 1, rate);
+        total += clock_load(description, i, program, rate);
     }
     total
 }

@@ -6,9 +6,10 @@ ghost use Rattle.description_parts.specs.Tables.{table_count};
 ghost use Rattle.plan_maker.specs.Demands as spec;
 ghost use Rattle.plan_maker.specs.Demands.{need_view, demand_view};
 
+use crate::clocks::clock_limit;
 use crate::search::recurrence::Recurrence;
 use crate::search::stream_rate::StreamRate;
-use slot_plan::{Description, Slot};
+use slot_plan::{Description, ProgramDescription, Slot};
 use std::alloc::{AllocError, Allocator};
 
 /// What an item needs its own slots for.
@@ -151,7 +152,31 @@ fn push_streams<'a, A: Allocator>(
     Ok(())
 }
 
-/// Appends the demands of the programs' PCRs.
+/// Appends the demand of the clock references of program number `i`, if its slots carry any.
+fn push_clock<'a, A: Allocator>(
+    demands: &mut Vec<Demand<'a>, A>,
+    description: &'a Description,
+    i: usize,
+    program: &ProgramDescription,
+    period: u64,
+) -> Result<(), AllocError>
+    requires period { period ≤ 65536 }
+    requires small { i < 256 }
+    ensures { OnOk result (map demand_view demands.new.items
+        ≡ map demand_view demands.old.items ++ spec.clock_demand description.now period i program.now) }
+{
+    if !description.has_references(i) {
+        return Ok(());
+    }
+    let kind = description.programs().len();
+    let rate = description.rate().bits_per_second();
+    let limit = clock_limit(description, program) as u64;
+    let need = Need::Recurring(Recurrence::within(limit, rate, 1, 0));
+    demands.push(demand_of(Slot::Pcr(i as u8), need, i, kind, period))?;
+    Ok(())
+}
+
+/// Appends the demands of the programs' clocks.
 fn push_pcrs<'a, A: Allocator>(
     demands: &mut Vec<Demand<'a>, A>,
     description: &'a Description,
@@ -161,11 +186,8 @@ fn push_pcrs<'a, A: Allocator>(
     ensures { OnOk result (map demand_view demands.new.items
         ≡ map demand_view demands.old.items ++ spec.pcr_demands description.now period) }
 {
-    let kind = description.programs().len();
-    let rate = description.rate().bits_per_second();
     for (i, program) in description.programs().iter().enumerate() {
-        let need = Need::Recurring(Recurrence::within(program.pcr_limit() as u64, rate, 1, 0));
-        demands.push(demand_of(Slot::Pcr(i as u8), need, i, kind, period))?;
+        push_clock(demands, description, i, program, period)?;
     }
     Ok(())
 }

@@ -1,5 +1,5 @@
-use Rattle.std.proofs.Common.{◌≡◌, ◌<◌, length, get_or, arith, ap, ◌∙◌, ℕ}
-use Rattle.plan_maker.specs.Loads.{recurring_load}
+use Rattle.std.proofs.Common.{◌≡◌, ◌<◌, length, get_or, arith}
+use Rattle.plan_maker.specs.Loads.{clock_load}
 use Rattle.plan_maker.proofs.LoadSums.{total_more}
 use Rattle.plan_maker.proofs.reason.load.pcrs_load.Goals as goal
 
@@ -10,9 +10,7 @@ loop-i-preserved c =
     let i = c.loop-i.i in
     let at : x ≡ get_or d.programs i x = rw c.programs-program-items.ensures.value at c.program-item.is in
     let below : i < length d.programs = rw c.programs-program-items.ensures.value at c.loop-i-test.true in
-    let here : c.recurring_load-total.result ≡ recurring_load c.args.rate x.pcr_limit 1 =
-    c.recurring_load-total.ensures.load ∙ ap (λ (l : ℕ). recurring_load c.args.rate l 1) c.pcr_limit.ensures in
     record {
-      summed = omega (arith, c.loop-i.invariant.summed, here, total_more (λ _ p. recurring_load c.args.rate p.pcr_limit 1) d.programs i x below at);
-      bound = omega (arith, c.loop-i.invariant.bound, c.recurring_load-total.ensures.bound);
+      summed = omega (arith, c.loop-i.invariant.summed, c.clock_load-total.ensures.load, total_more (clock_load d c.args.rate) d.programs i x below at);
+      bound = omega (arith, c.loop-i.invariant.bound, c.clock_load-total.ensures.bound);
     }
