@@ -1,7 +1,7 @@
 -- Clock references come in time on each PID that has them.
 use Rattle.std.proofs.Common.{◌≡◌, ◌⊎◌, ℕ, zero, suc, ◌+◌, ◌*◌, ◌≤◌, ◌==◌, ◌&&◌, Bool, true, false, List, [], ◌∷◌, map, Option, Some, None, slice_get, refl}
 use Rattle.std.proofs.Common.{sym, ap, subst, ◌∙◌, inl, inr, eqb-true}
-use Rattle.std.specs.Prelude.{⊤}
+use Rattle.std.specs.Prelude.{⊤, option_map, if◌then◌else◌}
 use Rattle.std.proofs.lemmas.Bool.{cases_Bool, false≢true}
 use Rattle.clock27.specs.Recurrence.{Recur}
 use Rattle.clock27.specs.Reference.{pcr_at}
@@ -17,12 +17,13 @@ use Rattle.slot_contents.specs.Contents.{Content, PayloadContent, PcrContent, Nu
 use Rattle.slot_contents.specs.RunLaws.{Fits}
 use Rattle.slot_contents.proofs.Runs.{run_pid_list}
 use Rattle.description_parts.specs.Described.{Described, DescribedProgram, DescribedStream}
-use Rattle.description_parts.specs.Tables.{table_kinds, table_pid}
+use Rattle.description_parts.specs.Tables.{table_kinds, table_pid, has_references}
 use Rattle.description.proofs.Pids.{at_place}
 use Rattle.description_parts.specs.declared.table_kind.TableKind.{TableKind}
 use Rattle.slot_plan.specs.declared.slot.Slot.{Slot}
 use Rattle.slot_plan.specs.declared.slot.Slot.TheVariants.{Stream, Pcr, Table, Null}
 use Rattle.slot_plan.specs.Schedule.{slot_of}
+use Rattle.slot_plan.specs.SlotPids.{slot_pid}
 use Rattle.unit_queue.specs.Places.{UnitPlace, place_at, content_of}
 use Rattle.table_rounds.specs.Tables.{payloads_before, part_at}
 use Rattle.table_rounds.specs.Parts.{part_content}
@@ -83,11 +84,24 @@ stream_none d units pid slot k (Some s) = by (place_at (owned_stream d k s) 0 0 
     by None = tt
     by (Some place) = tt
 
-clock_none : (d : Described) (pid slot i : ℕ) (o : Option DescribedProgram) → slice_get d.programs i ≡ o → NoProgram d.programs pid →
-    NoClock pid (pcr_content d slot o)
+-- A slot that names a PID for clock references names a program with this PCR PID.
+of_program : (b : Bool) (o : Option DescribedProgram) (pid : ℕ) → (if b then option_map (λ p. p.pcr_pid) o else None) ≡ Some pid →
+    (p : DescribedProgram) × (o ≡ Some p) × (p.pcr_pid ≡ pid)
+of_program true None pid e = absurd (cc)
+of_program true (Some p) pid e = let same : p.pcr_pid ≡ pid = cc in (p, refl, same)
+of_program false o pid e = absurd (cc)
+
+clock_program : (d : Described) (i pid : ℕ) → slot_pid d (Pcr i) ≡ Some pid →
+    (p : DescribedProgram) × (slice_get d.programs i ≡ Some p) × (p.pcr_pid ≡ pid)
+unfolding slot_pid
+clock_program d i pid e = of_program (has_references d i) (slice_get d.programs i) pid e
+
+clock_none : (d : Described) (pid slot i : ℕ) (o : Option ℕ) → slot_pid d (Pcr i) ≡ o → NoProgram d.programs pid → NoClock pid (pcr_content d slot o)
 unfolding pcr_content
 clock_none d pid slot i None e none = tt
-clock_none d pid slot i (Some p) e none = none i p e
+clock_none d pid slot i (Some other) e none =
+    let clock = clock_program d i other e in
+    sym (ap (λ (n : ℕ). n == pid) clock.2) ∙ none i clock.0 clock.1
 
 table_none : (d : Scheduled) (pid slot t : ℕ) (o : Option TableKind) → NoClock pid (table_in d slot t o)
 unfolding table_in part_content
@@ -102,7 +116,7 @@ slot_none : (d : Scheduled) (units : ℕ → List AccessUnit) (pid slot : ℕ) (
     NoClock pid (content_in d units slot item)
 unfolding content_in
 slot_none d units pid slot (Stream k) none = stream_none d units pid slot k (slice_get d.description.streams k)
-slot_none d units pid slot (Pcr i) none = clock_none d.description pid slot i (slice_get d.description.programs i) refl none
+slot_none d units pid slot (Pcr i) none = clock_none d.description pid slot i (slot_pid d.description (Pcr i)) refl none
 slot_none d units pid slot (Table t) none = table_none d pid slot t (slice_get (table_kinds d.description) t)
 slot_none d units pid slot Null none = tt
 

@@ -7,12 +7,13 @@ use Rattle.std.proofs.lemmas.List.Elements.{All-nil, All-cons, All-head, All-tai
 use Rattle.own_slots.specs.Slots.{own_before}
 use Rattle.pes_packet.specs.AccessUnits.{AccessUnit}
 use Rattle.slot_contents.specs.Contents.{payload_in, Piece}
-use Rattle.description_parts.specs.Described.{Described, DescribedProgram, DescribedStream}
+use Rattle.description_parts.specs.Described.{Described, DescribedStream}
 use Rattle.description_parts.specs.Tables.{table_kinds, table_count, table_pid}
 use Rattle.description_parts.specs.declared.table_kind.TableKind.{TableKind}
 use Rattle.slot_plan.specs.declared.slot.Slot.{Slot}
 use Rattle.slot_plan.specs.declared.slot.Slot.TheVariants.{Stream, Pcr, Table, Null}
 use Rattle.slot_plan.specs.Schedule.{slot_of}
+use Rattle.slot_plan.specs.SlotPids.{slot_pid}
 use Rattle.pid_findings.specs.Views.{FindingView}
 use Rattle.demux.specs.Laws.{has_pid, found_of}
 use Rattle.unit_queue.specs.Places.{UnitPlace, place_at, content_of}
@@ -39,10 +40,10 @@ stream_silent d units pid slot k (Some s) e none = by (place_at (owned_stream d 
     by None = refl
     by (Some place) = let no = none.streams k s e in rw no refl
 
-clock_silent : (d : Described) (pid slot : ℕ) (o : Option DescribedProgram) → payload_in pid slot (pcr_content d slot o) ≡ []
+clock_silent : (d : Described) (pid slot : ℕ) (o : Option ℕ) → payload_in pid slot (pcr_content d slot o) ≡ []
 unfolding pcr_content
 clock_silent d pid slot None = refl
-clock_silent d pid slot (Some p) = refl
+clock_silent d pid slot (Some other) = refl
 
 table_silent : (d : Scheduled) (pid slot t : ℕ) (o : Option TableKind) → slice_get (table_kinds d.description) t ≡ o →
     IsSilent d.description pid → payload_in pid slot (table_in d slot t o) ≡ []
@@ -58,7 +59,7 @@ slot_silent : (d : Scheduled) (units : ℕ → List AccessUnit) (pid slot : ℕ)
     payload_in pid slot (content_in d units slot item) ≡ []
 unfolding content_in
 slot_silent d units pid slot (Stream k) none = stream_silent d units pid slot k (slice_get d.description.streams k) refl none
-slot_silent d units pid slot (Pcr i) none = clock_silent d.description pid slot (slice_get d.description.programs i)
+slot_silent d units pid slot (Pcr i) none = clock_silent d.description pid slot (slot_pid d.description (Pcr i))
 slot_silent d units pid slot (Table t) none = table_silent d pid slot t (slice_get (table_kinds d.description) t) refl none
 slot_silent d units pid slot Null none = refl
 

@@ -1,7 +1,7 @@
 -- The worked service with video and sound is in its ranges.
 use Rattle.std.specs.Prelude.{Contains}
 use Rattle.std.specs.List.{IsDistinct}
-use Rattle.std.proofs.Common.{◌≡◌, ◌≤◌, ℕ, [], ◌∷◌, refl, inr, arith}
+use Rattle.std.proofs.Common.{◌≡◌, ◌≤◌, ℕ, false, [], ◌∷◌, Some, None, refl, inr, arith}
 use Rattle.std.proofs.lemmas.List.Elements.{All-nil, All-cons}
 use Rattle.description_parts.specs.Described.{DescribedNetwork, DescribedProgram, DescribedStream}
 use Rattle.description_parts.specs.Tables.{pmt_length, nit_length}
@@ -127,9 +127,11 @@ video_in_range = record {
   listed = All-nil (IsListed video_service);
   distinct_pids = ((refl, (refl, (refl, tt))), ((refl, (refl, tt)), ((refl, tt), (tt, tt))));
   distinct_numbers = (tt, tt);
+  clocks = All-cons (λ (p : DescribedProgram). p.has_clock ≡ false → None ≡ Some p.pcr_pid) video_program [] (λ no. absurd (cc))
+      (All-nil (λ (p : DescribedProgram). p.has_clock ≡ false → None ≡ Some p.pcr_pid));
   pmt_lengths =
       All-cons (λ (p : DescribedProgram). pmt_length video_service p ≤ longest_section) video_program [] (omega arith)
       (All-nil (λ (p : DescribedProgram). pmt_length video_service p ≤ longest_section));
   nit_length = All-nil (λ (n : DescribedNetwork). nit_length n ≤ longest_section);
-  sdt_length = λ no. omega arith;
+  sdt_lengths = λ no. absurd (cc);
 }

@@ -1,5 +1,5 @@
 -- A small service and a plan that serves it: one stream at 100,000 bits a second, where a slot lasts 15.04 ms, and a period of four slots.
-use Rattle.std.specs.Prelude.{false, [], ◌∷◌, None}
+use Rattle.std.specs.Prelude.{true, false, [], ◌∷◌, None}
 use Rattle.unit_timing.specs.declared.allowance.Allowance.TheVariants.{Groups}
 use Rattle.description_parts.specs.Described.{Described, DescribedProgram, DescribedStream}
 use Rattle.slot_plan.specs.declared.slot.Slot.TheVariants.{Stream, Pcr, Table}
@@ -32,6 +32,7 @@ worked_program = record {
   number = 1;
   pmt_pid = 4096;
   pcr_pid = 257;
+  has_clock = true;
   pcr_limit = 100;
   descriptors = [];
   service_type = 2;
@@ -49,6 +50,8 @@ worked_service = record {
   original_network_id = 1;
   has_sdt = false;
   has_tdt = false;
+  is_transponder = false;
+  clock_pid = None;
   network = None;
   programs = worked_program ∷ [];
   streams = worked_stream ∷ [];

@@ -1,6 +1,6 @@
 -- A small service and two plans that serve it in turn: video with a multiplexing buffer and sound in PES packets of two access units,
 -- at 100,000 bits a second, where a slot lasts 15.04 ms, and periods of five slots.
-use Rattle.std.specs.Prelude.{false, [], ◌∷◌, None, Some}
+use Rattle.std.specs.Prelude.{true, false, [], ◌∷◌, None, Some}
 use Rattle.unit_timing.specs.declared.allowance.Allowance.TheVariants.{Groups}
 use Rattle.unit_timing.specs.declared.framing.FrameDeclaration.{FrameDeclaration}
 use Rattle.unit_timing.specs.declared.framing.LastBytes.TheVariants.{Each}
@@ -67,6 +67,7 @@ video_program = record {
   number = 1;
   pmt_pid = 4096;
   pcr_pid = 257;
+  has_clock = true;
   pcr_limit = 100;
   descriptors = [];
   service_type = 1;
@@ -84,6 +85,8 @@ video_service = record {
   original_network_id = 1;
   has_sdt = false;
   has_tdt = false;
+  is_transponder = false;
+  clock_pid = None;
   network = None;
   programs = video_program ∷ [];
   streams = video_stream ∷ sound_stream ∷ [];

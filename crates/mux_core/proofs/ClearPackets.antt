@@ -11,7 +11,7 @@ use Rattle.ts_packet.proofs.PlainWritten.{start_again}
 use Rattle.slot_contents.specs.Contents.{Content, PayloadContent, PcrContent, NullContent, Piece, view_of, run_bytes, entry_at}
 use Rattle.slot_contents.specs.RunLaws.{Fits}
 use Rattle.slot_contents.proofs.Runs.{all_entries, run_entries}
-use Rattle.description_parts.specs.Described.{Described, DescribedProgram, DescribedStream}
+use Rattle.description_parts.specs.Described.{Described, DescribedStream}
 use Rattle.description_parts.specs.Tables.{table_kinds, table_pid}
 use Rattle.description_parts.specs.declared.table_kind.TableKind.{TableKind}
 use Rattle.slot_plan.specs.declared.slot.Slot.{Slot}
@@ -40,11 +40,10 @@ stream_named d units s k (Some x) = by (place_at (owned_stream d k x) 0 0 (units
     by None = tt
     by (Some place) = tt
 
-clock_named : (d : Scheduled) (s i : ℕ) (o : Option DescribedProgram) → slice_get d.description.programs i ≡ o →
-    ClockNamed d.description (pcr_content d.description s o)
-unfolding pcr_content slot_pid
+clock_named : (d : Scheduled) (s i : ℕ) (o : Option ℕ) → slot_pid d.description (Pcr i) ≡ o → ClockNamed d.description (pcr_content d.description s o)
+unfolding pcr_content
 clock_named d s i None is = tt
-clock_named d s i (Some p) is = (i, rw is refl)
+clock_named d s i (Some pid) is = (i, is)
 
 table_named : (d : Scheduled) (s t : ℕ) (o : Option TableKind) → ClockNamed d.description (table_in d s t o)
 unfolding table_in part_content
@@ -58,7 +57,7 @@ table_named d s t (Some kind) = by (part_at (table_of d t) s)
 named : (d : Scheduled) (units : ℕ → List AccessUnit) (s : ℕ) (slot : Slot) → ClockNamed d.description (content_in d units s slot)
 unfolding content_in
 named d units s (Stream k) = stream_named d units s k (slice_get d.description.streams k)
-named d units s (Pcr i) = clock_named d s i (slice_get d.description.programs i) refl
+named d units s (Pcr i) = clock_named d s i (slot_pid d.description (Pcr i)) refl
 named d units s (Table t) = table_named d s t (slice_get (table_kinds d.description) t)
 named d units s Null = tt
 

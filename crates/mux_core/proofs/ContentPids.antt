@@ -9,7 +9,7 @@ use Rattle.ts_packet.specs.Syntax.{ReferenceFits}
 use Rattle.ts_packet.specs.PidList.{is_of_pid}
 use Rattle.slot_contents.specs.Contents.{Content, ContentFits, PayloadContent, PcrContent, NullContent, view_of, Piece}
 use Rattle.slot_contents.specs.RunLaws.{Fits}
-use Rattle.description_parts.specs.Described.{DescribedProgram, DescribedStream}
+use Rattle.description_parts.specs.Described.{DescribedStream}
 use Rattle.description_parts.specs.Ranges.{IsInRange}
 use Rattle.description_parts.specs.Tables.{table_kinds, table_pid}
 use Rattle.description_parts.specs.declared.table_kind.TableKind.{TableKind}
@@ -71,10 +71,10 @@ stream_speaks d units s k (Some x) = by (place_at (owned_stream d k x) 0 0 (unit
     by None = inl refl
     by (Some place) = inr refl
 
-clock_speaks : (d : Scheduled) (s : ℕ) (o : Option DescribedProgram) → Speaks (option_map (λ x. x.pcr_pid) o) (pcr_content d.description s o)
+clock_speaks : (d : Scheduled) (s : ℕ) (o : Option ℕ) → Speaks o (pcr_content d.description s o)
 unfolding pcr_content content_pid
 clock_speaks d s None = inl refl
-clock_speaks d s (Some p) = inr refl
+clock_speaks d s (Some pid) = inr refl
 
 table_speaks : (d : Scheduled) (s t : ℕ) (o : Option TableKind) → Speaks (option_map (λ k. table_pid d.description t) o) (table_in d s t o)
 unfolding table_in part_content content_pid
@@ -88,7 +88,7 @@ table_speaks d s t (Some kind) = by (part_at (table_of d t) s)
 pub speaks : (d : Scheduled) (units : ℕ → List AccessUnit) (s : ℕ) (slot : Slot) → Speaks (slot_pid d.description slot) (content_in d units s slot)
 unfolding content_in slot_pid content_pid
 speaks d units s (Stream k) = stream_speaks d units s k (slice_get d.description.streams k)
-speaks d units s (Pcr i) = clock_speaks d s (slice_get d.description.programs i)
+speaks d units s (Pcr i) = clock_speaks d s (slot_pid d.description (Pcr i))
 speaks d units s (Table t) = table_speaks d s t (slice_get (table_kinds d.description) t)
 speaks d units s Null = inl refl
 
@@ -129,12 +129,11 @@ table_fits d s t None r e = tt
 table_fits d s t (Some kind) r e = let below = slots_below d.description (Table t) (table_pid d.description t) r e in
     part_fits (table_of d t) s (omega (arith, below))
 
-clock_fits : (d : Scheduled) (s i : ℕ) (o : Option DescribedProgram) → IsInRange d.description →
-    slot_pid d.description (Pcr i) ≡ option_map (λ p. p.pcr_pid) o → ContentFits (pcr_content d.description s o)
+clock_fits : (d : Scheduled) (s i : ℕ) (o : Option ℕ) → IsInRange d.description → slot_pid d.description (Pcr i) ≡ o → ContentFits (pcr_content d.description s o)
 unfolding pcr_content
 clock_fits d s i None r e = tt
-clock_fits d s i (Some p) r e =
-    let below = slots_below d.description (Pcr i) p.pcr_pid r e in
+clock_fits d s i (Some pid) r e =
+    let below = slots_below d.description (Pcr i) pid r e in
     (omega (arith, below), reference_fits d.description.rate d.description.base0 (188 * s + 10))
 
 -- The contents of all streams fit into packets.
@@ -152,7 +151,7 @@ slot_fits : (d : Scheduled) (units : ℕ → List AccessUnit) (s : ℕ) (slot : 
     ContentFits (content_in d units s slot)
 unfolding content_in slot_pid
 slot_fits d units s (Stream k) r fits = stream_fits d units s k (slice_get d.description.streams k) fits refl
-slot_fits d units s (Pcr i) r fits = clock_fits d s i (slice_get d.description.programs i) r refl
+slot_fits d units s (Pcr i) r fits = clock_fits d s i (slot_pid d.description (Pcr i)) r refl
 slot_fits d units s (Table t) r fits = table_fits d s t (slice_get (table_kinds d.description) t) r refl
 slot_fits d units s Null r fits = tt
 

@@ -14,7 +14,7 @@ use Rattle.slot_contents.specs.RunLaws.{Fits}
 use Rattle.slot_contents.proofs.Runs.{run_pid_list, run_indices, run_two}
 use Rattle.description_parts.specs.Described.{DescribedProgram}
 use Rattle.description_parts.specs.Ranges.{IsInRange}
-use Rattle.description_parts.specs.Tables.{table_kind, table_pid, kind_pid}
+use Rattle.description_parts.specs.Tables.{clock_of, table_kind, table_pid, kind_pid}
 use Rattle.description_parts.specs.declared.table_kind.TableKind.TheVariants.{Pmt}
 use Rattle.description_parts.proofs.TableNumbers.{table_kind-pmt}
 use Rattle.slot_plan.specs.declared.slot.Slot.{Slot}
@@ -24,6 +24,7 @@ use Rattle.slot_plan.specs.Items.{is_own}
 use Rattle.slot_plan.specs.Schedule.{slot_of, owned}
 use Rattle.slot_plan.specs.SlotPids.{slot_pid}
 use Rattle.slot_plan.proofs.SlotPids.{slots_apart, slots_below}
+use Rattle.slot_plan.proofs.Clocks.{clock_named}
 use Rattle.slot_plan.specs.Promised.{Promised}
 use Rattle.unit_timing.specs.SystemBuffer.{system_tb_fullness, bsys_fullness}
 use Rattle.tstd.specs.Carried.{table_packets}
@@ -35,10 +36,6 @@ use Rattle.mux_core.proofs.RisingSlots.{part_rises}
 
 -- Clock references
 
-clock_named : (d : Scheduled) (i : ℕ) (p : DescribedProgram) → slice_get d.description.programs i ≡ Some p → slot_pid d.description (Pcr i) ≡ Some p.pcr_pid
-unfolding slot_pid
-clock_named d i p is = rw is refl
-
 own_is : (i : ℕ) (slot : Slot) → is_own (PcrItem i) slot ≡ true → slot ≡ Pcr i
 own_is i (Stream k) e = absurd (false≢true e)
 own_is i (Pcr j) e = ap Pcr (sym (eqb-true i j e))
@@ -46,31 +43,31 @@ own_is i (Table t) e = absurd (false≢true e)
 own_is i Null e = absurd (false≢true e)
 
 -- The clock reference that a slot writes.
-abbrev clock_of : (d : Scheduled) (p : DescribedProgram) → ℕ → Content
-clock_of d p s = PcrContent p.pcr_pid (pcr_at d.description.rate d.description.base0 (188 * s + 10))
+abbrev reference_in : (d : Scheduled) (p : DescribedProgram) → ℕ → Content
+reference_in d p s = PcrContent p.pcr_pid (pcr_at d.description.rate d.description.base0 (188 * s + 10))
 
-clock_at : (d : Scheduled) (units : ℕ → List AccessUnit) (s i : ℕ) (p : DescribedProgram) → slice_get d.description.programs i ≡ Some p →
-    slot_of d.schedule s ≡ Pcr i
-    → content_at d units s ≡ clock_of d p s
+clock_at : (d : Scheduled) (units : ℕ → List AccessUnit) (s k : ℕ) (p : DescribedProgram) → slot_pid d.description (Pcr k) ≡ Some p.pcr_pid →
+    slot_of d.schedule s ≡ Pcr k
+    → content_at d units s ≡ reference_in d p s
 unfolding content_at content_in pcr_content
-clock_at d units s i p is e = ap (content_in d units s) e ∙ ap (pcr_content d.description s) is
+clock_at d units s k p named e = ap (content_in d units s) e ∙ ap (pcr_content d.description s) named
 
-clock_pid : (d : Scheduled) (p : DescribedProgram) (s : ℕ) → is_of_pid p.pcr_pid (view_of (clock_of d p s)) ≡ true
+clock_pid : (d : Scheduled) (p : DescribedProgram) (s : ℕ) → is_of_pid p.pcr_pid (view_of (reference_in d p s)) ≡ true
 unfolding content_pid
-clock_pid d p s = is_content_pid p.pcr_pid (clock_of d p s) ∙ eq-eqb p.pcr_pid p.pcr_pid refl
+clock_pid d p s = is_content_pid p.pcr_pid (reference_in d p s) ∙ eq-eqb p.pcr_pid p.pcr_pid refl
 
--- The packets with a program's PCR PID are exactly the packets in its clock's slots.
-clock_slots : (d : Scheduled) (units : ℕ → List AccessUnit) (i : ℕ) (p : DescribedProgram) → IsInRange d.description →
-    slice_get d.description.programs i ≡ Some p → (s : ℕ)
-    → is_of_pid p.pcr_pid (view_of (content_at d units s)) ≡ owned d.schedule (PcrItem i) s
-clock_slots d units i p r is s = elim (cases_Bool (owned d.schedule (PcrItem i) s)) [
-  | inl y ↦ ap (λ (c : Content). is_of_pid p.pcr_pid (view_of c)) (clock_at d units s i p is (own_is i (slot_of d.schedule s) y)) ∙ clock_pid d p s ∙ sym y
-  | inr n ↦ silent d units s p.pcr_pid (Pcr i) r (clock_named d i p is) (λ e. false≢true (sym n ∙ ap (is_own (PcrItem i)) e ∙ eq-eqb i i refl)) ∙ sym n
+-- The packets with a program's PCR PID are exactly the packets in the slots that name its clock.
+clock_slots : (d : Scheduled) (units : ℕ → List AccessUnit) (k : ℕ) (p : DescribedProgram) → IsInRange d.description →
+    slot_pid d.description (Pcr k) ≡ Some p.pcr_pid → (s : ℕ)
+    → is_of_pid p.pcr_pid (view_of (content_at d units s)) ≡ owned d.schedule (PcrItem k) s
+clock_slots d units k p r named s = elim (cases_Bool (owned d.schedule (PcrItem k) s)) [
+  | inl y ↦ ap (λ (c : Content). is_of_pid p.pcr_pid (view_of c)) (clock_at d units s k p named (own_is k (slot_of d.schedule s) y)) ∙ clock_pid d p s ∙ sym y
+  | inr n ↦ silent d units s p.pcr_pid (Pcr k) r named (λ e. false≢true (sym n ∙ ap (is_own (PcrItem k)) e ∙ eq-eqb k k refl)) ∙ sym n
 ]
 
 -- The value of each clock reference is the clock at its slot.
 clock_says : (d : Scheduled) (p : DescribedProgram) (content : ℕ → Content) (s n : ℕ) →
-    ((t : ℕ) → is_of_pid p.pcr_pid (view_of (content t)) ≡ true → content t ≡ clock_of d p t)
+    ((t : ℕ) → is_of_pid p.pcr_pid (view_of (content t)) ≡ true → content t ≡ reference_in d p t)
     → map (λ e. e.packet) (entries_in p.pcr_pid content s n)
     ≡ map (λ e. pcr_view p.pcr_pid (pcr_at d.description.rate d.description.base0 (188 * e.index + 10))) (entries_in p.pcr_pid content s n)
 unfolding entries_in view_of
@@ -156,13 +153,19 @@ program_kept d units slots i p r promised fits is = record {
     listed : pid_list p.pcr_pid (run_bytes content 0 slots) ≡ entries_in p.pcr_pid content 0 slots
     listed = run_pid_list p.pcr_pid slots content fits
 
-    clock : (t : ℕ) → is_of_pid p.pcr_pid (view_of (content t)) ≡ true → content t ≡ clock_of d p t
-    clock t y = clock_at d units t i p is (own_is i (slot_of d.schedule t) (sym (clock_slots d units i p r is t) ∙ y))
+    k : ℕ
+    k = clock_of d.description i
+
+    named : slot_pid d.description (Pcr k) ≡ Some p.pcr_pid
+    named = clock_named d.description i p r is
+
+    clock : (t : ℕ) → is_of_pid p.pcr_pid (view_of (content t)) ≡ true → content t ≡ reference_in d p t
+    clock t y = clock_at d units t k p named (own_is k (slot_of d.schedule t) (sym (clock_slots d units k p r named t) ∙ y))
 
     times : map (λ e. 188 * e.index + 10) (pid_list p.pcr_pid (run_bytes content 0 slots)) ≡ map (λ s. 188 * s + 10)
-        (own_slots (owned d.schedule (PcrItem i)) 0 slots)
+        (own_slots (owned d.schedule (PcrItem k)) 0 slots)
     times = indices_at_ten (pid_list p.pcr_pid (run_bytes content 0 slots))
-        ∙ ap (map (λ (s : ℕ). 188 * s + 10)) (run_indices p.pcr_pid slots content (owned d.schedule (PcrItem i)) fits (clock_slots d units i p r is))
+        ∙ ap (map (λ (s : ℕ). 188 * s + 10)) (run_indices p.pcr_pid slots content (owned d.schedule (PcrItem k)) fits (clock_slots d units k p r named))
 
     part : List ℕ
     part = own_slots (enters p.pmt_pid content) 0 slots

@@ -3,7 +3,7 @@ use Rattle.std.specs.Prelude.{ℕ, suc, ◌+◌, ◌*◌, nat_eq, cond, List, []
 use Rattle.clock27.specs.Reference.{pcr_at}
 use Rattle.pes_packet.specs.AccessUnits.{AccessUnit}
 use Rattle.slot_contents.specs.Contents.{Content, PcrContent, NullContent, run_bytes}
-use Rattle.description_parts.specs.Described.{Described, DescribedProgram, DescribedStream}
+use Rattle.description_parts.specs.Described.{Described, DescribedStream}
 use Rattle.description_parts.specs.Tables.{table_kinds, table_pid, section_lengths}
 use Rattle.description.specs.SectionBytes.{table_bytes}
 use Rattle.description_parts.specs.declared.table_kind.TableKind.{TableKind}
@@ -11,6 +11,7 @@ use Rattle.slot_plan.specs.declared.slot.Slot.{Slot}
 use Rattle.slot_plan.specs.declared.slot.Slot.TheVariants.{Stream, Pcr, Table, Null}
 use Rattle.slot_plan.specs.declared.slot.Item.TheVariants.{Stream as StreamItem, Table as TableItem}
 use Rattle.slot_plan.specs.Schedule.{slot_of, owned}
+use Rattle.slot_plan.specs.SlotPids.{slot_pid}
 use Rattle.unit_queue.specs.declared.parameters.StreamParameters.{StreamParameters}
 use Rattle.unit_queue.specs.OwnedStreams.{OwnedStream}
 use Rattle.unit_queue.specs.Places.{stream_content}
@@ -45,10 +46,10 @@ unfoldable pub stream_in : Scheduled → (ℕ → List AccessUnit) → ℕ → �
 stream_in d units slot k None = NullContent
 stream_in d units slot k (Some s) = stream_content (owned_stream d k s) (units k) slot
 
--- what a clock reference slot of a program carries: the clock at byte 10 of its packet (ISO/IEC 13818-1, 2.4.3.5)
-unfoldable pub pcr_content : Described → ℕ → Option DescribedProgram → Content
+-- what a slot of clock references on this PID carries: the clock at byte 10 of its packet (ISO/IEC 13818-1, 2.4.3.5)
+unfoldable pub pcr_content : Described → ℕ → Option ℕ → Content
 pcr_content d slot None = NullContent
-pcr_content d slot (Some p) = PcrContent p.pcr_pid (pcr_at d.rate d.base0 (188 * slot + 10))
+pcr_content d slot (Some pid) = PcrContent pid (pcr_at d.rate d.base0 (188 * slot + 10))
 
 -- a table on its own slots: its sections with their greatest lengths, and their bytes by the moment
 abbrev pub table_of : Scheduled → ℕ → TableSlots
@@ -69,7 +70,7 @@ table_in d slot t (Some kind) = table_content (table_of d t) slot
 -- what a slot of this kind carries
 unfoldable pub content_in : Scheduled → (ℕ → List AccessUnit) → ℕ → Slot → Content
 content_in d units slot (Stream k) = stream_in d units slot k (slice_get d.description.streams k)
-content_in d units slot (Pcr p) = pcr_content d.description slot (slice_get d.description.programs p)
+content_in d units slot (Pcr p) = pcr_content d.description slot (slot_pid d.description (Pcr p))
 content_in d units slot (Table t) = table_in d slot t (slice_get (table_kinds d.description) t)
 content_in d units slot Null = NullContent
 

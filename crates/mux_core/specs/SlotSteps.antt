@@ -6,6 +6,7 @@ use Rattle.description_parts.specs.Tables.{table_count, section_count}
 use Rattle.description.specs.SectionBytes.{table_bytes}
 use Rattle.slot_plan.specs.declared.slot.Slot.{Slot}
 use Rattle.slot_plan.specs.declared.slot.Slot.TheVariants.{Stream, Pcr, Table, Null}
+use Rattle.slot_plan.specs.SlotPids.{slot_pid}
 use Rattle.unit_queue.specs.Queues.{Queue}
 use Rattle.pes_packet.specs.AccessUnits.{AccessUnit}
 use Rattle.unit_queue.specs.declared.refusal.FeedError.{FeedError}
@@ -40,7 +41,7 @@ carousels_after source slot carousels t (Some carousel) = set carousels t (carou
 -- what the next slot carries, if it is of this kind
 unfoldable pub sends : MuxState → Slot → Content
 sends m (Stream k) = queue_sends m.slots (slice_get m.queues k)
-sends m (Pcr p) = pcr_content m.schedule.description m.slots (slice_get m.schedule.description.programs p)
+sends m (Pcr p) = pcr_content m.schedule.description m.slots (slot_pid m.schedule.description (Pcr p))
 sends m (Table t) = carousel_sends (section_bytes m.schedule.description t) m.slots (slice_get m.carousels t)
 sends m Null = NullContent
 

@@ -3,6 +3,8 @@
 ghost use Rattle.std.specs.Prelude.{◌≡◌, ◌<◌, ◌^◌, slice_get};
 ghost use Rattle.slot_contents.specs.Contents.{PcrContent, NullContent, packet_of};
 ghost use Rattle.description_parts.specs.Ranges.{IsInRange};
+ghost use Rattle.slot_plan.specs.SlotPids.{slot_pid};
+ghost use Rattle.slot_plan.specs.declared.slot.Slot.TheVariants.{Pcr as PcrSlot};
 ghost use Rattle.mux_core.specs.Histories.{pcr_content};
 ghost use Rattle.mux_core.specs.SlotSteps.{section_bytes, queue_sends, queues_after, carousel_sends, carousels_after};
 
@@ -58,13 +60,17 @@ pub(crate) fn write_table<A: Allocator>(
     carousel.write_next(&sections, slot, packet);
 }
 
-/// Writes the clock reference of a program: the time of byte 10 of the packet (ISO/IEC 13818-1, 2.4.3.5).
-#[tactic(auto, unfolding(crate::specs::Histories::pcr_content))]
+/// Writes the clock reference of a program: the time of byte 10 of the packet (ISO/IEC 13818-1, 2.4.3.5). Writes the
+/// null packet if the program has no clock references, or those of another one.
+#[tactic(auto, unfolding(crate::specs::Histories::pcr_content, slot_plan::specs::SlotPids::slot_pid))]
 pub(crate) fn write_program_pcr(description: &Description, p: u8, slot: u64, packet: &mut [u8; 188])
     requires ranges { IsInRange description.now }
     requires slot { slot < 2 ^ 40 }
-    ensures { packet.new ≡ packet_of (pcr_content description.now slot (slice_get description.now.programs p)) }
+    ensures { packet.new ≡ packet_of (pcr_content description.now slot (slot_pid description.now (PcrSlot p))) }
 {
+    if !description.has_references(p as usize) {
+        return write_null(packet);
+    }
     let Some(program) = description.programs().get(p as usize) else {
         return write_null(packet);
     };
