@@ -1,5 +1,5 @@
 -- The tables of a description are written as sections that a reader accepts; no section has table_id 0xFF.
-use Rattle.std.proofs.Common.{◌≡◌, ℕ, ◌+◌, ◌%◌, ◌<◌, ◌≤◌, ◌==◌, Bool, true, false, List, [], ◌++◌, length, map, Option, None, Some, refl, arith, length-append}
+use Rattle.std.proofs.Common.{◌≡◌, ℕ, ◌+◌, ◌<◌, ◌≤◌, ◌==◌, Bool, true, false, List, [], ◌++◌, length, map, Option, None, Some, refl, arith, length-append}
 use Rattle.std.proofs.Common.{All, ne_eqb, if◌then◌else◌}
 use Rattle.std.specs.Option.{option_to_list}
 use Rattle.std.specs.Prelude.{is_some}
@@ -83,29 +83,40 @@ nit_written d None section is within le = absurd (omega (arith, within))
 nit_written d (Some n) section is within le =
     long_written 0x40 true (nit_says d n).header (nit_body (nit_says d n)) (omega arith) (single_fits n.id (All-head IsNetwork n [] is).id) le
 
-pub sdt_written : (d : Described) (b : Bool) → IsInRange d → b ≡ true → Fits4096 (if b then section_bytes (sdt_section (sdt_says d)) else []) →
-    IsWritten (if b then section_bytes (sdt_section (sdt_says d)) else [])
-unfolding sdt_section
-sdt_written d false r is le = absurd cc
-sdt_written d true r is le =
-    long_written 0x42 true (sdt_says d).header (sdt_body (sdt_says d)) (omega arith) (single_fits d.transport_stream_id r.transport_stream_id) le
+-- the section of a part of the services
+abbrev part_bytes : Described → ℕ → ℕ → Option (List DescribedProgram) → List ℕ
+part_bytes d number last o = elim o as (λ _. List ℕ) [ None ↦ [] | Some part ↦ section_bytes (sdt_section (sdt_says d part number last)) ]
 
-eit_header_fits : (d : Described) (p : DescribedProgram) (section moment : ℕ) → IsProgram p → LongFits (eit_says d moment p (section % 2)).header
-eit_header_fits d p section moment is = record {
+pub sdt_written : (d : Described) (b : Bool) (o : Option (List DescribedProgram)) (number last : ℕ) → IsInRange d → b ≡ true → is_some o ≡ true →
+    number < 256 → last < 256 → Fits4096 (if b then part_bytes d number last o else []) → IsWritten (if b then part_bytes d number last o else [])
+unfolding sdt_section
+sdt_written d false o number last r is there low most le = absurd cc
+sdt_written d true None number last r is there low most le = absurd cc
+sdt_written d true (Some part) number last r is there low most le =
+    long_written 0x42 true (sdt_says d part number last).header (sdt_body (sdt_says d part number last)) (omega arith)
+    (record {
+      table_id_extension = omega (arith, r.transport_stream_id);
+      version_number = omega arith;
+      section_number = omega (arith, low);
+      last_section_number = omega (arith, most);
+    }) le
+
+eit_header_fits : (d : Described) (p : DescribedProgram) (number moment : ℕ) → number < 2 → IsProgram p → LongFits (eit_says d moment p number).header
+eit_header_fits d p number moment lt is = record {
   table_id_extension = omega (arith, is.most_number);
   version_number = omega arith;
-  section_number = omega arith;
+  section_number = omega (arith, lt);
   last_section_number = omega arith;
 }
 
-pub eit_written : (d : Described) (o : Option DescribedProgram) (section moment : ℕ) → All IsProgram (option_to_list o) → is_some o ≡ true →
-    Fits4096 (elim o as (λ _. List ℕ) [ None ↦ [] | Some program ↦ section_bytes (eit_section (eit_says d moment program (section % 2))) ]) →
-    IsWritten (elim o as (λ _. List ℕ) [ None ↦ [] | Some program ↦ section_bytes (eit_section (eit_says d moment program (section % 2))) ])
+pub eit_written : (d : Described) (o : Option DescribedProgram) (number moment : ℕ) → number < 2 → All IsProgram (option_to_list o) → is_some o ≡ true →
+    Fits4096 (elim o as (λ _. List ℕ) [ None ↦ [] | Some program ↦ section_bytes (eit_section (eit_says d moment program number)) ]) →
+    IsWritten (elim o as (λ _. List ℕ) [ None ↦ [] | Some program ↦ section_bytes (eit_section (eit_says d moment program number)) ])
 unfolding eit_section
-eit_written d None section moment is there le = absurd cc
-eit_written d (Some p) section moment is there le =
-    long_written 0x4E true (eit_says d moment p (section % 2)).header (eit_body (eit_says d moment p (section % 2))) (omega arith)
-    (eit_header_fits d p section moment (All-head IsProgram p [] is)) le
+eit_written d None number moment lt is there le = absurd cc
+eit_written d (Some p) number moment lt is there le =
+    long_written 0x4E true (eit_says d moment p number).header (eit_body (eit_says d moment p number)) (omega arith)
+    (eit_header_fits d p number moment lt (All-head IsProgram p [] is)) le
 
 pub tdt_written : (d : Described) (section moment : ℕ) → IsWritten (kind_bytes d Tdt section moment)
 unfolding tdt_section

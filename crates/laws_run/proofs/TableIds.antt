@@ -1,5 +1,5 @@
 -- The table_id of each section of a table that is not ready-made.
-use Rattle.std.proofs.Common.{◌≡◌, ℕ, ◌/◌, ◌%◌, ◌<◌, Bool, true, false, List, [], length, map, slice_get, Option, None, Some, refl, subst, ◌∙◌, ap, arith}
+use Rattle.std.proofs.Common.{◌≡◌, ℕ, ◌-◌, ◌<◌, Bool, true, false, List, [], length, map, slice_get, Option, None, Some, refl, subst, ◌∙◌, ap, arith}
 use Rattle.std.proofs.Common.{if◌then◌else◌}
 use Rattle.std.specs.Prelude.{is_some, slice_index}
 use Rattle.std.specs.Option.{option_to_list}
@@ -12,12 +12,12 @@ use Rattle.dvb_tables.specs.EventInformation.{eit_section}
 use Rattle.dvb_tables.specs.TimeAndDate.{tdt_section}
 use Rattle.description_parts.specs.Described.{Described, DescribedNetwork, DescribedProgram}
 use Rattle.description_parts.specs.Tables.{scheduled_programs, table_kinds, table_kind, kind_lengths, section_lengths, section_count, pmt_length, nit_length}
+use Rattle.description_parts.specs.Tables.{sdt_parts, eit_place}
 use Rattle.description.specs.SectionBytes.{pmt_says, nit_says, sdt_says, eit_bytes, kind_bytes, table_bytes}
 use Rattle.description_parts.specs.declared.table_kind.TableKind.{TableKind}
 use Rattle.description_parts.specs.declared.table_kind.TableKind.TheVariants.{Pat, Pmt, Nit, Sdt, Eit, Tdt, Private}
 use Rattle.description.proofs.Pids.{at_place}
-use Rattle.laws_run.proofs.TablesWritten.{IsThere, kinds_there, IsMade, some_there}
-use Rattle.description.proofs.SectionCounts.{eit_count}
+use Rattle.laws_run.proofs.TablesWritten.{IsThere, kinds_there, IsMade, some_there, eit_there, part_there}
 
 -- The table_id of each kind (ISO/IEC 13818-1, table 2-31; EN 300 468, table 2); a ready-made table may have any table_id
 abbrev pub table_id_of : TableKind → ℕ
@@ -48,16 +48,18 @@ unfolding section_bytes with_crc header_bytes front_bytes start_bytes nit_sectio
 nit_id d None section within = absurd (omega (arith, within))
 nit_id d (Some n) section within = refl
 
-sdt_id : (d : Described) (b : Bool) → b ≡ true → HasId 0x42 (if b then section_bytes (sdt_section (sdt_says d)) else [])
+sdt_id : (d : Described) (b : Bool) (o : Option (List DescribedProgram)) (number last : ℕ) → b ≡ true → is_some o ≡ true →
+    HasId 0x42 (if b then (elim o as (λ _. List ℕ) [ None ↦ [] | Some part ↦ section_bytes (sdt_section (sdt_says d part number last)) ]) else [])
 unfolding section_bytes with_crc header_bytes front_bytes start_bytes sdt_section
-sdt_id d false is = absurd (cc)
-sdt_id d true is = refl
+sdt_id d false o number last is there = absurd (cc)
+sdt_id d true None number last is there = absurd (cc)
+sdt_id d true (Some part) number last is there = refl
 
-eit_id : (d : Described) (o : Option DescribedProgram) (section moment : ℕ) → is_some o ≡ true →
-    HasId 0x4E (elim o as (λ _. List ℕ) [ None ↦ [] | Some program ↦ eit_bytes d moment program (section % 2) ])
+eit_id : (d : Described) (o : Option DescribedProgram) (number moment : ℕ) → is_some o ≡ true →
+    HasId 0x4E (elim o as (λ _. List ℕ) [ None ↦ [] | Some program ↦ eit_bytes d moment program number ])
 unfolding section_bytes with_crc header_bytes front_bytes start_bytes eit_section
-eit_id d None section moment there = absurd (cc)
-eit_id d (Some p) section moment there = refl
+eit_id d None number moment there = absurd (cc)
+eit_id d (Some p) number moment there = refl
 
 tdt_id : (d : Described) (section moment : ℕ) → HasId 0x70 (kind_bytes d Tdt section moment)
 unfolding section_bytes with_crc header_bytes front_bytes start_bytes tdt_section
@@ -68,10 +70,11 @@ kind_id : (d : Described) (k : TableKind) (section moment : ℕ) → IsThere d k
 kind_id d Pat section moment there made within = pat_id d section moment
 kind_id d (Pmt p) section moment there made within = pmt_id d (slice_get d.programs p) section within
 kind_id d Nit section moment there made within = nit_id d d.network section within
-kind_id d Sdt section moment there made within = sdt_id d d.has_sdt there
+kind_id d Sdt section moment there made within =
+    sdt_id d d.has_sdt (slice_get (sdt_parts d) section) section (length (sdt_parts d) - 1) there (part_there d section within)
 kind_id d Eit section moment there made within =
-    let lt : section / 2 < length (scheduled_programs d) = omega (arith, within, eit_count (scheduled_programs d)) in
-    eit_id d (slice_get (scheduled_programs d) (section / 2)) section moment (some_there (scheduled_programs d) (section / 2) lt)
+    let place : ℕ = (eit_place d section).0 in
+    eit_id d (slice_get (scheduled_programs d) place) (eit_place d section).1 moment (some_there (scheduled_programs d) place (eit_there d section within).0)
 kind_id d Tdt section moment there made within = tdt_id d section moment
 kind_id d (Private i) section moment there made within = absurd made
 

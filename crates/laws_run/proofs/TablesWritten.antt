@@ -1,22 +1,25 @@
 -- Each section of each table that is not ready-made can be written.
-use Rattle.std.proofs.Common.{◌≡◌, ℕ, zero, suc, ◌+◌, ◌/◌, ◌<◌, ◌≤◌, Bool, true, false, List, [], ◌∷◌, ◌++◌, length, map, get_or, slice_get, Option, None, Some}
-use Rattle.std.proofs.Common.{refl, sym, subst, arith, All}
+use Rattle.std.proofs.Common.{◌≡◌, ℕ, zero, suc, ◌+◌, ◌-◌, ◌*◌, ◌/◌, ◌%◌, ◌<◌, ◌≤◌, Bool, true, false, List, [], ◌∷◌, ◌++◌, length, map, get_or, slice_get}
+use Rattle.std.proofs.Common.{Option, None, Some, refl, sym, subst, arith, All, if◌then◌else◌}
 use Rattle.std.specs.Option.{option_to_list}
 use Rattle.std.specs.List.{list_any}
 use Rattle.std.specs.Prelude.{is_some, ⊤}
+use Rattle.std.proofs.lemmas.List.{length-map}
+use Rattle.std.proofs.lemmas.Nat.{div_below, mod_below}
+use Rattle.std.proofs.lemmas.Option.{slice_get_within}
 use Rattle.std.proofs.lemmas.List.Elements.{All-head, All-tail, All-nil, All-cons, All-append, All-filter, All-get_or}
 use Rattle.description_parts.specs.Described.{Described, DescribedNetwork, DescribedProgram, DescribedEvent}
 use Rattle.description_parts.specs.Ranges.{IsInRange, IsProgram, IsEvent}
 use Rattle.description_parts.specs.Tables.{numbers_from, only_if, has_event, scheduled_programs, service_tables, table_kinds, table_kind, kind_lengths}
-use Rattle.description_parts.specs.Tables.{section_lengths, section_count, pat_length, pmt_length, nit_length, sdt_length, eit_length, eit_lengths}
-use Rattle.description_parts.specs.Tables.{longest_event}
+use Rattle.description_parts.specs.Tables.{section_lengths, section_count, pat_length, pmt_length, nit_length, sdt_length, sdt_parts, eit_length, eit_lengths}
+use Rattle.description_parts.specs.Tables.{eit_place, longest_event}
 use Rattle.description.specs.SectionBytes.{kind_bytes, table_bytes}
 use Rattle.description_parts.specs.declared.table_kind.TableKind.{TableKind}
 use Rattle.description_parts.specs.declared.table_kind.TableKind.TheVariants.{Pat, Pmt, Nit, Sdt, Eit, Tdt, Private}
 use Rattle.description.proofs.SectionBounds.{table_bytes_fit}
 use Rattle.description.proofs.Pids.{at_place}
 use Rattle.laws_run.proofs.DescribedSections.{IsWritten, Fits4096, pat_written, pmt_written, nit_written, sdt_written, eit_written, tdt_written}
-use Rattle.description.proofs.SectionCounts.{eit_count}
+use Rattle.description.proofs.SectionCounts.{eit_count, sections_law}
 
 -- The SDT, which is a table only if the description has one
 
@@ -74,12 +77,24 @@ events_short (e ∷ es) h =
     let first = All-head IsEvent e es h in
     omega (arith, first.name.fits, first.text.fits, events_short es (All-tail IsEvent e es h))
 
-schedules_short : (ps : List DescribedProgram) → All IsProgram ps → All Below4096 (eit_lengths ps)
-schedules_short [] h = All-nil Below4096
-schedules_short (p ∷ ps) h =
-    let short : eit_length p ≤ 4096 = omega (arith, events_short p.events (All-head IsProgram p ps h).events) in
+program_short : (p : DescribedProgram) (ps : List DescribedProgram) → All IsProgram (p ∷ ps) → eit_length p ≤ 4096
+program_short p ps h = omega (arith, events_short p.events (All-head IsProgram p ps h).events)
+
+programs_short : (ps : List DescribedProgram) → All IsProgram ps → All Below4096 (map eit_length ps)
+programs_short [] h = All-nil Below4096
+programs_short (p ∷ ps) h = All-cons Below4096 (eit_length p) (map eit_length ps) (program_short p ps h) (programs_short ps (All-tail IsProgram p ps h))
+
+pairs_short : (ps : List DescribedProgram) → All IsProgram ps → All Below4096 (eit_lengths ps)
+pairs_short [] h = All-nil Below4096
+pairs_short (p ∷ ps) h =
+    let short = program_short p ps h in
     All-cons Below4096 (eit_length p) (eit_length p ∷ eit_lengths ps) short
-    (All-cons Below4096 (eit_length p) (eit_lengths ps) short (schedules_short ps (All-tail IsProgram p ps h)))
+    (All-cons Below4096 (eit_length p) (eit_lengths ps) short (pairs_short ps (All-tail IsProgram p ps h)))
+
+schedules_short : (b : Bool) (ps : List DescribedProgram) → All IsProgram ps →
+    All Below4096 (if b then map eit_length ps ++ map eit_length ps else eit_lengths ps)
+schedules_short true ps h = All-append Below4096 (map eit_length ps) (map eit_length ps) (programs_short ps h) (programs_short ps h)
+schedules_short false ps h = pairs_short ps h
 
 one_short : (l : ℕ) → l ≤ 4096 → All Below4096 (l ∷ [])
 one_short l le = All-cons Below4096 l [] le (All-nil Below4096)
@@ -113,8 +128,8 @@ kind_short d (Pmt p) r there made =
     mapped_short (pmt_length d) (slice_get d.programs p)
     (at_most_one (λ (x : DescribedProgram). pmt_length d x ≤ 1024) d.programs p (slice_get d.programs p) r.pmt_lengths refl)
 kind_short d Nit r there made = mapped_short nit_length d.network r.nit_length
-kind_short d Sdt r there made = let le = r.sdt_length there in one_short (sdt_length d) (omega (arith, le))
-kind_short d Eit r there made = schedules_short (scheduled_programs d) (All-filter has_event IsProgram d.programs r.programs)
+kind_short d Sdt r there made = λ k z within. let le = r.sdt_lengths there k z within in omega (arith, le)
+kind_short d Eit r there made = schedules_short d.is_transponder (scheduled_programs d) (All-filter has_event IsProgram d.programs r.programs)
 kind_short d Tdt r there made = one_short 8 (omega arith)
 kind_short d (Private i) r there made = absurd made
 
@@ -125,21 +140,40 @@ some_there [] i lt = absurd (omega (arith, lt))
 some_there (x ∷ xs) zero lt = refl
 some_there (x ∷ xs) (suc i) lt = some_there xs i (omega (arith, lt))
 
+-- the place of the program of a section of the EIT, and the number of the section
+abbrev place_in : Bool → ℕ → ℕ → ℕ × ℕ
+place_in b n section = if b then (section % n, section / n) else (section / 2, section % 2)
+
+place_there : (b : Bool) (n section : ℕ) → section < 2 * n → ((place_in b n section).0 < n) × ((place_in b n section).1 < 2)
+place_there true n section lt = let some : 0 < n = omega (arith, lt) in (mod_below section n some, div_below section n 2 some lt)
+place_there false n section lt = (omega (arith, lt), omega arith)
+
+pub eit_there : (d : Described) (section : ℕ) → section < length (kind_lengths d Eit) →
+    ((eit_place d section).0 < length (scheduled_programs d)) × ((eit_place d section).1 < 2)
+eit_there d section within = place_there d.is_transponder (length (scheduled_programs d)) section (omega (arith, within, eit_count d))
+
+pub part_there : (d : Described) (section : ℕ) → section < length (kind_lengths d Sdt) → is_some (slice_get (sdt_parts d) section) ≡ true
+part_there d section within = some_there (sdt_parts d) section (omega (arith, within, length-map (sdt_parts d) sdt_length))
+
 kind_written : (d : Described) (k : TableKind) (section moment : ℕ) → IsInRange d → IsThere d k → IsMade k → section < length (kind_lengths d k) →
-    Fits4096 (kind_bytes d k section moment) → IsWritten (kind_bytes d k section moment)
-kind_written d Pat section moment r there made within le = pat_written d section moment r le
-kind_written d (Pmt p) section moment r there made within le =
+    length (kind_lengths d k) ≤ 128 → Fits4096 (kind_bytes d k section moment) → IsWritten (kind_bytes d k section moment)
+kind_written d Pat section moment r there made within few le = pat_written d section moment r le
+kind_written d (Pmt p) section moment r there made within few le =
     pmt_written d (slice_get d.programs p) section (at_most_one IsProgram d.programs p (slice_get d.programs p) r.programs refl) within le
-kind_written d Nit section moment r there made within le = nit_written d d.network section r.network within le
-kind_written d Sdt section moment r there made within le = sdt_written d d.has_sdt r there le
-kind_written d Eit section moment r there made within le =
-    let lt : section / 2 < length (scheduled_programs d) = omega (arith, within, eit_count (scheduled_programs d)) in
-    let o : Option DescribedProgram = slice_get (scheduled_programs d) (section / 2) in
-    eit_written d o section moment
-    (at_most_one IsProgram (scheduled_programs d) (section / 2) o (All-filter has_event IsProgram d.programs r.programs) refl)
-    (some_there (scheduled_programs d) (section / 2) lt) le
-kind_written d Tdt section moment r there made within le = tdt_written d section moment
-kind_written d (Private i) section moment r there made within le = absurd made
+kind_written d Nit section moment r there made within few le = nit_written d d.network section r.network within le
+kind_written d Sdt section moment r there made within few le =
+    let count = length-map (sdt_parts d) sdt_length in
+    sdt_written d d.has_sdt (slice_get (sdt_parts d) section) section (length (sdt_parts d) - 1) r there (part_there d section within)
+    (omega (arith, within, few)) (omega (arith, count, few)) le
+kind_written d Eit section moment r there made within few le =
+    let place : ℕ = (eit_place d section).0 in
+    let is = eit_there d section within in
+    let o : Option DescribedProgram = slice_get (scheduled_programs d) place in
+    eit_written d o (eit_place d section).1 moment is.1
+    (at_most_one IsProgram (scheduled_programs d) place o (All-filter has_event IsProgram d.programs r.programs) refl)
+    (some_there (scheduled_programs d) place is.0) le
+kind_written d Tdt section moment r there made within few le = tdt_written d section moment
+kind_written d (Private i) section moment r there made within few le = absurd made
 
 -- The section of a table that is not ready-made can be written.
 pub text_written : (d : Described) (t section moment : ℕ) (k : TableKind) → IsInRange d → table_kind d t ≡ Some k → IsMade k → section < section_count d t →
@@ -153,4 +187,6 @@ text_written d t section moment k r is made within =
     subst (λ (bytes : List ℕ). length bytes ≤ get_or (kind_lengths d k) section 0) text
     (subst (λ (ls : List ℕ). length (table_bytes d t section moment) ≤ get_or ls section 0) lengths (table_bytes_fit d t section moment r within)) in
     let short : get_or (kind_lengths d k) section 0 ≤ 4096 = All-get_or Below4096 (kind_lengths d k) section 0 inside (kind_short d k r there made) in
-    subst IsWritten (sym text) (kind_written d k section moment r there made inside (omega (arith, size, short)))
+    let few : length (kind_lengths d k) ≤ 128 =
+    subst (λ (ls : List ℕ). length ls ≤ 128) lengths (sections_law d t r (slice_get_within (table_kinds d) t k is)).1 in
+    subst IsWritten (sym text) (kind_written d k section moment r there made inside few (omega (arith, size, short)))

@@ -115,6 +115,8 @@ video_in_range = record {
   some_programs = omega arith;
   most_programs = omega arith;
   programs = All-cons IsProgram video_program [] program_is (All-nil IsProgram);
+  clocks = All-cons (λ (p : DescribedProgram). p.has_clock ≡ false → None ≡ Some p.pcr_pid) video_program [] (λ no. absurd (cc))
+      (All-nil (λ (p : DescribedProgram). p.has_clock ≡ false → None ≡ Some p.pcr_pid));
   most_events = omega arith;
   most_streams = omega arith;
   streams = All-cons IsStream video_stream (sound_stream ∷ []) video_is (All-cons IsStream sound_stream [] sound_is (All-nil IsStream));
@@ -127,8 +129,6 @@ video_in_range = record {
   listed = All-nil (IsListed video_service);
   distinct_pids = ((refl, (refl, (refl, tt))), ((refl, (refl, tt)), ((refl, tt), (tt, tt))));
   distinct_numbers = (tt, tt);
-  clocks = All-cons (λ (p : DescribedProgram). p.has_clock ≡ false → None ≡ Some p.pcr_pid) video_program [] (λ no. absurd (cc))
-      (All-nil (λ (p : DescribedProgram). p.has_clock ≡ false → None ≡ Some p.pcr_pid));
   pmt_lengths =
       All-cons (λ (p : DescribedProgram). pmt_length video_service p ≤ longest_section) video_program [] (omega arith)
       (All-nil (λ (p : DescribedProgram). pmt_length video_service p ≤ longest_section));

@@ -74,6 +74,8 @@ worked_in_range = record {
   some_programs = omega arith;
   most_programs = omega arith;
   programs = All-cons IsProgram worked_program [] program_is (All-nil IsProgram);
+  clocks = All-cons (λ (p : DescribedProgram). p.has_clock ≡ false → None ≡ Some p.pcr_pid) worked_program [] (λ no. absurd (cc))
+      (All-nil (λ (p : DescribedProgram). p.has_clock ≡ false → None ≡ Some p.pcr_pid));
   most_events = omega arith;
   most_streams = omega arith;
   streams = All-cons IsStream worked_stream [] stream_is (All-nil IsStream);
@@ -85,8 +87,6 @@ worked_in_range = record {
   listed = All-nil (IsListed worked_service);
   distinct_pids = ((refl, (refl, tt)), ((refl, tt), (tt, tt)));
   distinct_numbers = (tt, tt);
-  clocks = All-cons (λ (p : DescribedProgram). p.has_clock ≡ false → None ≡ Some p.pcr_pid) worked_program [] (λ no. absurd (cc))
-      (All-nil (λ (p : DescribedProgram). p.has_clock ≡ false → None ≡ Some p.pcr_pid));
   pmt_lengths =
       All-cons (λ (p : DescribedProgram). pmt_length worked_service p ≤ longest_section) worked_program [] (omega arith)
       (All-nil (λ (p : DescribedProgram). pmt_length worked_service p ≤ longest_section));

@@ -18,13 +18,11 @@ use Rattle.dvb_tables.specs.EventInformation.{eit_section}
 use Rattle.description_parts.specs.Described.{Described, DescribedProgram}
 use Rattle.description_parts.specs.Ranges.{IsInRange}
 use Rattle.description_parts.specs.Tables.{kind_lengths, kind_limit, pmt_length, scheduled_programs, section_count, section_lengths, table_count, table_kind}
-use Rattle.description_parts.specs.Tables.{table_kinds}
+use Rattle.description_parts.specs.Tables.{table_kinds, eit_place}
 use Rattle.description_parts.specs.Tables.{table_limit, table_pid}
 use Rattle.description_parts.specs.declared.table_kind.TableKind.{TableKind}
 use Rattle.description_parts.specs.declared.table_kind.TableKind.TheVariants.{Eit, Nit, Pat, Pmt, Private, Sdt, Tdt}
 use Rattle.description.specs.SectionBytes.{eit_bytes, kind_bytes, pmt_says, table_bytes}
-use Rattle.description.proofs.Pids.{at_place}
-use Rattle.description.proofs.SectionCounts.{eit_count, sections_law}
 use Rattle.slot_plan.specs.TableRounds.{section_starts}
 use Rattle.slot_plan.specs.Promised.{Promised}
 use Rattle.table_rounds.specs.Tables.{Table, moment_before, round_places}
@@ -48,7 +46,7 @@ use Rattle.laws_run.proofs.RunFindings.{has_places, has_room, is_run, one_table}
 use Rattle.laws_run.proofs.Soundness.{as_reported}
 use Rattle.laws_run.proofs.TableBegins.{made_distinguishable}
 use Rattle.laws_run.proofs.TableIds.{table_id_of, text_id}
-use Rattle.laws_run.proofs.TablesWritten.{IsMade, IsThere, kinds_there, some_there}
+use Rattle.laws_run.proofs.TablesWritten.{IsMade, eit_there, some_there}
 use Rattle.tr101290.specs.Intervals.{no_section}
 use Rattle.tr101290.specs.Limits.{milliseconds}
 use Rattle.tr101290.specs.Parts.{has_parts, part_in}
@@ -76,7 +74,7 @@ kind_part d Pat section = 0
 kind_part d (Pmt p) section = elim (slice_get d.programs p) as (λ _. ℕ) [ None ↦ 0 | Some program ↦ program.number / 256 * 256 + program.number % 256 ]
 kind_part d Nit section = 0
 kind_part d Sdt section = 0
-kind_part d Eit section = section % 2
+kind_part d Eit section = (eit_place d section).1
 kind_part d Tdt section = 0
 kind_part d (Private i) section = 0
 
@@ -92,11 +90,11 @@ unfolding section_bytes with_crc header_bytes front_bytes start_bytes long_heade
 pmt_part d None section within = absurd (omega (arith, within))
 pmt_part d (Some p) section within = record { whole = refl; first = refl }
 
-eit_part : (d : Described) (o : Option DescribedProgram) (section moment : ℕ) → is_some o ≡ true →
-    IsOfPart 0x4E (section % 2) (elim o as (λ _. List ℕ) [ None ↦ [] | Some program ↦ eit_bytes d moment program (section % 2) ])
+eit_part : (d : Described) (o : Option DescribedProgram) (number moment : ℕ) → is_some o ≡ true →
+    IsOfPart 0x4E number (elim o as (λ _. List ℕ) [ None ↦ [] | Some program ↦ eit_bytes d moment program number ])
 unfolding section_bytes with_crc header_bytes front_bytes start_bytes long_header_bytes eit_section
-eit_part d None section moment there = absurd (cc)
-eit_part d (Some p) section moment there = record { whole = refl; first = refl }
+eit_part d None number moment there = absurd (cc)
+eit_part d (Some p) number moment there = record { whole = refl; first = refl }
 
 of_kind : (d : Described) (k : TableKind) (section moment : ℕ) → HasParts k → section < length (kind_lengths d k) →
     IsOfPart (table_id_of k) (kind_part d k section) (kind_bytes d k section moment)
@@ -105,8 +103,9 @@ of_kind d (Pmt p) section moment parts within = pmt_part d (slice_get d.programs
 of_kind d Nit section moment parts within = absurd parts
 of_kind d Sdt section moment parts within = absurd parts
 of_kind d Eit section moment parts within =
-    let lt : section / 2 < length (scheduled_programs d) = omega (arith, within, eit_count (scheduled_programs d)) in
-    eit_part d (slice_get (scheduled_programs d) (section / 2)) section moment (some_there (scheduled_programs d) (section / 2) lt)
+    let place : ℕ = (eit_place d section).0 in
+    eit_part d (slice_get (scheduled_programs d) place) (eit_place d section).1 moment
+    (some_there (scheduled_programs d) place (eit_there d section within).0)
 of_kind d Tdt section moment parts within = absurd parts
 of_kind d (Private i) section moment parts within = absurd parts
 

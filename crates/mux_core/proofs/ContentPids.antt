@@ -129,7 +129,8 @@ table_fits d s t None r e = tt
 table_fits d s t (Some kind) r e = let below = slots_below d.description (Table t) (table_pid d.description t) r e in
     part_fits (table_of d t) s (omega (arith, below))
 
-clock_fits : (d : Scheduled) (s i : ℕ) (o : Option ℕ) → IsInRange d.description → slot_pid d.description (Pcr i) ≡ o → ContentFits (pcr_content d.description s o)
+clock_fits : (d : Scheduled) (s i : ℕ) (o : Option ℕ) → IsInRange d.description → slot_pid d.description (Pcr i) ≡ o →
+    ContentFits (pcr_content d.description s o)
 unfolding pcr_content
 clock_fits d s i None r e = tt
 clock_fits d s i (Some pid) r e =
