@@ -7,13 +7,14 @@ ghost use Rattle.slot_plan.specs.SwitchConditions.{pcr_switch_entry, table_switc
 use crate::across::greatest_gap_across;
 use crate::plan_pair::PlanPair;
 use clock27::SLOT_MS_AT_1BPS;
+use plan_checker::clock_item;
 use plan_checker::comparison::at_most;
 use plan_checker::conditions::ItemCondition;
 use plan_checker::failure_search::FailureSearch;
 use slot_plan::{Condition, Item, ProgramDescription, TableKind};
 use std::alloc::Allocator;
 
-/// The PCRs of each program recur over the switch (ISO/IEC 13818-1, 2.7.2).
+/// The PCRs of each program's clock recur over the switch (ISO/IEC 13818-1, 2.7.2).
 pub struct PcrSwitches;
 
 impl<A: Allocator> ItemCondition<PlanPair<'_, A>> for PcrSwitches {
@@ -29,7 +30,8 @@ impl<A: Allocator> ItemCondition<PlanPair<'_, A>> for PcrSwitches {
 
     fn check_item(plans: &PlanPair<'_, A>, i: usize, search: &mut FailureSearch) {
         let (first, second) = (plans.first.slots(), plans.second.slots());
-        let gap = greatest_gap_across(first, second, Item::Pcr(i as u8), 1);
+        let clock = clock_item(plans.description, i);
+        let gap = greatest_gap_across(first, second, clock, 1);
         let limit = plans.description.programs()[i].pcr_limit();
         at_most(
             Condition::PcrSwitch,
