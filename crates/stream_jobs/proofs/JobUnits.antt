@@ -8,6 +8,7 @@ use Rattle.pes_packet.specs.Units.{units_of}
 use Rattle.pid_findings.specs.Views.{FindingView}
 use Rattle.description_parts.specs.Described.{Described, DescribedStream}
 use Rattle.es_moments.specs.Merging.{AreMerged}
+use Rattle.given_values.specs.declared.clock_sharing.ClockSharing.{ClockSharing}
 use Rattle.stream_jobs.specs.Jobs.{Agrees, AllAgree, AreUnits, IsStream}
 use Rattle.job_inputs.specs.JobInput.{JobInputView}
 use Rattle.job_programs.specs.JobStreams.{TimedStreamView}
@@ -23,7 +24,7 @@ pub record IsUnitStream (d : Described) (units : List (ℕ × AccessUnit)) (P : 
   pub units_are : units_of k units ≡ stream.units
   pub holds : P stream
 
-pub unit_stream_of : (d : Described) (input : JobInputView) (units : List (ℕ × AccessUnit)) (P : TimedStreamView → Type 0) → AllAgree d input →
+pub unit_stream_of : {by : ClockSharing} (d : Described) (input : JobInputView) (units : List (ℕ × AccessUnit)) (P : TimedStreamView → Type 0) → AllAgree by d input →
     AreMerged (map (λ t. t.units) input.streams) units →
     All P input.streams → (k : ℕ) (s : DescribedStream) → slice_get d.streams k ≡ Some s → IsUnitStream d units P k s
 unit_stream_of d input units P agree merged all k s at =
@@ -45,16 +46,16 @@ is_stream made findings d s us t u agrees same moved also fits = record {
   fits = rw also fits;
 }
 
-stream_of : (made : Bool) (findings : List FindingView) (d : Described) (input : JobInputView) (units : List (ℕ × AccessUnit)) →
-    All (IsMoved made findings) input.streams → All FitsQueue input.streams → AllAgree d input → AreMerged (map (λ t. t.units) input.streams) units →
+stream_of : {by : ClockSharing} (made : Bool) (findings : List FindingView) (d : Described) (input : JobInputView) (units : List (ℕ × AccessUnit)) →
+    All (IsMoved made findings) input.streams → All FitsQueue input.streams → AllAgree by d input → AreMerged (map (λ t. t.units) input.streams) units →
     (k : ℕ) (s : DescribedStream) → slice_get d.streams k ≡ Some s → IsStream made findings d s (units_of k units)
 stream_of made findings d input units moved fits agree merged k s at =
     let one = unit_stream_of d input units (IsMoved made findings) agree merged moved k s at in
     let other = unit_stream_of d input units FitsQueue agree merged fits k s at in
     is_stream made findings d s (units_of k units) one.stream other.stream one.agrees one.units_are one.holds other.units_are other.holds
 
-pub job_units : (made : Bool) (findings : List FindingView) (d : Described) (input : JobInputView) (units : List (ℕ × AccessUnit)) →
-    All (IsMoved made findings) input.streams → All FitsQueue input.streams → AllAgree d input → AreMerged (map (λ t. t.units) input.streams) units →
+pub job_units : {by : ClockSharing} (made : Bool) (findings : List FindingView) (d : Described) (input : JobInputView) (units : List (ℕ × AccessUnit)) →
+    All (IsMoved made findings) input.streams → All FitsQueue input.streams → AllAgree by d input → AreMerged (map (λ t. t.units) input.streams) units →
     AreUnits made findings d units
 job_units made findings d input units moved fits agree merged = record {
   streams = stream_of made findings d input units moved fits agree merged;

@@ -9,6 +9,7 @@ use Rattle.pes_packet.specs.Units.{units_of}
 use Rattle.pid_findings.specs.Views.{FindingView}
 use Rattle.description_parts.specs.Described.{Described, DescribedStream}
 use Rattle.es_moments.specs.Merging.{AreMerged}
+use Rattle.given_values.specs.declared.clock_sharing.ClockSharing.{ClockSharing}
 use Rattle.stream_jobs.specs.Jobs.{Agrees, AllAgree}
 use Rattle.job_inputs.specs.JobInput.{JobInputView}
 use Rattle.job_programs.specs.JobStreams.{TimedStreamView}
@@ -44,8 +45,8 @@ is_stream made inputs o d s us t found agrees same fits = record {
   fits = rw same fits;
 }
 
-stream_of : (made : Bool) (inputs : List (List FindingView)) (origins : List Origin) (d : Described) (input : JobInputView) (units : List (ℕ × AccessUnit)) →
-    AllZip (IsFoundIn made inputs) origins input.streams → All FitsQueue input.streams → AllAgree d input → AreMerged (map (λ t. t.units) input.streams) units →
+stream_of : {by : ClockSharing} (made : Bool) (inputs : List (List FindingView)) (origins : List Origin) (d : Described) (input : JobInputView) (units : List (ℕ × AccessUnit)) →
+    AllZip (IsFoundIn made inputs) origins input.streams → All FitsQueue input.streams → AllAgree by d input → AreMerged (map (λ t. t.units) input.streams) units →
     (k : ℕ) (o : Origin) (s : DescribedStream) → slice_get origins k ≡ Some o → slice_get d.streams k ≡ Some s → IsStreamIn made inputs o d s (units_of k units)
 stream_of made inputs origins d input units found fits agree merged k o s from at =
     let lt : k < length input.streams = omega (arith, slice_get_within d.streams k s at, agree.same) in
@@ -54,9 +55,9 @@ stream_of made inputs origins d input units found fits agree merged k o s from a
     is_stream made inputs o d s (units_of k units) t (at_place (IsFoundIn made inputs) origins input.streams k o t found from here) (agree.each k s t at here)
     (merged.each k t.units (slice_get-map (λ t. t.units) input.streams k ∙ ap (option_map (λ t. t.units)) here)) (fits k none lt)
 
-pub joined_units : (made : Bool) (inputs : List (List FindingView)) (origins : List Origin) (d : Described) (input : JobInputView)
+pub joined_units : {by : ClockSharing} (made : Bool) (inputs : List (List FindingView)) (origins : List Origin) (d : Described) (input : JobInputView)
     (units : List (ℕ × AccessUnit)) →
-    AllZip (IsFoundIn made inputs) origins input.streams → All FitsQueue input.streams → AllAgree d input → AreMerged (map (λ t. t.units) input.streams) units →
+    AllZip (IsFoundIn made inputs) origins input.streams → All FitsQueue input.streams → AllAgree by d input → AreMerged (map (λ t. t.units) input.streams) units →
     AreUnitsIn made inputs origins d units
 joined_units made inputs origins d input units found fits agree merged = record {
   same = as_many (IsFoundIn made inputs) origins input.streams found ∙ agree.same;

@@ -4,3 +4,4 @@ mod WholeAgreement
 pub mod JobUnits
 mod TriedRates
 pub mod JoinedUnits
+pub mod Transponders

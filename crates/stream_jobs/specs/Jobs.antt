@@ -14,6 +14,8 @@ use Rattle.es_moments.specs.Merging.{AreMerged}
 use Rattle.job_programs.specs.JobPrograms.{JobProgramView}
 use Rattle.job_inputs.specs.JobInput.{JobInputView}
 use Rattle.job_programs.specs.FoundUnits.{AreFound, Declares}
+use Rattle.given_values.specs.declared.clock_sharing.ClockSharing.{ClockSharing}
+use Rattle.stream_jobs.specs.SharedClocks.{own_clock, shared_clock, sharing}
 use Rattle.stream_jobs.specs.Rates.{IsAskedOrFirst, IsRate, IsServed}
 pub use Rattle.stream_jobs.specs.Rates.{IsText}
 use Rattle.job_programs.specs.JobTables.{JobTableView}
@@ -65,20 +67,30 @@ unfoldable pub AgreeInTurn : Described → List DescribedStream → List TimedSt
 AgreeInTurn d (s ∷ ss) (t ∷ ts) = Agrees d s t × AgreeInTurn d ss ts
 AgreeInTurn d _ _ = ⊤
 
--- a program of a description is this one: its number, and the PIDs of its map and of its clock references
-pub record IsProgram (p : DescribedProgram) (q : JobProgramView) : Type 0 where
+-- the PID of a described program's own clock, if it has one
+unfoldable pub own_pid : DescribedProgram → Option ℕ
+own_pid p = if p.has_clock then Some p.pcr_pid else None
+
+-- a program of a description is this one, beside the PIDs of programs that share a clock: its number, the PID of its map, and the PID of its own
+-- clock, if it shares none
+pub record IsProgram (pids : List ℕ) (p : DescribedProgram) (q : JobProgramView) : Type 0 where
   pub number : p.number ≡ q.number
   pub pmt_pid : p.pmt_pid ≡ q.map_pid
-  pub pcr_pid : p.pcr_pid ≡ q.pcr_pid
+  pub clock : own_pid p ≡ own_clock pids q
 
 -- the same as a test
-unfoldable pub is_program : DescribedProgram → JobProgramView → Bool
-is_program p q = p.number == q.number && (p.pmt_pid == q.map_pid && p.pcr_pid == q.pcr_pid)
+unfoldable pub is_same_pid : Option ℕ → Option ℕ → Bool
+is_same_pid None None = true
+is_same_pid (Some one) (Some other) = one == other
+is_same_pid _ _ = false
+
+unfoldable pub is_program : List ℕ → DescribedProgram → JobProgramView → Bool
+is_program pids p q = p.number == q.number && (p.pmt_pid == q.map_pid && is_same_pid (own_pid p) (own_clock pids q))
 
 -- programs, one after another
-unfoldable pub AreInTurn : List DescribedProgram → List JobProgramView → Type 0
-AreInTurn (p ∷ ps) (q ∷ qs) = IsProgram p q × AreInTurn ps qs
-AreInTurn _ _ = ⊤
+unfoldable pub AreInTurn : List ℕ → List DescribedProgram → List JobProgramView → Type 0
+AreInTurn pids (p ∷ ps) (q ∷ qs) = IsProgram pids p q × AreInTurn pids ps qs
+AreInTurn pids _ _ = ⊤
 
 -- a private table of a description is this one: its PID, its sections, and its entry in the map of its program
 pub record IsTable (s : DescribedTable) (t : JobTableView) : Type 0 where
@@ -95,11 +107,12 @@ unfoldable pub TablesInTurn : List DescribedTable → List JobTableView → Type
 TablesInTurn (s ∷ ss) (t ∷ ts) = IsTable s t × TablesInTurn ss ts
 TablesInTurn _ _ = ⊤
 
--- a description has the programs, the streams and the private tables of an input, and at moment 0 the same clock
-pub record AllAgree (d : Described) (input : JobInputView) : Type 0 where
+-- a description has the programs, the streams and the private tables of an input, the same shared clock, and at moment 0 the same value of it
+pub record AllAgree (by : ClockSharing) (d : Described) (input : JobInputView) : Type 0 where
   pub base_is : d.base0 ≡ input.base0
+  pub clock_is : d.clock_pid ≡ shared_clock (sharing by input)
   pub programs_same : length input.programs ≡ length d.programs
-  pub programs : (k : ℕ) (p : DescribedProgram) (q : JobProgramView) → slice_get d.programs k ≡ Some p → slice_get input.programs k ≡ Some q → IsProgram p q
+  pub programs : (k : ℕ) (p : DescribedProgram) (q : JobProgramView) → slice_get d.programs k ≡ Some p → slice_get input.programs k ≡ Some q → IsProgram (sharing by input) p q
   pub same : length input.streams ≡ length d.streams
   pub each : (k : ℕ) (s : DescribedStream) (t : TimedStreamView) → slice_get d.streams k ≡ Some s → slice_get input.streams k ≡ Some t → Agrees d s t
   pub tables_same : length input.tables ≡ length d.tables
@@ -124,9 +137,9 @@ keeps d s us =
     && allows_units s.allowance s.stream_id d.base0 us)))
 
 -- the PID of the clock references of the first program that is not the declared one in its place
-unfoldable pub first_other_program : List DescribedProgram → List JobProgramView → Option ℕ
-first_other_program (p ∷ ps) (q ∷ qs) = if is_program p q then first_other_program ps qs else Some q.pcr_pid
-first_other_program _ _ = None
+unfoldable pub first_other_program : List ℕ → List DescribedProgram → List JobProgramView → Option ℕ
+first_other_program pids (p ∷ ps) (q ∷ qs) = if is_program pids p q then first_other_program pids ps qs else Some q.pcr_pid
+first_other_program pids _ _ = None
 
 -- the PID of the first stream that is not the declared one in its place
 unfoldable pub first_disagreeing : Described → List DescribedStream → List TimedStreamView → Option ℕ
@@ -139,17 +152,18 @@ first_other_table (s ∷ ss) (t ∷ ts) = if is_table s t then first_other_table
 first_other_table _ _ = None
 
 -- whether a description has as many programs, streams and tables as the input, and the same clock
-unfoldable pub are_counted : Described → JobInputView → Bool
-are_counted d input =
+unfoldable pub are_counted : List ℕ → Described → JobInputView → Bool
+are_counted pids d input =
     d.base0 == input.base0
+    && (is_same_pid d.clock_pid (shared_clock pids)
     && (length d.programs == length input.programs
     && (length d.streams == length input.streams
-    && length d.tables == length input.tables))
+    && length d.tables == length input.tables)))
 
-unfoldable pub disagreeing : Described → JobInputView → Option ℕ
-disagreeing d input =
-    if are_counted d input
-    then option_or (first_other_program d.programs input.programs)
+unfoldable pub disagreeing : ClockSharing → Described → JobInputView → Option ℕ
+disagreeing by d input =
+    if are_counted (sharing by input) d input
+    then option_or (first_other_program (sharing by input) d.programs input.programs)
     (option_or (first_other_table d.tables input.tables) (first_disagreeing d d.streams input.streams))
     else Some 0
 

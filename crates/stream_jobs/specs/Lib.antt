@@ -1,3 +1,5 @@
+pub mod SharedClocks
+pub mod Transponders
 pub mod Texts
 pub mod Rates
 pub mod Jobs

@@ -1,6 +1,6 @@
 -- The rates at which a plan is looked for.
 use Rattle.std.specs.Prelude.{◌≡◌, ◌⊎◌, ℕ, zero, suc, ◌+◌, ◌/◌, ◌-◌, ◌^◌, min, nat_le, nat_lt, false, if◌then◌else◌, List, [], ◌∷◌, ◌++◌, map, Option, Some}
-use Rattle.std.specs.Prelude.{None, Ok, All}
+use Rattle.std.specs.Prelude.{None, Ok, All, filter, find, not, option_to_list}
 use Rattle.std.specs.List.{range_with_len}
 use Rattle.description_parts.specs.Described.{Described, DescribedProgram}
 use Rattle.description.specs.Reading.{description_of}
@@ -19,7 +19,7 @@ use Rattle.job_programs.specs.JobOptions.{JobOptionsView}
 abbrev pub IsText : Described → List ℕ → Type 0
 IsText d text = Ok d ≡ description_of (parse_document text)
 
--- 1. What recurs: the sections of tables, and the clock references of programs, one packet each
+-- 1. What recurs: the sections of tables, and clock references, one packet each
 
 unfoldable pub table_recurs : Described → ℕ → Recurring
 table_recurs d t = record { slots = min (round_packets d t) (2 ^ 32 - 1); limit = table_limit d t }
@@ -27,8 +27,12 @@ table_recurs d t = record { slots = min (round_packets d t) (2 ^ 32 - 1); limit 
 unfoldable pub clock_recurs : DescribedProgram → Recurring
 clock_recurs p = record { slots = 1; limit = p.pcr_limit }
 
+-- the programs that have a clock of their own, and the first program on the shared clock
+abbrev pub clock_programs : List DescribedProgram → List DescribedProgram
+clock_programs programs = filter (λ p. p.has_clock) programs ++ option_to_list (find (λ p. not p.has_clock) programs)
+
 abbrev pub recurring_of : Described → List Recurring
-recurring_of d = map (table_recurs d) (range_with_len 0 (table_count d)) ++ map clock_recurs d.programs
+recurring_of d = map (table_recurs d) (range_with_len 0 (table_count d)) ++ map clock_recurs (clock_programs d.programs)
 
 -- 2. The first rate: the least at which the shares of all streams and of all that recurs are together at most the whole. What
 -- recurs is known of the description at the greatest rate

@@ -13,11 +13,13 @@ use Rattle.job_programs.specs.JobTables.{tables_text}
 use Rattle.job_programs.specs.JobStreams.{TimedStreamView}
 use Rattle.job_units.specs.Moments.{declared_limit}
 use Rattle.job_programs.specs.Events.{events_text}
+use Rattle.stream_jobs.specs.SharedClocks.{own_clock, shared_clock, sharing}
+use Rattle.stream_jobs.specs.Transponders.{is_transponder}
 
--- 1. The head: at a rate in bits a second, a number of 32 bits
+-- 1. The head: at a rate in bits a second, a number of 32 bits; with the PID of the shared clock, if there is one
 
-unfoldable pub heading_of : JobInputView → ℕ → HeadingView
-heading_of input rate = record {
+unfoldable pub heading_of : List ℕ → JobInputView → ℕ → HeadingView
+heading_of pids input rate = record {
   rate = min rate (2 ^ 32 - 1);
   start = input.information.start;
   base0 = input.base0;
@@ -25,15 +27,17 @@ heading_of input rate = record {
   original_network_id = input.information.original_network_id;
   sdt = input.information.sdt;
   tdt = input.information.tdt;
+  transponder = is_transponder input;
+  clock_pid = shared_clock pids;
 }
 
 -- 2. Programs, each with its service
 
-unfoldable pub program_with : ℕ → JobProgramView → FoundServiceView → ProgramPartView
-program_with pcr_limit p s = record {
+unfoldable pub program_with : ℕ → List ℕ → JobProgramView → FoundServiceView → ProgramPartView
+program_with pcr_limit pids p s = record {
   number = p.number;
   pmt_pid = p.map_pid;
-  pcr_pid = p.pcr_pid;
+  pcr_pid = own_clock pids p;
   pcr_limit = pcr_limit;
   descriptors = p.descriptors;
   service_type = s.service_type;
@@ -42,8 +46,8 @@ program_with pcr_limit p s = record {
 }
 
 -- beside its service
-abbrev pub program_part : ℕ → JobProgramView × FoundServiceView → ProgramPartView
-program_part pcr_limit p = program_with pcr_limit p.0 p.1
+abbrev pub program_part : ℕ → List ℕ → JobProgramView × FoundServiceView → ProgramPartView
+program_part pcr_limit pids p = program_with pcr_limit pids p.0 p.1
 
 -- 3. Streams
 
@@ -76,11 +80,11 @@ stream_part s = record {
 
 -- 4. The whole: the lines of private tables (`JobTables` of `job_programs`) come last
 
-abbrev pub program_lines : ℕ → JobProgramView × FoundServiceView → List ℕ
-program_lines pcr_limit p = program_text (program_part pcr_limit p)
+abbrev pub program_lines : ℕ → List ℕ → JobProgramView × FoundServiceView → List ℕ
+program_lines pcr_limit pids p = program_text (program_part pcr_limit pids p)
 
-abbrev pub programs_text : ℕ → List JobProgramView → List FoundServiceView → List ℕ
-programs_text pcr_limit programs services = flat_map (program_lines pcr_limit) (zip programs services)
+abbrev pub programs_text : ℕ → List ℕ → List JobProgramView → List FoundServiceView → List ℕ
+programs_text pcr_limit pids programs services = flat_map (program_lines pcr_limit pids) (zip programs services)
 
 abbrev pub stream_lines : TimedStreamView × (UnitCountsView × StreamChoice) → List ℕ
 stream_lines s = stream_text (stream_part s)
@@ -90,8 +94,8 @@ streams_text streams unit_counts choices = flat_map stream_lines (zip streams (z
 
 unfoldable pub description_text : JobOptionsView → JobInputView → ℕ → List ℕ
 description_text options input rate =
-    heading_text (heading_of input rate)
+    heading_text (heading_of (sharing options.clock input) input rate)
     ++ (events_text input.information.events
     ++ (network_if_any input.information.network
-    ++ (programs_text options.pcr_limit input.programs input.information.services
+    ++ (programs_text options.pcr_limit (sharing options.clock input) input.programs input.information.services
     ++ (streams_text input.streams input.unit_counts input.choices ++ tables_text input.streams input.tables))))

@@ -80,7 +80,7 @@ pub record Disagrees (options : JobOptionsView) (input : JobInputView) (pid : �
   pub plan : Planned
   pub read : IsText description (description_text options input rate)
   pub serving : IsServing description plan
-  pub disagree : disagreeing description input ≡ Some pid
+  pub disagree : disagreeing options.clock description input ≡ Some pid
 
 -- job
 abbrev pub IsWhyNoJob : JobOptionsView → JobInputView → JobError → Type 0

@@ -7,10 +7,12 @@ ghost use Rattle.stream_jobs.specs.Jobs.{AgreeInTurn, Agrees, AllAgree, AreInTur
 ghost use Rattle.stream_jobs.specs.Jobs as spec;
 ghost use Rattle.job_programs.specs.FoundUnits.{Declares};
 
+use crate::shared_clock::{own_clock, shared_clock, sharing};
 use crate::table_check::first_other_table;
 use description::Description;
 use description_parts::{ProgramDescription, StreamDescription};
 use es_moments::{CountedPackets, UnitRuns, max_pts_after, max_unit_size, min_interval};
+use given_values::ClockSharing;
 use job_inputs::JobInput;
 use job_programs::{JobProgram, TimedStream};
 use pes_packet::Unit;
@@ -137,22 +139,50 @@ fn first_disagreeing(
     Ok(None)
 }
 
-// Returns whether a program is the declared one.
+// Returns whether both are one PID, or neither is a PID.
+#[tactic(auto, unfolding(crate::specs::Jobs::is_same_pid))]
+fn is_same_pid(one: Option<u16>, other: Option<u16>) -> bool
+    ensures { result ≡ spec.is_same_pid one other }
+{
+    match (one, other) {
+        (None, None) => true,
+        (Some(one), Some(other)) => one == other,
+        _ => false,
+    }
+}
+
+// Returns the PID of a declared program's own clock, if it has one.
+#[tactic(auto, unfolding(crate::specs::Jobs::own_pid))]
+fn own_pid(declared: &ProgramDescription) -> Option<u16>
+    ensures { result ≡ spec.own_pid declared.now }
+{
+    if declared.has_clock() {
+        Some(declared.pcr_pid())
+    } else {
+        None
+    }
+}
+
+// Returns whether a program is the declared one; `pids` are of programs that share a clock.
 #[tactic(auto, unfolding(crate::specs::Jobs::is_program), using(crate::proofs::Agreement::program_is))]
-fn is_program(declared: &ProgramDescription, program: &JobProgram) -> bool
-    ensures value { result ≡ spec.is_program declared.now program.now }
-    ensures program { IsTrue result → IsProgram declared.now program.now }
+fn is_program(pids: &[u16], declared: &ProgramDescription, program: &JobProgram) -> bool
+    ensures value { result ≡ spec.is_program pids.now declared.now program.now }
+    ensures program { IsTrue result → IsProgram pids.now declared.now program.now }
 {
     declared.number() == program.number
         && declared.pmt_pid() == program.map_pid
-        && declared.pcr_pid() == program.pcr_pid
+        && is_same_pid(own_pid(declared), own_clock(pids, program))
 }
 
 // Returns the PCR_PID of the first program that differs from the declared program in its place.
 #[tactic(auto, unfolding(crate::specs::Jobs::AreInTurn, crate::specs::Jobs::first_other_program))]
-fn first_other_program(declared: &[ProgramDescription], programs: &[JobProgram]) -> Option<u16>
-    ensures value { result ≡ spec.first_other_program declared.now programs.now }
-    ensures are { IfNone result (AreInTurn declared.now programs.now) }
+fn first_other_program(
+    pids: &[u16],
+    declared: &[ProgramDescription],
+    programs: &[JobProgram],
+) -> Option<u16>
+    ensures value { result ≡ spec.first_other_program pids.now declared.now programs.now }
+    ensures are { IfNone result (AreInTurn pids.now declared.now programs.now) }
 {
     let mut ones = declared;
     let mut rest = programs;
@@ -160,7 +190,7 @@ fn first_other_program(declared: &[ProgramDescription], programs: &[JobProgram])
         let Some((program, later)) = rest.split_first() else {
             return None;
         };
-        if !is_program(one, program) {
+        if !is_program(pids, one, program) {
             return Some(program.pcr_pid);
         }
         ones = later_ones;
@@ -169,33 +199,37 @@ fn first_other_program(declared: &[ProgramDescription], programs: &[JobProgram])
     None
 }
 
-// Returns whether there are as many programs, streams and private tables, and the clock begins alike.
+// Returns whether there are as many programs, streams and private tables, the shared clock has the same PID, and the
+// clock begins alike.
 #[tactic(auto, unfolding(crate::specs::Jobs::are_counted))]
-fn are_counted(description: &Description, input: &JobInput) -> bool
-    ensures { result ≡ spec.are_counted description.now input.now }
+fn are_counted(pids: &[u16], description: &Description, input: &JobInput) -> bool
+    ensures { result ≡ spec.are_counted pids.now description.now input.now }
 {
     description.base0() == input.base0
+        && is_same_pid(description.clock_pid(), shared_clock(pids))
         && description.programs().len() == input.programs.len()
         && description.streams().len() == input.streams.len()
         && description.private_tables().len() == input.tables.len()
 }
 
 /// Returns a PID where a description disagrees with the input it was made of, `None` if all agree. In this order: 0 if
-/// the number of any items or the first value of the clock differs; the PCR_PID of a program; the PID of a private
+/// the number of any items, the PID of the shared clock or the first value of the clock differs; the PCR_PID of a program; the PID of a private
 /// table; the PID of a stream, also if its units need more than it declares.
 #[tactic(auto, using(crate::proofs::WholeAgreement::in_turn), unfolding(crate::specs::Jobs::disagreeing))]
 pub(crate) fn disagreeing(
     alloc: Global,
+    by: ClockSharing,
     description: &Description,
     input: &JobInput,
 ) -> Result<Option<u16>, AllocError>
-    ensures value { IfOk result (λ pid. pid ≡ spec.disagreeing description.now input.now) }
-    ensures agree { IfOk result (λ pid. IfNone pid (AllAgree description.now input.now)) }
+    ensures value { IfOk result (λ pid. pid ≡ spec.disagreeing by description.now input.now) }
+    ensures agree { IfOk result (λ pid. IfNone pid (AllAgree by description.now input.now)) }
 {
-    if !are_counted(description, input) {
+    let pids = sharing(alloc, by, input)?;
+    if !are_counted(&pids, description, input) {
         return Ok(Some(0));
     }
-    if let Some(pid) = first_other_program(description.programs(), &input.programs) {
+    if let Some(pid) = first_other_program(&pids, description.programs(), &input.programs) {
         return Ok(Some(pid));
     }
     if let Some(pid) = first_other_table(description.private_tables(), &input.tables) {

@@ -7,7 +7,9 @@ ghost use Rattle.stream_jobs.specs.Rates.{IsText};
 ghost use Rattle.stream_jobs.specs.Texts as spec;
 ghost use Rattle.stream_jobs.specs.WhyNoJob.{IsWhyNotRead};
 
+use crate::shared_clock::{own_clock, shared_clock, sharing};
 use crate::table_lines::write_tables;
+use crate::transponder::is_transponder;
 use description::Description;
 use description_keys::DescError;
 use job_inputs::JobInput;
@@ -29,10 +31,11 @@ pub(crate) struct DescriptionDraft<'a> {
 }
 
 impl<'a> DescriptionDraft<'a> {
+    // Appends the lines of the heading; `pids` are of programs that share a clock.
     #[tactic(auto, unfolding(crate::specs::Texts::heading_of))]
-    fn write_heading(&self, rate: u64, text: &mut String) -> Result<(), AllocError>
+    fn write_heading(&self, pids: &[u16], rate: u64, text: &mut String) -> Result<(), AllocError>
         ensures { OnOk result (string_bytes text.new ≡ string_bytes text.old
-            ++ heading_text (spec.heading_of self.now.input.now rate)) }
+            ++ heading_text (spec.heading_of pids.now self.now.input.now rate)) }
     {
         let input = self.input;
         let information = &input.information;
@@ -44,6 +47,8 @@ impl<'a> DescriptionDraft<'a> {
             original_network_id: information.original_network_id,
             sdt: information.sdt,
             tdt: information.tdt,
+            transponder: is_transponder(input),
+            clock_pid: shared_clock(pids),
         };
         heading.write_text(text)
     }
@@ -57,12 +62,14 @@ impl<'a> DescriptionDraft<'a> {
         let options = self.options;
         let input = self.input;
         let information = &input.information;
+        let pids = sharing(alloc, options.clock, input)?;
         let mut text = String::new(alloc);
-        self.write_heading(rate, &mut text)?;
+        self.write_heading(&pids, rate, &mut text)?;
         write_events(&information.events, &mut text)?;
         write_network(&information.network, &mut text)?;
         write_programs(
             options.pcr_limit,
+            &pids,
             &input.programs,
             &information.services,
             &mut text,
@@ -78,21 +85,22 @@ impl<'a> DescriptionDraft<'a> {
     }
 }
 
-// Appends the lines of a program and its service.
+// Appends the lines of a program and its service; `pids` are of programs that share a clock.
 #[tactic(auto, unfolding(crate::specs::Texts::program_with))]
 fn write_program(
     pcr_limit: u8,
+    pids: &[u16],
     program: &JobProgram,
     service: &NamedService,
     text: &mut String,
 ) -> Result<(), AllocError>
     ensures { OnOk result (string_bytes text.new ≡ string_bytes text.old
-        ++ program_text (spec.program_with pcr_limit program.now service.now)) }
+        ++ program_text (spec.program_with pcr_limit pids.now program.now service.now)) }
 {
     let entry = ProgramPart {
         number: program.number,
         pmt_pid: program.map_pid,
-        pcr_pid: program.pcr_pid,
+        pcr_pid: own_clock(pids, program),
         pcr_limit,
         descriptors: &program.descriptors,
         service_type: service.service_type,
@@ -105,12 +113,13 @@ fn write_program(
 // Appends the lines of all programs.
 fn write_programs(
     pcr_limit: u8,
+    pids: &[u16],
     programs: &[JobProgram],
     services: &[NamedService],
     text: &mut String,
 ) -> Result<(), AllocError>
     ensures { OnOk result (string_bytes text.new ≡ string_bytes text.old
-        ++ spec.programs_text pcr_limit programs.now services.now) }
+        ++ spec.programs_text pcr_limit pids.now programs.now services.now) }
 {
     let mut programs = programs;
     let mut services = services;
@@ -118,7 +127,7 @@ fn write_programs(
         let Some((service, later_services)) = services.split_first() else {
             return Ok(());
         };
-        write_program(pcr_limit, program, service, text)?;
+        write_program(pcr_limit, pids, program, service, text)?;
         programs = later_programs;
         services = later_services;
     }

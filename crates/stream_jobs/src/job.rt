@@ -50,7 +50,7 @@ fn queues_of(alloc: Global, streams: Vec<TimedStream>) -> Result<Vec<VecDeque<Un
 
 // Returns the units of all streams, each with the number of its stream.
 fn merged_units(alloc: Global, streams: Vec<TimedStream>) -> Result<Vec<(u8, Unit)>, AllocError>
-    requires { length streams.items ≤ 32 }
+    requires { length streams.items ≤ 254 }
     ensures { IfOk result (λ units. AreMerged (map (λ t. t.units) streams.items) units.items) }
 {
     merged(alloc, queues_of(alloc, streams)?)
@@ -67,12 +67,12 @@ fn agreed_plan(
     ensures rate { IfOk result (λ p. IsRate options.now.rate options.now input.now
         p.rate) }
     ensures serving { IfOk result (λ p. IsServing p.plan.description p.plan.plan) }
-    ensures agree { IfOk result (λ p. AllAgree p.plan.description input.now) }
+    ensures agree { IfOk result (λ p. AllAgree options.now.clock p.plan.description input.now) }
     ensures refused { IfErr result (IsWhyNoJob options.now input.now) }
 {
     let draft = DescriptionDraft { options, input };
     let planned = plan_draft(alloc, &draft)?;
-    match disagreeing(alloc, planned.plan.description(), input)? {
+    match disagreeing(alloc, options.clock, planned.plan.description(), input)? {
         Some(pid) => Err(JobError::Refused(JobRefusal::Declaration(pid))),
         None => Ok(planned),
     }
@@ -81,7 +81,7 @@ fn agreed_plan(
 /// Returns the job of this input. Its units are the streams' units, wherever these were found: in one input, or in
 /// several joined inputs.
 pub fn make_job(alloc: Global, options: &JobOptions<'_>, input: JobInput) -> Result<Job, JobError>
-    requires { length input.streams ≤ 32 }
+    requires { length input.streams ≤ 254 }
     ensures job { IfOk result (λ j. IsJob options.now input j.plan.description
         (string_bytes j.text) j.units.items) }
     ensures text { IfOk result (λ j. IsText j.plan.description (string_bytes j.text)) }
@@ -90,7 +90,7 @@ pub fn make_job(alloc: Global, options: &JobOptions<'_>, input: JobInput) -> Res
     ensures units_in { (made : Bool) (inputs : List (List FindingView)) (origins : List Origin) →
         AllZip (IsFoundIn made inputs) origins input.streams → All FitsQueue input.streams →
         IfOk result (λ j. AreUnitsIn made inputs origins j.plan.description j.units.items) }
-    ensures agree { IfOk result (λ j. AllAgree j.plan.description input) }
+    ensures agree { IfOk result (λ j. AllAgree options.now.clock j.plan.description input) }
     ensures refused { IfErr result (IsWhyNoJob options.now input) }
 {
     let planned = agreed_plan(alloc, options, &input)?;
@@ -140,7 +140,7 @@ pub fn describe(
 
 /// Returns the units of a job without its description, by their DTS, each with the number of its stream.
 pub fn units(alloc: Global, input: JobInput) -> Result<Vec<(u8, Unit)>, JobError>
-    requires { length input.streams ≤ 32 }
+    requires { length input.streams ≤ 254 }
     ensures units { IfOk result (λ units. AreMerged (map (λ t. t.units) input.streams) units.items) }
     ensures refused { IfErr result (λ error. error ≡ Memory) }
 {

@@ -1,6 +1,7 @@
 //! A rate with a plan.
 
-ghost use Rattle.std.specs.Prelude.{◌≡◌, ◌≤◌, ◌<◌, ◌++◌, IfOk, IfErr, IfSome, IfNone, Some, None, All, OnOk, map};
+ghost use Rattle.std.specs.Prelude.{◌≡◌, ◌≤◌, ◌<◌, ◌++◌, IfOk, IfErr, IfSome, IfNone, Some, None, All, OnOk, filter, find, map};
+ghost use Rattle.std.specs.Prelude.{not, option_map};
 ghost use Rattle.std.specs.Prelude.{string_bytes};
 ghost use Rattle.std.specs.List.{range_with_len};
 ghost use Rattle.description_parts.specs.Tables.{table_count};
@@ -65,26 +66,43 @@ fn clock_recurs(program: &ProgramDescription) -> Recurring
     }
 }
 
-// Appends how often the clock references of each program recur.
-fn push_clocks(
-    programs: &[ProgramDescription],
-    recurring: &mut Vec<Recurring>,
-) -> Result<(), AllocError>
-    ensures { OnOk result (recurring.new.items ≡ recurring.old.items ++ map spec.clock_recurs programs.now) }
+// Returns how often the clock references of programs with a clock of their own recur.
+fn own_clocks(alloc: Global, programs: &[ProgramDescription]) -> Result<Vec<Recurring>, AllocError>
+    ensures { IfOk result (λ all. all.items ≡ map spec.clock_recurs (filter (λ p. p.has_clock) programs.now)) }
 {
-    for program in programs {
-        recurring.push(clock_recurs(program))?;
-    }
-    Ok(())
+    programs
+        .iter()
+        .filter(|program| program.has_clock())
+        .map(|program| clock_recurs(program))
+        .collect(alloc)
 }
 
-// Returns how often each table and each program's clock references recur.
+// Returns the first program that has no clock of its own.
+fn on_shared_clock(programs: &[ProgramDescription]) -> Option<&ProgramDescription>
+    ensures { option_map (λ p. p.now) result ≡ find (λ p. not p.has_clock) programs.now }
+{
+    programs.iter().find(|program| !program.has_clock())
+}
+
+// Returns how often the clock references of programs recur, once for programs that share a clock.
+fn clocks_of(alloc: Global, programs: &[ProgramDescription]) -> Result<Vec<Recurring>, AllocError>
+    ensures { IfOk result (λ all. all.items ≡ map spec.clock_recurs (spec.clock_programs programs.now)) }
+{
+    let mut clocks = own_clocks(alloc, programs)?;
+    if let Some(program) = on_shared_clock(programs) {
+        clocks.push(clock_recurs(program))?;
+    }
+    Ok(clocks)
+}
+
+// Returns how often each table and each clock's references recur.
 fn recurring_of(alloc: Global, description: &Description) -> Result<Vec<Recurring>, AllocError>
     ensures { IfOk result (λ all. all.items ≡ spec.recurring_of description.now) }
 {
     let mut recurring = Vec::new(alloc);
     push_tables(description, &mut recurring)?;
-    push_clocks(description.programs(), &mut recurring)?;
+    let clocks = clocks_of(alloc, description.programs())?;
+    recurring.extend_from_slice(&clocks)?;
     Ok(recurring)
 }
 

@@ -4,8 +4,8 @@ use Rattle.stream_jobs.proofs.declaration_check.first_other_program.Given as goa
 
 abbrev pub invariant-programs : goal.invariant-programs
 invariant-programs l = record {
-  value : first_other_program l.initial.ones l.initial.rest ≡ first_other_program l.ones l.rest;
-  are : AreInTurn l.ones l.rest → AreInTurn l.initial.ones l.initial.rest;
+  value : first_other_program l.pids l.initial.ones l.initial.rest ≡ first_other_program l.pids l.ones l.rest;
+  are : AreInTurn l.pids l.ones l.rest → AreInTurn l.pids l.initial.ones l.initial.rest;
 }
 
 abbrev pub decreases-programs : goal.decreases-programs

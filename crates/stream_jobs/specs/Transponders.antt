@@ -1,0 +1,28 @@
+-- Which jobs need the numbers of a whole transponder: more than a description has without the key `transponder`.
+use Rattle.std.specs.Prelude.{ℕ, ◌+◌, ◌||◌, ◌&&◌, nat_lt, Bool, List, length, sum_by}
+use Rattle.std.specs.List.{list_any}
+use Rattle.dvb_tables.specs.CharacterCoding.{text_bytes}
+use Rattle.ts_services.specs.Services.{FoundServiceView}
+use Rattle.job_programs.specs.Information.{JobInformationView}
+use Rattle.job_programs.specs.JobStreams.{TimedStreamView}
+use Rattle.job_inputs.specs.JobInput.{JobInputView}
+
+-- the bytes of a service in a service description section (EN 300 468, 5.2.3 and 6.2.34)
+abbrev pub service_size : FoundServiceView → ℕ
+service_size s = 10 + (length (text_bytes s.provider) + length (text_bytes s.name))
+
+-- one service description section has room for 1,009 bytes of services
+unfoldable pub has_many_services : JobInformationView → Bool
+has_many_services i = i.sdt && nat_lt 1009 (sum_by service_size i.services)
+
+-- a stream is shared by more than 15 further programs
+unfoldable pub has_many_sharers : TimedStreamView → Bool
+has_many_sharers s = nat_lt 15 (length s.shared_with)
+
+unfoldable pub is_transponder : JobInputView → Bool
+is_transponder input =
+    nat_lt 16 (length input.programs)
+    || (nat_lt 32 (length input.streams)
+    || (nat_lt 256 (length input.information.events)
+    || (nat_lt 16 (length input.tables)
+    || (list_any has_many_sharers input.streams || has_many_services input.information))))
