@@ -96,8 +96,8 @@ refusal_line NoAssociation = codes "no PAT: the stream is empty, or names no pro
 refusal_line (NoProgram there) = codes "no PMT: no program that is asked for has one with a stream; the PAT names " ++ named_text there
 refusal_line NoStream = codes "no stream\n"
 refusal_line (Scrambled pid) = codes "pid " ++ decimal pid ++ codes " is scrambled\n"
-refusal_line (Programs count) = decimal count ++ codes " programs: more than 16\n"
-refusal_line (Streams count) = decimal count ++ codes " streams: more than 32\n"
+refusal_line (Programs count) = decimal count ++ codes " programs: more than 64\n"
+refusal_line (Streams count) = decimal count ++ codes " streams: more than 254\n"
 refusal_line (StreamId packet pid id) = codes "packet " ++ decimal packet ++ codes " pid " ++ decimal pid ++ codes " stream_id " ++ decimal id
     ++ codes " cannot be written\n"
 refusal_line (NoStamps pid) = codes "pid " ++ decimal pid ++ codes " has no PTS in its PES packets\n"

@@ -283,8 +283,8 @@ pub fn write_refusal(refusal: JobRefusal, text: &mut String) -> Result<(), Alloc
         JobRefusal::NoProgram(there) => write_no_program(there, text),
         JobRefusal::NoStream => text.push_str("no stream\n"),
         JobRefusal::Scrambled(pid) => write!(text, "pid {pid} is scrambled\n"),
-        JobRefusal::Programs(count) => write!(text, "{count} programs: more than 16\n"),
-        JobRefusal::Streams(count) => write!(text, "{count} streams: more than 32\n"),
+        JobRefusal::Programs(count) => write!(text, "{count} programs: more than 64\n"),
+        JobRefusal::Streams(count) => write!(text, "{count} streams: more than 254\n"),
         JobRefusal::StreamId { packet, pid, id } => write_id(packet, pid, id, text),
         JobRefusal::NoStamps(pid) => { write!(text, "pid {pid} has no PTS in its PES packets\n") }
         JobRefusal::OtherStreamId {

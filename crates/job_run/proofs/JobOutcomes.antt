@@ -76,7 +76,7 @@ nothing_written (t ∷ text) plan units = rw (cons_is_not t text) (sym (cons_is_
 
 pub given_job : (w : JobOptionsView) (findings : List FindingView) (m : JobInputView) (text plan : List ℕ) (d : Described) (p q : Planned)
     (units : List (ℕ × AccessUnit)) →
-    IsJob w m d text units → AreUnits w.make_dts findings d units → AllAgree d m → IsServing d p → IsUtf8 text → plan_error q.slots q.certificate ≡ None →
+    IsJob w m d text units → AreUnits w.make_dts findings d units → AllAgree w.clock d m → IsServing d p → IsUtf8 text → plan_error q.slots q.certificate ≡ None →
     plan ≡ plan_text q → q ≡ p →
     GivesJob w findings m (written text plan units)
 given_job w findings m text plan d p q units j u a s utf8 within e f = record {
@@ -96,7 +96,7 @@ given_job w findings m text plan d p q units j u a s utf8 within e f = record {
 -- A job of joined inputs is given.
 pub given_job_in : (w : JobOptionsView) (inputs : List (List FindingView)) (j : JoinedInputsView) (m : JobInputView) (text plan : List ℕ) (d : Described)
     (p q : Planned) (units : List (ℕ × AccessUnit)) →
-    j.input ≡ m → IsJob w m d text units → AreUnitsIn w.make_dts inputs j.origins d units → AllAgree d m → IsServing d p → IsUtf8 text →
+    j.input ≡ m → IsJob w m d text units → AreUnitsIn w.make_dts inputs j.origins d units → AllAgree w.clock d m → IsServing d p → IsUtf8 text →
     plan_error q.slots q.certificate ≡ None → plan ≡ plan_text q → q ≡ p →
     GivesJobIn w inputs j (written text plan units)
 given_job_in w inputs j m text plan d p q units same job u a s utf8 within e f = record {
@@ -106,7 +106,7 @@ given_job_in w inputs j m text plan d p q units same job u a s utf8 within e f =
   units = units;
   job = subst (λ (x : JobInputView). IsJob w x d text units) (sym same) job;
   found = u;
-  agree = subst (λ (x : JobInputView). AllAgree d x) (sym same) a;
+  agree = subst (λ (x : JobInputView). AllAgree w.clock d x) (sym same) a;
   serving = s;
   utf8 = utf8;
   within = subst (λ (x : Planned). plan_error x.slots x.certificate ≡ None) f within;

@@ -329,14 +329,14 @@ are_made a before number (s ∷ ss) (t ∷ ts) at all =
     )
 
 few_of : (a : JobArgumentsView) (streams : List NamedStream) (taken : List TakenView) → AllZip (IsTakenFrom a) streams taken →
-    All (λ t. length t.input.streams ≤ 32) taken
-few_of a [] [] all = All-nil (λ t. length t.input.streams ≤ 32)
+    All (λ t. length t.input.streams ≤ 254) taken
+few_of a [] [] all = All-nil (λ t. length t.input.streams ≤ 254)
 few_of a [] (t ∷ ts) all = absurd all
 few_of a (s ∷ ss) [] all = absurd all
-few_of a (s ∷ ss) (t ∷ ts) all = All-cons (λ t. length t.input.streams ≤ 32) t ts all.0.streams.stream_count (few_of a ss ts all.1)
+few_of a (s ∷ ss) (t ∷ ts) all = All-cons (λ t. length t.input.streams ≤ 254) t ts all.0.streams.stream_count (few_of a ss ts all.1)
 
 pub few_taken : (a : JobArgumentsView) (files : Files) (names : List (List ℕ)) (taken : List TakenView) → AreTaken a files names taken →
-    All (λ t. length t.input.streams ≤ 32) taken
+    All (λ t. length t.input.streams ≤ 254) taken
 few_taken a files names taken are = few_of a are.streams taken are.are
 
 -- 5. The outcome of all files
@@ -497,15 +497,15 @@ ends_named a files names k d x taken alone o within before is same outcome_is =
     ends_at a files (map (λ s. s.now) names) k name taken alone o (mapped_within names k within) (mapped_at names k d name within) before
     (subst (λ (y : Result TakenView Outcome). IsNamedInput a files name y) same is) outcome_is
 
-few_mapped : (taken : List TakenView) → All (λ t. length t.input.streams ≤ 32) taken → All (λ m. length m.streams ≤ 32) (map (λ t. t.input) taken)
-few_mapped [] all = All-nil (λ m. length m.streams ≤ 32)
+few_mapped : (taken : List TakenView) → All (λ t. length t.input.streams ≤ 254) taken → All (λ m. length m.streams ≤ 254) (map (λ t. t.input) taken)
+few_mapped [] all = All-nil (λ m. length m.streams ≤ 254)
 few_mapped (t ∷ ts) all =
-    All-cons (λ m. length m.streams ≤ 32) t.input (map (λ t. t.input) ts) (All-head (λ t. length t.input.streams ≤ 32) t ts all)
-    (few_mapped ts (All-tail (λ t. length t.input.streams ≤ 32) t ts all))
+    All-cons (λ m. length m.streams ≤ 254) t.input (map (λ t. t.input) ts) (All-head (λ t. length t.input.streams ≤ 254) t ts all)
+    (few_mapped ts (All-tail (λ t. length t.input.streams ≤ 254) t ts all))
 
-pub few_inputs : (taken : List TakenView) (ms : List JobInputView) → ms ≡ map (λ t. t.input) taken → All (λ t. length t.input.streams ≤ 32) taken →
-    All (λ m. length m.streams ≤ 32) ms
-few_inputs taken ms same all = subst (λ (l : List JobInputView). All (λ m. length m.streams ≤ 32) l) (sym same) (few_mapped taken all)
+pub few_inputs : (taken : List TakenView) (ms : List JobInputView) → ms ≡ map (λ t. t.input) taken → All (λ t. length t.input.streams ≤ 254) taken →
+    All (λ m. length m.streams ≤ 254) ms
+few_inputs taken ms same all = subst (λ (l : List JobInputView). All (λ m. length m.streams ≤ 254) l) (sym same) (few_mapped taken all)
 
 joined_value : (r : Result JoinedInputsView JobRefusal) (j : JoinedInputsView) → Answers r (Ok j) → r ≡ Ok j
 unfolding Answers

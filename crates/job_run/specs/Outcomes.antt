@@ -62,7 +62,7 @@ pub record GivesJob (w : JobOptionsView) (findings : List FindingView) (m : JobI
   pub units : List (ℕ × AccessUnit)
   pub job : IsJob w m description text units
   pub found : AreUnits w.make_dts findings description units
-  pub agree : AllAgree description m
+  pub agree : AllAgree w.clock description m
   pub serving : IsServing description plan
   pub utf8 : IsUtf8 text
   pub within : plan_error plan.slots plan.certificate ≡ None

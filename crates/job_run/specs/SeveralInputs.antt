@@ -105,7 +105,7 @@ pub record GivesJobIn (w : JobOptionsView) (inputs : List (List FindingView)) (j
   pub units : List (ℕ × AccessUnit)
   pub job : IsJob w j.input description text units
   pub found : AreUnitsIn w.make_dts inputs j.origins description units
-  pub agree : AllAgree description j.input
+  pub agree : AllAgree w.clock description j.input
   pub serving : IsServing description plan
   pub utf8 : IsUtf8 text
   pub within : plan_error plan.slots plan.certificate ≡ None

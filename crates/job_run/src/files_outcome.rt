@@ -87,9 +87,9 @@ fn inputs_of(alloc: Global, taken: Vec<TakenStream>) -> Result<Vec<JobInput>, Al
 // Joins the inputs to one job.
 #[tactic(auto, unfolding(crate::specs::SeveralInputs::all_joined, job_programs::specs::Answers::Answers, job_programs::specs::Answers::Refuses))]
 fn join_all(alloc: Global, inputs: Vec<JobInput>) -> Result<JoinedInputs, JobError>
-    requires { All (λ m. length m.streams ≤ 32) inputs.items }
+    requires { All (λ m. length m.streams ≤ 254) inputs.items }
     ensures value { Answers (all_joined inputs.items) result }
-    ensures few { IfOk result (λ j. length j.input.streams ≤ 32) }
+    ensures few { IfOk result (λ j. length j.input.streams ≤ 254) }
 {
     let mut more = inputs;
     if more.is_empty() {
@@ -124,7 +124,7 @@ fn joined_outcome(
     less: bool,
     joined: JoinedInputs,
 ) -> Result<JobOutcome, JobError>
-    requires { length joined.input.streams ≤ 32 }
+    requires { length joined.input.streams ≤ 254 }
     ensures gives { (inputs : List (List FindingView)) → AreStreamsIn arguments.now.options.make_dts inputs joined →
         IfOk result (λ o. GivesIn arguments.now.subcommand arguments.now.options inputs joined o.output) }
     ensures report { IfOk result (λ o. o.report
@@ -156,7 +156,7 @@ fn outcome_of(
     less: bool,
     joined: JoinedInputs,
 ) -> Result<JobOutcome, AllocError>
-    requires { length joined.input.streams ≤ 32 }
+    requires { length joined.input.streams ≤ 254 }
     ensures { (taken : List TakenView) → string_bytes lines ≡ spec.taken_lines (map (λ s. s.now) names.now) 0 taken →
         less ≡ list_any (λ t. t.less) taken →
         IfOk result (spec.JoinedLeads arguments.now (map (λ s. s.now) names.now) taken (Ok joined)) }
@@ -174,7 +174,7 @@ fn taken_outcome(
     names: &[&str],
     taken: TakenStreams,
 ) -> Result<JobOutcome, AllocError>
-    requires { All (λ t. length t.input.streams ≤ 32) taken }
+    requires { All (λ t. length t.input.streams ≤ 254) taken }
     ensures { IfOk result (spec.TakenLead arguments.now (map (λ s. s.now) names.now) taken) }
 {
     let lines = taken_report(alloc, names, &taken.streams)?;

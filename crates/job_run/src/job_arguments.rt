@@ -3,7 +3,7 @@
 ghost use Rattle.std.specs.Prelude.{◌≡◌, option_map};
 
 use es_buffers::PidBuffers;
-use given_values::{ClockBase, DeclareBy, NetworkName, ServiceName};
+use given_values::{ClockBase, ClockSharing, DeclareBy, NetworkName, ServiceName};
 use job_lines::Reporting;
 use job_programs::JobOptions;
 use std::marker::Model;
@@ -47,6 +47,8 @@ pub struct JobArguments<'a> {
     pub lenient: bool,
     /// What the system clock shows as the run begins.
     pub base: ClockBase,
+    /// Which programs share a clock.
+    pub clock: ClockSharing,
     /// The network, in place of the stream's network.
     pub network: Option<NetworkName<'a>>,
     /// Names of services in place of the stream's names.
@@ -87,6 +89,7 @@ impl<'a> Model for JobArguments<'a> {
         strict = a.strict;
         lenient = a.lenient;
         base = a.base;
+        clock = a.clock;
         network = option_map network_name_view a.network;
         names = a.names.items;
         programs = a.programs.items;
@@ -121,6 +124,7 @@ impl JobArguments<'_> {
             strict: self.strict,
             lenient: self.lenient,
             base: self.base,
+            clock: self.clock,
             network: self.network,
             names: &self.names,
             programs: &self.programs,

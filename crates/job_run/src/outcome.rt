@@ -105,7 +105,7 @@ fn plan_text(alloc: Global, plan: &Plan) -> Result<String, AllocError>
 
 // Makes the whole job.
 fn job_output(alloc: Global, options: &JobOptions<'_>, input: JobInput) -> Result<JobText, JobError>
-    requires { length input.streams ≤ 32 }
+    requires { length input.streams ≤ 254 }
     ensures given { (findings : List FindingView) → AreStreams options.now.make_dts findings input →
         IfOk result (λ p. spec.GivesJob options.now findings input p) }
     ensures given_in { (inputs : List (List FindingView)) (j : JoinedInputsView) → j.input ≡ input →
@@ -132,7 +132,7 @@ fn description_output(
 
 // Makes the units of a job.
 fn unit_output(alloc: Global, input: JobInput) -> Result<JobText, JobError>
-    requires { length input.streams ≤ 32 }
+    requires { length input.streams ≤ 254 }
     ensures given { IfOk result (λ p. spec.GivesUnits input p) }
     ensures withheld { IfErr result (λ error. error ≡ Memory) }
 {
@@ -150,7 +150,7 @@ pub(crate) fn output_for(
     arguments: &JobArguments<'_>,
     input: JobInput,
 ) -> Result<JobText, JobError>
-    requires { length input.streams ≤ 32 }
+    requires { length input.streams ≤ 254 }
     ensures given { (findings : List FindingView) → AreStreams arguments.now.options.make_dts findings input →
         IfOk result (λ p. spec.Gives arguments.now.subcommand arguments.now.options findings input p) }
     ensures given_in { (inputs : List (List FindingView)) (j : JoinedInputsView) → j.input ≡ input →
@@ -293,7 +293,7 @@ fn job_outcome(
     others: &[OtherTable],
     input: JobInput,
 ) -> Result<JobOutcome, JobError>
-    requires { length input.streams ≤ 32 }
+    requires { length input.streams ≤ 254 }
     ensures given { (findings : List FindingView) → AreStreams arguments.now.options.make_dts findings input →
         others.now ≡ found.other_tables findings →
         IfOk result (λ a. spec.IsGiven arguments.now notes.now findings input a) }
@@ -357,7 +357,7 @@ fn input_outcome(
     others: &[OtherTable],
     input: JobInput,
 ) -> Result<JobOutcome, AllocError>
-    requires { length input.streams ≤ 32 }
+    requires { length input.streams ≤ 254 }
     ensures { (findings : List FindingView) → AreStreams arguments.now.options.make_dts findings input →
         others.now ≡ found.other_tables findings →
         IfOk result (λ a. spec.InputLeads arguments.now notes.now findings (Ok input) a) }
