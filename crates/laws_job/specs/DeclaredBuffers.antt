@@ -22,6 +22,7 @@ use Rattle.job_programs.specs.JobOptions.{JobOptionsView}
 use Rattle.job_programs.specs.JobTables.{table_part}
 use Rattle.stream_jobs.specs.Jobs.{AreUnits}
 use Rattle.stream_jobs.specs.Rates.{IsText}
+use Rattle.stream_jobs.specs.SharedClocks.{sharing}
 use Rattle.stream_jobs.specs.Texts.{description_text, heading_of, program_part, stream_part}
 use Rattle.laws_job.specs.Laws.{schedule_for}
 
@@ -29,7 +30,7 @@ use Rattle.laws_job.specs.Laws.{schedule_for}
 
 -- its parts
 abbrev pub program_parts : JobOptionsView → JobInputView → List ProgramPartView
-program_parts options input = map (program_part options.pcr_limit) (zip input.programs input.information.services)
+program_parts options input = map (program_part options.pcr_limit (sharing options.clock input)) (zip input.programs input.information.services)
 
 abbrev pub stream_parts : JobInputView → List StreamPartView
 stream_parts input = map stream_part (zip input.streams (zip input.unit_counts input.choices))
@@ -39,7 +40,7 @@ table_parts input = map (table_part input.streams) input.tables
 
 -- their numbers are numbers of TOML, which have 63 bits beside their sign
 pub record HasTomlNumbers (options : JobOptionsView) (input : JobInputView) (rate : ℕ) : Type 0 where
-  pub heading : FitsHeading (heading_of input rate)
+  pub heading : FitsHeading (heading_of (sharing options.clock input) input rate)
   pub events : All FitsEvent input.information.events
   pub network : FitsNetwork input.information.network
   pub programs : All FitsProgram (program_parts options input)

@@ -10,6 +10,7 @@ use Rattle.demux.specs.Stream.{finished, pushed, start}
 use Rattle.unit_timing.specs.declared.allowance.Allowance.TheVariants.{Groups as UnitGroups}
 use Rattle.laws_run.specs.WorkedBytes.{pat_packet, pmt_packet, unit_packet, worked_pat, worked_pmt}
 use Rattle.given_values.specs.declared.clock_base.ClockBase.TheVariants.{Lasting}
+use Rattle.given_values.specs.declared.clock_sharing.ClockSharing.TheVariants.{WithoutVideo}
 use Rattle.given_values.specs.declared.declare_by.DeclareBy.TheVariants.{Groups}
 use Rattle.job_programs.specs.JobOptions.{JobOptionsView}
 use Rattle.job_programs.specs.JobPrograms.{JobProgramView}
@@ -67,6 +68,7 @@ worked_options = record {
   strict = false;
   lenient = false;
   base = Lasting;
+  clock = WithoutVideo;
   network = None;
   names = [];
   programs = [];

@@ -28,6 +28,7 @@ use Rattle.job_inputs.specs.JobInput.{JobInputView}
 use Rattle.job_programs.specs.JobOptions.{JobOptionsView}
 use Rattle.job_programs.specs.JobPrograms.{JobProgramView}
 use Rattle.job_programs.specs.JobTables.{table_lines, table_part, tables_text}
+use Rattle.stream_jobs.specs.SharedClocks.{sharing}
 use Rattle.stream_jobs.specs.Texts.{description_text, heading_of, program_lines, program_part, program_with, programs_text, stream_lines}
 use Rattle.stream_jobs.specs.Texts.{stream_part, streams_text}
 use Rattle.checked_jobs.specs.Jobs.{first_plan_line}
@@ -317,34 +318,35 @@ information_plain w id findings programs plain = record {
   services = each_mapped (service_for w.names findings) PlainService programs (λ p. service_plain w.names p.number (service p.number findings) plain.names);
 }
 
-heading_plain : (m : JobInputView) (rate : ℕ) → is_flat m.information.start ≡ true → is_flat (heading_of m rate).start ≡ true
+heading_plain : (pids : List ℕ) (m : JobInputView) (rate : ℕ) → is_flat m.information.start ≡ true → is_flat (heading_of pids m rate).start ≡ true
 unfolding heading_of
-heading_plain m rate plain = plain
+heading_plain pids m rate plain = plain
 
 events_pass : (events : List EventPartView) → Each PlainEvent events → Passes (events_text events)
 events_pass [] plain = none_passes
 events_pass (e ∷ es) plain = both_pass (event_text e) (events_text es) (event_passes e plain.0) (events_pass es plain.1)
 
-one_program : (limit : ℕ) (p : JobProgramView) (s : FoundServiceView) → PlainService s → Passes (program_lines limit (p, s))
+one_program : (limit : ℕ) (pids : List ℕ) (p : JobProgramView) (s : FoundServiceView) → PlainService s → Passes (program_lines limit pids (p, s))
 unfolding program_with
-one_program limit p s plain = program_passes (program_part limit (p, s)) plain.name plain.provider
+one_program limit pids p s plain = program_passes (program_part limit pids (p, s)) plain.name plain.provider
 
-programs_pass : (limit : ℕ) (programs : List JobProgramView) (services : List FoundServiceView) → Each PlainService services →
-    Passes (programs_text limit programs services)
-programs_pass limit [] services plain = none_passes
-programs_pass limit (p ∷ ps) [] plain = none_passes
-programs_pass limit (p ∷ ps) (s ∷ ss) plain =
-    both_pass (program_lines limit (p, s)) (programs_text limit ps ss) (one_program limit p s plain.0) (programs_pass limit ps ss plain.1)
+programs_pass : (limit : ℕ) (pids : List ℕ) (programs : List JobProgramView) (services : List FoundServiceView) → Each PlainService services →
+    Passes (programs_text limit pids programs services)
+programs_pass limit pids [] services plain = none_passes
+programs_pass limit pids (p ∷ ps) [] plain = none_passes
+programs_pass limit pids (p ∷ ps) (s ∷ ss) plain =
+    both_pass (program_lines limit pids (p, s)) (programs_text limit pids ps ss) (one_program limit pids p s plain.0) (programs_pass limit pids ps ss plain.1)
 
 pub description_passes : (w : JobOptionsView) (m : JobInputView) (rate : ℕ) → PlainInformation m.information → Passes (description_text w m rate)
 unfolding description_text
 description_passes w m rate plain =
     let network = network_passes m.information.network plain.network in
-    let programs = programs_pass w.pcr_limit m.programs m.information.services plain.services in
+    let pids = sharing w.clock m in
+    let programs = programs_pass w.pcr_limit pids m.programs m.information.services plain.services in
     let streams = all_pass stream_lines (zip m.streams (zip m.unit_counts m.choices)) (λ s. stream_passes (stream_part s)) in
     let tables = all_pass (table_lines m.streams) m.tables (λ t. private_passes (table_part m.streams t)) in
     let last = both_pass (streams_text m.streams m.unit_counts m.choices) (tables_text m.streams m.tables) streams tables in
-    let parts = both_pass (programs_text w.pcr_limit m.programs m.information.services) _ programs last in
-    both_pass (heading_text (heading_of m rate)) _ (heading_passes (heading_of m rate) (heading_plain m rate plain.start))
+    let parts = both_pass (programs_text w.pcr_limit pids m.programs m.information.services) _ programs last in
+    both_pass (heading_text (heading_of pids m rate)) _ (heading_passes (heading_of pids m rate) (heading_plain pids m rate plain.start))
     (both_pass (events_text m.information.events) _ (events_pass m.information.events plain.events)
     (both_pass (network_if_any m.information.network) _ network parts))

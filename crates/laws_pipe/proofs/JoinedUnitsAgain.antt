@@ -13,6 +13,7 @@ use Rattle.es_moments.specs.Merging.{AreMerged}
 use Rattle.job_programs.specs.FoundUnits.{AreMoved, KeepDts, source_of}
 use Rattle.job_programs.proofs.KeptDts.{kept_moved}
 use Rattle.job_programs.specs.JobStreams.{TimedStreamView}
+use Rattle.given_values.specs.declared.clock_sharing.ClockSharing.{ClockSharing}
 use Rattle.stream_jobs.specs.Jobs.{AllAgree}
 use Rattle.job_inputs.specs.JoinedInputs.{AreUnitsIn, IsMovedIn, JoinedInputsView, findings_in}
 use Rattle.job_inputs.specs.declared.joined_inputs.Origin.{Origin}
@@ -35,9 +36,9 @@ those_moved inputs constant o t us same keep moved =
     let there : AreMoved (map (λ u. u.unit) (source_of false o.pid (findings_in inputs o.input))) (constant o.input o.clock) us = rw same moved in
     kept_moved o.pid (findings_in inputs o.input) (constant o.input o.clock) us keep there
 
-pub moved_in : (made : Bool) (inputs : List (List FindingView)) (constant : ℕ → ProgramClock → ℕ) (d : Described) (j : JoinedInputsView)
+pub moved_in : {by : ClockSharing} (made : Bool) (inputs : List (List FindingView)) (constant : ℕ → ProgramClock → ℕ) (d : Described) (j : JoinedInputsView)
     (units : List (ℕ × AccessUnit)) → made ≡ false →
-    AllZip (IsMovedIn made inputs constant) j.origins j.input.streams → AllAgree d j.input → AreMerged (map (λ t. t.units) j.input.streams) units →
+    AllZip (IsMovedIn made inputs constant) j.origins j.input.streams → AllAgree by d j.input → AreMerged (map (λ t. t.units) j.input.streams) units →
     (k : ℕ) (s : DescribedStream) (o : Origin) → slice_get d.streams k ≡ Some s → slice_get j.origins k ≡ Some o →
     KeepDts o.pid (findings_in inputs o.input) → AreMoved (wire_units_in inputs o) (constant o.input o.clock) (units_of k units)
 moved_in made inputs constant d j units own moved agree merged k s o is from keep =

@@ -32,7 +32,7 @@ use Rattle.tsjob_cli.specs.Arguments.{without_in}
 use Rattle.tsjob_cli.specs.Options.{options}
 use Rattle.tsjob_cli.specs.Subcommands.{subcommand_of}
 use Rattle.description_values.specs.Moments.{moment_of}
-use Rattle.word_faults.specs.JobValues.{base_of, declare_by_of, is_moment, is_of_time, start_of}
+use Rattle.word_faults.specs.JobValues.{base_of, clock_sharing_of, declare_by_of, is_moment, is_of_time, start_of}
 use Rattle.word_faults.specs.Lists.{all_of, colon_parts, number_in}
 use Rattle.given_buffers.specs.GivenBuffers.{buffer_list}
 use Rattle.word_faults.specs.NameLists.{are_printable, is_printable, name_list, name_of, network_if_given, network_in, network_of as network_named}
@@ -175,7 +175,8 @@ values_plain rows v e =
     let pcr_limit = given_some (limit_in rows) _ v start.1.1 in
     let lead = given_some (lead_in rows) _ v pcr_limit.1.1 in
     let declare_by = given_some (declare_by_of (first_of (codes "declare") rows)) _ v lead.1.1 in
-    let base = given_some (base_of (first_of (codes "base") rows)) _ v declare_by.1.1 in
+    let clock = given_some (clock_sharing_of (first_of (codes "clock") rows)) _ v declare_by.1.1 in
+    let base = given_some (base_of (first_of (codes "base") rows)) _ v clock.1.1 in
     subst (λ (x : JobArgumentsView). PlainIfAny x.options.start) (same_value _ v base.1.1) (start_plain (first_of (codes "start") rows) start.0 start.1.0)
 
 rows_plain : (rows : List Row) (a : JobArgumentsView) → arguments_of rows ≡ Some a → PlainOptions a.options

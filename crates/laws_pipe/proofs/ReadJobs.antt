@@ -74,7 +74,7 @@ only_one false x = omega arith
 both_lists : {X : Type 0} (a b : List X) (m n : ℕ) → length a ≤ m → length b ≤ n → length (a ++ b) ≤ m + n
 both_lists a b m n p q = omega (arith, length-append a b, p, q)
 
-few_tables : (d : Described) → IsInRange d → table_count d ≤ 37
+few_tables : (d : Described) → IsInRange d → table_count d ≤ 133
 few_tables d ranges =
     let two = both_lists (only_if (is_some d.network) Nit) (only_if d.has_sdt Sdt) 1 1 (only_one (is_some d.network) Nit) (only_one d.has_sdt Sdt) in
     let three =
@@ -87,7 +87,7 @@ few_tables d ranges =
 
 small_slot : (d : Described) (slot : Slot) → IsInRange d → IsNamed d slot → IsByteSlot slot
 small_slot d (Stream n) ranges named = omega (arith, named, ranges.most_streams)
-small_slot d (Pcr n) ranges named = omega (arith, named, ranges.most_programs)
+small_slot d (Pcr n) ranges named = omega (arith, named.0, ranges.most_programs)
 small_slot d (Table n) ranges named = omega (arith, named, few_tables d ranges)
 small_slot d Null ranges named = tt
 

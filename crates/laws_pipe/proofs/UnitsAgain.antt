@@ -83,7 +83,7 @@ those_moved findings programs constant s us t entry same keep moved =
 
 pub moved_units : (options : JobOptionsView) (findings : List FindingView) (d : Described) (input : JobInputView) (units : List (ℕ × AccessUnit))
     (constants : HasConstants options findings input) →
-    options.make_dts ≡ false → AllAgree d input → AreMerged (map (λ t. t.units) input.streams) units → (k : ℕ) (s : DescribedStream) →
+    options.make_dts ≡ false → AllAgree options.clock d input → AreMerged (map (λ t. t.units) input.streams) units → (k : ℕ) (s : DescribedStream) →
     slice_get d.streams k ≡ Some s → KeepDts s.pid findings →
     AreMoved (apart_wire_units s.pid findings) (constants.constant (clock_in input.programs s.program)) (units_of k units)
 moved_units options findings d input units constants own agree merged k s is keep =

@@ -4,6 +4,7 @@ use Rattle.std.specs.Borrow.{Bor}
 use Rattle.clap.specs.Words.{Row, Text, first_of}
 use Rattle.given_values.specs.GivenNames.{NetworkNameView, ServiceNameView}
 use Rattle.given_values.specs.declared.clock_base.ClockBase.{ClockBase}
+use Rattle.given_values.specs.declared.clock_sharing.ClockSharing.{ClockSharing}
 use Rattle.given_values.specs.declared.declare_by.DeclareBy.{DeclareBy}
 use Rattle.es_buffers.specs.declared.buffers.PidBuffers.{PidBuffers}
 use Rattle.devices.specs.Options.{is_given}
@@ -11,7 +12,7 @@ use Rattle.job_lines.specs.declared.reporting.Reporting.{Reporting}
 use Rattle.job_run.specs.declared.job_arguments.Subcommand.{Subcommand}
 use Rattle.job_run.specs.declared.job_arguments.Subcommand.TheVariants.{Whole, Describe, Units, Why}
 use Rattle.job_run.specs.JobArguments.{JobArgumentsView}
-use Rattle.word_faults.specs.JobValues.{base_of, declare_by_of, start_of}
+use Rattle.word_faults.specs.JobValues.{base_of, clock_sharing_of, declare_by_of, start_of}
 use Rattle.given_buffers.specs.GivenBuffers.{buffer_list}
 use Rattle.word_faults.specs.Lists.{given}
 use Rattle.word_faults.specs.NameLists.{name_list, network_if_given}
@@ -60,9 +61,9 @@ reporting_in rows = record {
 -- 2. All of them
 
 -- arguments with empty lists
-abbrev pub plain : Subcommand → Option Text → Reporting → Option ℕ → Option Text → ℕ → ℕ → DeclareBy → Bool → Bool → Bool → Bool → Bool → ClockBase →
-    JobArgumentsView
-plain subcommand stream reporting rate start pcr_limit lead declare_by make_dts mark_access joined strict lenient base = record {
+abbrev pub plain : Subcommand → Option Text → Reporting → Option ℕ → Option Text → ℕ → ℕ → DeclareBy → Bool → Bool → Bool → Bool → Bool → ClockSharing →
+    ClockBase → JobArgumentsView
+plain subcommand stream reporting rate start pcr_limit lead declare_by make_dts mark_access joined strict lenient clock base = record {
   subcommand = subcommand;
   stream = stream;
   reporting = reporting;
@@ -76,6 +77,7 @@ plain subcommand stream reporting rate start pcr_limit lead declare_by make_dts 
     strict = strict;
     lenient = lenient;
     base = base;
+    clock = clock;
     network = None;
     names = [];
     programs = [];
@@ -97,11 +99,12 @@ values_of rows =
     given (limit_in rows) (λ pcr_limit.
     given (lead_in rows) (λ lead.
     given (declare_by_of (first_of (codes "declare") rows)) (λ declare_by.
+    given (clock_sharing_of (first_of (codes "clock") rows)) (λ clock.
     given (base_of (first_of (codes "base") rows)) (λ base.
     Some (plain subcommand stream (reporting_in rows) rate start pcr_limit lead declare_by (is_given (first_of (codes "make-dts") rows))
     (is_given (first_of (codes "mark-access") rows))
     (is_given (first_of (codes "joined") rows))
-    (is_given (first_of (codes "strict") rows)) (is_given (first_of (codes "lenient") rows)) base)))))))))
+    (is_given (first_of (codes "strict") rows)) (is_given (first_of (codes "lenient") rows)) clock base))))))))))
 
 -- arguments with lists
 abbrev pub with_lists : List ℕ → List ℕ → List PidBuffers → Option NetworkNameView → List ServiceNameView → List ℕ → JobArgumentsView → JobArgumentsView

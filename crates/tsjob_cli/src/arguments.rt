@@ -17,8 +17,8 @@ use job_lines::Reporting;
 use job_run::{JobArguments, Subcommand};
 use std::alloc::{AllocError, Global};
 use word_faults::{
-    base_of, declare_by_of, given_options, name_list, network_in, number_if, number_of, numbers_of,
-    start_of,
+    base_of, clock_sharing_of, declare_by_of, given_options, name_list, network_in, number_if,
+    number_of, numbers_of, start_of,
 };
 
 // Returns the subcommand of this name; without a name, the whole job.
@@ -145,6 +145,7 @@ fn values_of<'a>(alloc: Global, matches: &ArgMatches<'a>) -> Option<JobArguments
     let pcr_limit = limit_in(matches)?;
     let lead = lead_in(matches)?;
     let declare_by = declare_by_of(text_of(matches, "declare"))?;
+    let clock = clock_sharing_of(text_of(matches, "clock"))?;
     let base = base_of(text_of(matches, "base"))?;
     Some(JobArguments {
         subcommand,
@@ -159,6 +160,7 @@ fn values_of<'a>(alloc: Global, matches: &ArgMatches<'a>) -> Option<JobArguments
         strict: is_given(text_of(matches, "strict")),
         lenient: is_given(text_of(matches, "lenient")),
         base,
+        clock,
         network: None,
         names: Vec::new(alloc),
         programs: Vec::new(alloc),

@@ -6,14 +6,15 @@ ghost use Rattle.word_faults.specs.KnownWords.{known_of};
 use crate::arguments::subcommand_of;
 use crate::file_mark::has_mark;
 use crate::rows::{
-    ALIGNED, BASE, BUFFERS, DECLARE, HELP, JOINED, LEAD, LENIENT, MAKE_DTS, MARK_ACCESS, NAME,
-    NETWORK, OUTPUT, PCR, PROGRAM, PROGRESS, QUIET, RATE, START, STRICT, VERBOSE, VERSION, WITHOUT,
+    ALIGNED, BASE, BUFFERS, CLOCK, DECLARE, HELP, JOINED, LEAD, LENIENT, MAKE_DTS, MARK_ACCESS,
+    NAME, NETWORK, OUTPUT, PCR, PROGRAM, PROGRESS, QUIET, RATE, START, STRICT, VERBOSE, VERSION,
+    WITHOUT,
 };
 use job_run::Subcommand;
 use word_faults::{KnownWords, OptionRow, ValueKind, word_beside};
 
 /// The options and the subcommand. The reader, the first faulty word and the usage follow these rows.
-pub(crate) const OPTIONS: [OptionRow; 26] = [
+pub(crate) const OPTIONS: [OptionRow; 27] = [
     OptionRow {
         name: "subcommand",
         value: ValueKind::Word,
@@ -29,6 +30,7 @@ pub(crate) const OPTIONS: [OptionRow; 26] = [
     LEAD,
     DECLARE,
     PCR,
+    CLOCK,
     START,
     BASE,
     NETWORK,
@@ -78,6 +80,7 @@ const USAGE: &str = "usage: tsjob [describe|units|why] [OPTIONS] [FILE..|-] [-o 
   --lead 1..90000                the greatest lead of a unit, in units of 90 kHz
   --declare groups|time          by what packets are declared; else by groups if they ask for little more
   --pcr 1..100                   the greatest time between clock references, in ms
+  --clock each|one               which programs share a clock: none or all; else those without video
   --start YYYY-MM-DDThh:mm:ss    the moment of the first packet
   --base 0..8589934591|input     the system clock as the run begins, in units of 90 kHz, or that of the input
   --network ID:NAME[:ORIGINAL]   the network, and original_network_id

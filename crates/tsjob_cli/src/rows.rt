@@ -97,6 +97,16 @@ pub const START: OptionRow = OptionRow {
     help: "the moment of the first packet",
 };
 
+/// Which programs share a clock.
+pub const CLOCK: OptionRow = OptionRow {
+    name: "clock",
+    value: ValueKind::Clock,
+    form: "each|one",
+    unit: "",
+    apart: "",
+    help: "which programs share a clock: none or all; else those without video",
+};
+
 /// What the system clock shows as the run begins.
 pub const BASE: OptionRow = OptionRow {
     name: "base",

@@ -4,8 +4,9 @@ ghost use Rattle.tsremux_cli.specs.Options as spec;
 ghost use Rattle.word_faults.specs.KnownWords.{known_of};
 
 use tsjob_cli::rows::{
-    ALIGNED, BASE, BUFFERS, DECLARE, HELP, JOINED, LEAD, LENIENT, MAKE_DTS, MARK_ACCESS, NAME,
-    NETWORK, OUTPUT, PCR, PROGRAM, PROGRESS, QUIET, RATE, START, STRICT, VERBOSE, VERSION, WITHOUT,
+    ALIGNED, BASE, BUFFERS, CLOCK, DECLARE, HELP, JOINED, LEAD, LENIENT, MAKE_DTS, MARK_ACCESS,
+    NAME, NETWORK, OUTPUT, PCR, PROGRAM, PROGRESS, QUIET, RATE, START, STRICT, VERBOSE, VERSION,
+    WITHOUT,
 };
 use word_faults::{KnownWords, OptionRow, ValueKind};
 
@@ -40,7 +41,7 @@ const RECORDS: OptionRow = OptionRow {
 };
 
 /// The options. Which word is a fault, and the usage, follow these rows.
-pub(crate) const OPTIONS: [OptionRow; 26] = [
+pub(crate) const OPTIONS: [OptionRow; 27] = [
     RATE,
     PROGRAM,
     WITHOUT,
@@ -48,6 +49,7 @@ pub(crate) const OPTIONS: [OptionRow; 26] = [
     LEAD,
     DECLARE,
     PCR,
+    CLOCK,
     START,
     BASE,
     NETWORK,
@@ -93,6 +95,7 @@ const USAGE: &str = "usage: tsremux [OPTIONS] [FILE..|-] -o OUT
   --lead 1..90000                the greatest lead of a unit, in units of 90 kHz
   --declare groups|time          by what packets are declared; else by groups if they ask for little more
   --pcr 1..100                   the greatest time between clock references, in ms
+  --clock each|one               which programs share a clock: none or all; else those without video
   --start YYYY-MM-DDThh:mm:ss    the moment of the first packet
   --base 0..8589934591|input     the system clock as the run begins, in units of 90 kHz, or that of the input
   --network ID:NAME[:ORIGINAL]   the network, and original_network_id
