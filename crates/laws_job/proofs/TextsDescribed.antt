@@ -31,8 +31,7 @@ use Rattle.description_parts.proofs.KeyRanges.{integer_at-within}
 use Rattle.job_text.specs.DescriptionParts.{EventPartView, FramingPartView, HeadingView, NetworkPartView, ProgramPartView, StreamPartView, TablePartView}
 use Rattle.job_text.specs.Documents.{document, elements_of, event_table, network_table, program_table, stream_table, table_table, stream_members, stream_rest}
 use Rattle.job_text.specs.Documents.{stream_middle, with_table, with_tables}
-use Rattle.job_text.specs.Fields.{limit_numbers}
-use Rattle.job_text.specs.KeyLines.{items_of, with_hex, with_list, with_numbers}
+use Rattle.job_text.specs.KeyLines.{items_of, number_if_any, with_hex, with_list, with_numbers, with_set}
 use Rattle.job_text.specs.Laws.{TextsAreRead, FitsHeading, FitsEvent, FitsNetwork, FitsProgram, FitsStream, FitsTable}
 use Rattle.job_text.specs.Texts.{event_text, heading_text, network_if_any, program_text, stream_text, table_text}
 use Rattle.laws_job.specs.DeclaredBuffers.{HasBuffersOf, declared_framing}
@@ -51,10 +50,18 @@ past_list : (key k : List ℕ) (ns : List ℕ) (more : Members) → IsBehind key
 past_list key k [] more behind = refl
 past_list key k (n ∷ ns) more behind = behind _ more
 
+past_number : (key k : List ℕ) (n : Option ℕ) (more : Members) → IsBehind key k →
+    get_member k (with_numbers (number_if_any key n) more) ≡ get_member k more
+past_number key k None more behind = refl
+past_number key k (Some n) more behind = behind _ more
+
+past_set : (key k : List ℕ) (b : Bool) (more : Members) → IsBehind key k → get_member k (with_set key b more) ≡ get_member k more
+past_set key k false more behind = refl
+past_set key k true more behind = behind _ more
+
 past_limit : (k : List ℕ) (l : Option ℕ) (more : Members) → IsBehind (codes "pts_limit") k →
-    get_member k (with_numbers (limit_numbers l) more) ≡ get_member k more
-past_limit k None more behind = refl
-past_limit k (Some n) more behind = behind _ more
+    get_member k (with_numbers (number_if_any (codes "pts_limit") l) more) ≡ get_member k more
+past_limit k l more behind = past_number (codes "pts_limit") k l more behind
 
 -- The leak of a stream
 abbrev leak_value : Option MultiplexingBuffer → Option Data
@@ -379,10 +386,11 @@ streams_value (s ∷ ss) ts more none = refl
 streams_at : (h : HeadingView) (es : List Members) (n : Option Members) (ps ss ts : List Members) →
     get (codes "stream") (table (document h es n ps ss ts)) ≡ array_value ss
 streams_at h es n ps ss ts =
-    past_tables (codes "event") (codes "stream") es _ (λ d ms. refl)
+    past_number (codes "clock_pid") (codes "stream") h.clock_pid _ (λ d ms. refl)
+    ∙ past_tables (codes "event") (codes "stream") es _ (λ d ms. refl)
     ∙ past_table (codes "network") (codes "stream") n _ (λ d ms. refl)
     ∙ past_tables (codes "program") (codes "stream") ps _ (λ d ms. refl)
-    ∙ streams_value ss ts _ refl
+    ∙ streams_value ss ts _ (past_set (codes "transponder") (codes "stream") h.transponder _ (λ d ms. refl))
 
 listed : (ts : List Members) → list_of (elements_of ts) ≡ map table ts
 listed [] = refl

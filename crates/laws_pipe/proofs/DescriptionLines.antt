@@ -11,13 +11,14 @@ use Rattle.unit_timing.specs.declared.allowance.Allowance.TheVariants.{Groups, P
 use Rattle.unit_timing.specs.declared.multiplexing_buffer.MultiplexingBuffer.{MultiplexingBuffer}
 use Rattle.pid_findings.specs.Views.{FindingView}
 use Rattle.job_text.specs.DescriptionParts.{EventPartView, FramingPartView, HeadingView, NetworkPartView, ProgramPartView, StreamPartView, TablePartView}
-use Rattle.job_text.specs.Fields.{burst_numbers, drain_numbers, first_numbers, frame_numbers, rest_numbers, group_numbers, last_numbers, leak_numbers, limit_numbers}
+use Rattle.job_text.specs.Fields.{burst_numbers, drain_numbers, frame_numbers, rest_numbers, group_numbers, last_numbers, leak_numbers}
 use Rattle.job_text.specs.Fields.{pace_numbers, place_numbers, program_numbers, size_numbers, table_numbers, time_numbers}
-use Rattle.job_text.specs.KeyLines.{digits_of, header, hex_line, items_of, items_text, key_line, list_line, noted_line, number_line, number_lines, table_header}
+use Rattle.job_text.specs.KeyLines.{digits_of, header, hex_line, items_of, items_text, key_line, list_line, noted_line, number_if_any, number_line, number_lines, set_line, table_header}
 use Rattle.job_text.specs.KeyLines.{value_text}
 use Rattle.job_text.specs.Notes.{is_shown, note_of, type_note}
 use Rattle.job_text.proofs.NoteLines.{notes_are_shown}
-use Rattle.job_text.specs.Texts.{event_back, event_names, event_numbers, event_text, framing_if_any, framing_text, heading_text, network_if_any, program_front, program_service, program_text}
+use Rattle.job_text.specs.Texts.{event_back, event_names, event_numbers, event_text, framing_if_any, framing_text, heading_back, heading_numbers, heading_text}
+use Rattle.job_text.specs.Texts.{network_if_any, program_clock, program_front, program_service, program_text}
 use Rattle.job_text.specs.Texts.{stream_end, stream_front, stream_place, stream_text, stream_times, table_back, table_front, table_text, type_line}
 use Rattle.ts_services.specs.NetworkInformation.{stream_network}
 use Rattle.ts_services.specs.Services.{FoundServiceView, service}
@@ -134,6 +135,15 @@ truth_flat false = refl
 truth_passes : (key : List ℕ) (b : Bool) → IsOther key → is_flat key ≡ true → Passes (key_line key (boolean b))
 truth_passes key b other plain = key_passes key (boolean b) other plain (truth_flat b)
 
+set_passes : (key : List ℕ) (b : Bool) → IsOther key → is_flat key ≡ true → Passes (set_line key b)
+set_passes key true other plain = truth_passes key true other plain
+set_passes key false other plain = none_passes
+
+-- The line of a number passes, if there is a number.
+any_passes : (key : List ℕ) (n : Option ℕ) → IsOther key → is_flat key ≡ true → Passes (number_lines (number_if_any key n))
+any_passes key None other plain = none_passes
+any_passes key (Some n) other plain = numbers_pass ((key, n) ∷ []) (other, (plain, tt))
+
 -- 2. The parts of a description
 
 empty_line : Passes (codes "\n")
@@ -142,12 +152,17 @@ empty_line = line_passes [] refl (λ rest. refl)
 heading_passes : (h : HeadingView) → is_flat h.start ≡ true → Passes (heading_text h)
 heading_passes h plain =
     let last = number_passes (codes "ts_id") h.transport_stream_id (λ rest. refl) refl in
-    let time = both_pass (key_line (codes "tdt") (boolean h.tdt)) (number_line (codes "ts_id", h.transport_stream_id))
-    (truth_passes (codes "tdt") h.tdt (λ rest. refl) refl) last in
-    let start = both_pass (key_line (codes "start") (string h.start)) _ (text_passes (codes "start") h.start (λ rest. refl) refl plain) time in
+    let whole = both_pass (set_line (codes "transponder") h.transponder) (number_line (codes "ts_id", h.transport_stream_id))
+    (set_passes (codes "transponder") h.transponder (λ rest. refl) refl) last in
+    let time = both_pass (key_line (codes "tdt") (boolean h.tdt)) _ (truth_passes (codes "tdt") h.tdt (λ rest. refl) refl) whole in
+    let start = both_pass (key_line (codes "start") (string h.start)) (heading_back h) (text_passes (codes "start") h.start (λ rest. refl) refl plain) time in
     let services = both_pass (key_line (codes "sdt") (boolean h.sdt)) _ (truth_passes (codes "sdt") h.sdt (λ rest. refl) refl) start in
-    let rate = both_pass (number_line (codes "rate", h.rate)) _ (number_passes (codes "rate") h.rate (λ rest. refl) refl) services in
-    both_pass (number_lines (first_numbers h)) _ (numbers_pass (first_numbers h) ((λ rest. refl), (refl, ((λ rest. refl), (refl, tt))))) rate
+    let network = both_pass (number_line (codes "original_network_id", h.original_network_id)) (number_line (codes "rate", h.rate))
+    (number_passes (codes "original_network_id") h.original_network_id (λ rest. refl) refl) (number_passes (codes "rate") h.rate (λ rest. refl) refl) in
+    let clock = both_pass (number_lines (number_if_any (codes "clock_pid") h.clock_pid)) _
+    (any_passes (codes "clock_pid") h.clock_pid (λ rest. refl) refl) network in
+    let numbers = both_pass (number_line (codes "base0", h.base0)) _ (number_passes (codes "base0") h.base0 (λ rest. refl) refl) clock in
+    both_pass (heading_numbers h) _ numbers services
 
 network_header : Passes (table_header (codes "network"))
 unfolding table_header
@@ -170,12 +185,14 @@ program_passes p name provider =
     let head = both_pass (header (codes "program")) (hex_line (codes "descriptors") p.descriptors) program_header (bytes_pass p.descriptors) in
     let front = both_pass _ (key_line (codes "name") (string p.name)) head (text_passes (codes "name") p.name (λ rest. refl) refl name) in
     let kind = number_passes (codes "service_type") p.service_type (λ rest. refl) refl in
-    let services =
+    let texts =
     both_pass (key_line (codes "provider") (string p.provider)) (number_line (codes "service_type", p.service_type))
     (text_passes (codes "provider") p.provider (λ rest. refl) refl provider) kind in
-    let numbers = numbers_pass (program_numbers p) ((λ rest. refl), (refl, ((λ rest. refl), (refl, ((λ rest. refl), (refl, ((λ rest. refl), (refl, tt)))))))) in
-    both_pass (program_front p) (number_lines (program_numbers p) ++ program_service p) front
-    (both_pass (number_lines (program_numbers p)) (program_service p) numbers services)
+    let services = both_pass (number_line (codes "pmt_pid", p.pmt_pid)) _ (number_passes (codes "pmt_pid") p.pmt_pid (λ rest. refl) refl) texts in
+    let numbers = numbers_pass (program_numbers p) ((λ rest. refl), (refl, ((λ rest. refl), (refl, tt)))) in
+    let clock = both_pass (number_lines (program_numbers p)) (number_lines (number_if_any (codes "pcr_pid") p.pcr_pid)) numbers
+    (any_passes (codes "pcr_pid") p.pcr_pid (λ rest. refl) refl) in
+    both_pass (program_front p) (program_clock p ++ program_service p) front (both_pass (program_clock p) (program_service p) clock services)
 
 event_header : Passes (header (codes "event"))
 unfolding header
@@ -236,10 +253,6 @@ leak_passes : (m : Option MultiplexingBuffer) → Passes (number_lines (leak_num
 leak_passes None = none_passes
 leak_passes (Some m) = numbers_pass (leak_numbers (Some m)) ((λ rest. refl), (refl, tt))
 
-limit_passes : (l : Option ℕ) → Passes (number_lines (limit_numbers l))
-limit_passes None = none_passes
-limit_passes (Some n) = numbers_pass (limit_numbers (Some n)) ((λ rest. refl), (refl, tt))
-
 stream_passes : (s : StreamPartView) → Passes (stream_text s)
 stream_passes s =
     let groups = both_pass (framing_if_any s.framing) (number_lines (group_numbers s.allowance)) (frames_pass s.framing)
@@ -253,7 +266,7 @@ stream_passes s =
     let middle = both_pass (number_lines (time_numbers s)) _ times pace in
     let drain = numbers_pass (drain_numbers s) ((λ rest. refl), (refl, tt)) in
     let leak = both_pass (number_lines (leak_numbers s.multiplexing)) (number_lines (drain_numbers s)) (leak_passes s.multiplexing) drain in
-    let limit = both_pass (number_lines (limit_numbers s.pts_limit)) _ (limit_passes s.pts_limit) leak in
+    let limit = both_pass (number_lines (number_if_any (codes "pts_limit") s.pts_limit)) _ (any_passes (codes "pts_limit") s.pts_limit (λ rest. refl) refl) leak in
     let pids = numbers_pass (place_numbers s) ((λ rest. refl), (refl, ((λ rest. refl), (refl, tt)))) in
     let place = both_pass (number_lines (place_numbers s)) _ pids limit in
     let last = both_pass (number_lines (last_numbers s)) (type_line s) (numbers_pass (last_numbers s) ((λ rest. refl), (refl, tt))) (type_passes s) in
