@@ -101,8 +101,8 @@ fn recurring_of(alloc: Global, description: &Description) -> Result<Vec<Recurrin
 {
     let mut recurring = Vec::new(alloc);
     push_tables(description, &mut recurring)?;
-    let clocks = clocks_of(alloc, description.programs())?;
-    recurring.extend_from_slice(&clocks)?;
+    let mut clocks = clocks_of(alloc, description.programs())?;
+    recurring.append(&mut clocks)?;
     Ok(recurring)
 }
 
