@@ -17,6 +17,7 @@ pub mod FedPackets
 pub mod PidEnds
 pub mod PlainPackets
 pub mod FedStreams
+pub mod StreamPackets
 pub mod WatchedStreams
 pub mod ContinuedClocks
 pub mod DamagedReferences

@@ -16,8 +16,9 @@ use Rattle.devices.proofs.ReportedTexts.{reported_all, reported_none}
 use Rattle.demux.specs.FoundSoFar.{taken_all}
 use Rattle.fed_streams.specs.Feeding.{Fed, FeedView}
 use Rattle.es_feed.specs.StreamFeeding.{IsFedBy, at_first, is_packet}
-use Rattle.es_feed.specs.Watching.{AreSlips, IsWatchedBy, IsWatchedOf, WatchedView, first_place, watched_first}
+use Rattle.es_feed.specs.Watching.{AreSlips, HoldsFew, IsWatchedBy, IsWatchedOf, WatchedView, first_place, watched_first}
 use Rattle.es_feed.proofs.ReportedLines.{any_append, flat_append, lines_append, or_true, state_append}
+use Rattle.es_feed.proofs.StreamPackets.{none_given}
 use Rattle.es_feed.proofs.WatchedStreams.{no_rounds}
 use Rattle.fed_streams.specs.Ticks.{after_packets, fed_packets}
 use Rattle.es_feed.specs.FedLines.{fed_record, fed_records, has_fault, have_fault, have_refusal, is_refusal}
@@ -35,7 +36,15 @@ slips_none : AreSlips [] false [] first_place []
 slips_none = record { fields = []; so = λ more none. record { slips = refl; fields = refl } }
 
 watched_none : (first : FeedView) → IsWatchedBy first [] false (watched_first first) []
-watched_none first = record { fed = []; found = []; rounds = no_rounds; by = fed_none first; slips_are = slips_none }
+watched_none first = record {
+  gone = [];
+  packets_are = none_given;
+  fed = [];
+  found = [];
+  rounds = no_rounds;
+  by = fed_none first;
+  slips_are = slips_none;
+}
 
 -- The stream so far: at least one byte in each piece, and nothing shows that the description is of another stream.
 pub record MidwayLong (first : FeedView) (pids : List ℕ) (input output faults : Device) (faulty : Bool) (s : WatchedView) (l : LinesView) (pieces : ℕ) : Type 0
@@ -52,7 +61,7 @@ none_came first pids input output faults = record {
     came = [];
     fed = [];
     by = watched_none first;
-    held = omega arith;
+    held = (omega arith, omega arith);
     passes = record { read = Consumes-nil input.bytes; written = Appends-nil output.bytes; clean = refl; reports_all = reported_none faults };
     unfailed = refl;
     faulty_is = refl;
@@ -277,16 +286,16 @@ pub pushed : {E : Type 0} (piece : List ℕ) (s t : WatchedView) (items : List F
 pushed piece s t items (Ok x) ok push first came before by = push first came before by
 pushed piece s t items (Err x) ok push first came before by = absurd cc
 
-pub held_short : {E : Type 0} (n : ℕ) (r : Result (Unit {0}) E) → is_err r ≡ false → OnOk r (n < 1128) → n < 1128
-held_short n (Ok x) ok h = h
-held_short n (Err x) ok h = absurd cc
+held_short : {E : Type 0} (s : WatchedView) (r : Result (Unit {0}) E) → is_err r ≡ false → OnOk r (HoldsFew s) → HoldsFew s
+held_short s (Ok x) ok h = h
+held_short s (Err x) ok h = absurd cc
 
 pub fed_piece : {E : Type 0} (s t : WatchedView) (i1 i2 : Port) (part : List ℕ) (n : ℕ) (items : List Fed) (r : Result (Unit {0}) E) →
     length part ≤ longest_piece → n ≤ length part → 0 < n →
     Consumes i1.bytes i2.bytes (take n part) → i2.failed ≡ i1.failed → is_err r ≡ false →
     ((first : FeedView) (came : List ℕ) (before : List Fed) → IsWatchedBy first came false s before →
     OnOk r (IsWatchedBy first (came ++ take n part) false t (before ++ items))) →
-    OnOk r (length t.stream.held < 1128) → FeedsSome s (between i1 i2) t items
+    OnOk r (HoldsFew t) → FeedsSome s (between i1 i2) t items
 fed_piece s t i1 i2 part n items r most within some reads clean ok push short = record {
   piece = take n part;
   some = omega (arith, length-take-le n part within, some);
@@ -294,7 +303,7 @@ fed_piece s t i1 i2 part n items r most within some reads clean ok push short = 
   read = reads;
   clean = clean;
   taken = pushed (take n part) s t items r ok push;
-  held = held_short (length t.stream.held) r ok short;
+  held = held_short t r ok short;
 }
 
 -- There is no memory for a piece that was read.

@@ -5,6 +5,7 @@ use Rattle.std.specs.List.{flat_map}
 use Rattle.std.proofs.lemmas.Grind.{flat_map-append}
 use Rattle.std.proofs.lemmas.List.{append_assoc, append-nil}
 use Rattle.packet_sync.specs.Notes.{NotesView, SayAlike, no_notes, with_slip, with_stretch}
+use Rattle.packet_sync.specs.PacketBytes.{packets_in}
 use Rattle.packet_sync.specs.Slips.{slips}
 use Rattle.packet_sync.specs.Stretches.{IsOfPackets, IsSteppedSoFar}
 use Rattle.packet_sync.specs.declared.slip.Slip.{Slip}
@@ -126,7 +127,8 @@ rounds_clear (r ∷ rounds) none =
     let own : all_of r ≡ r.fed = ap (λ (xs : List Fed). r.fed ++ xs) (no_slip r.found (fault_split r.fed (slips_fed r.found) two.0).1) ∙ append-nil r.fed in
     ap (λ (xs : List Fed). xs ++ flat_map all_of rounds) own ∙ ap (λ (xs : List Fed). r.fed ++ xs) (rounds_clear rounds two.1)
 
-pub clear_is_fed : (first : FeedView) (bytes : List ℕ) (all : List Fed) → IsWatchedOf first bytes all → have_fault all ≡ false → all ≡ fed_of first bytes
+pub clear_is_fed : (first : FeedView) (bytes : List ℕ) (all : List Fed) → IsWatchedOf first bytes all → have_fault all ≡ false →
+    all ≡ fed_of first (packets_in bytes)
 clear_is_fed first bytes all w none =
     let r = w.rounds in
     sym r.all_is ∙ rounds_clear r.rounds (ap have_fault r.all_is ∙ none) ∙ r.fed_is

@@ -2,6 +2,7 @@ pub mod EachStream
 pub mod Laws
 pub mod MovedApart
 pub mod StreamFeeding
+pub mod StreamPackets
 pub mod Watching
 pub mod FedLines
 pub mod DamagedReferences

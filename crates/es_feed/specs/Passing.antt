@@ -10,18 +10,18 @@ use Rattle.devices.specs.Outcomes.{halt_line}
 use Rattle.devices.specs.declared.halt.Halt.{Halt}
 use Rattle.devices.specs.declared.halt.Halt.TheVariants.{Read, Write, Memory}
 use Rattle.fed_streams.specs.Feeding.{Fed, FeedView}
-use Rattle.es_feed.specs.Watching.{IsWatchedBy, IsWatchedOf, WatchedView}
+use Rattle.es_feed.specs.Watching.{HoldsFew, IsWatchedBy, IsWatchedOf, WatchedView}
 use Rattle.es_feed.specs.FedLines.{fed_records, have_fault, have_refusal}
 use Rattle.es_feed.specs.StreamLines.{LinesView, after_lines, fed_lines, first_lines, lines_from}
 
 -- 1. The records of a stream while it comes
 
--- all of these bytes except at most the last 1,127 are taken, and their findings are fed, and their slips; without slips the records are the beginning
--- of the records of the whole stream, whatever bytes follow (the law `fed_so_far`)
+-- the packets of all of these bytes except few of the last ones are taken, and their findings are fed, and their slips; without slips the records are
+-- the beginning of the records of the whole stream, whatever bytes follow (the law `fed_so_far`)
 pub record IsFedSoFar (first : FeedView) (came : List ℕ) (fed : List Fed) : Type 0 where
   pub state : WatchedView
   pub by : IsWatchedBy first came false state fed
-  pub held : length state.stream.held < 1128
+  pub held : HoldsFew state
 
 -- the most bytes of one read; units that they make whole go out before the next
 abbrev pub longest_piece : ℕ
@@ -106,7 +106,7 @@ pub record FeedsSome (old : WatchedView) (input : Device) (new : WatchedView) (f
   pub clean : IsClean input
   pub taken : (first : FeedView) (came : List ℕ) (before : List Fed) → IsWatchedBy first came false old before →
       IsWatchedBy first (came ++ piece) false new (before ++ fed)
-  pub held : length new.stream.held < 1128
+  pub held : HoldsFew new
 
 -- or the input ended; a call of the reader failed; or there is no memory for the bytes that were read
 abbrev pub FeedsPiece : WatchedView → Device → WatchedView → List Fed → Result Bool Halt → Type 0
@@ -130,7 +130,7 @@ pub record Midway (first : FeedView) (pids : List ℕ) (input output faults : De
   pub came : List ℕ
   pub fed : List Fed
   pub by : IsWatchedBy first came false state fed
-  pub held : length state.stream.held < 1128
+  pub held : HoldsFew state
   pub passes : Passes pids came fed input output faults
   pub unfailed : IsClean input
   pub faulty_is : faulty ≡ have_fault fed

@@ -1,13 +1,15 @@
 -- A stream while it comes, and its slips: the bytes that are in no packet.
-use Rattle.std.specs.Prelude.{◌≡◌, ℕ, ◌+◌, ◌/◌, ◌++◌, ◌==◌, if◌then◌else◌, Bool, true, List, [], ◌∷◌, Err, map}
+use Rattle.std.specs.Prelude.{◌≡◌, ◌<◌, ℕ, ◌+◌, ◌/◌, ◌++◌, ◌==◌, if◌then◌else◌, Bool, true, List, [], ◌∷◌, Err, length, map}
 use Rattle.std.specs.List.{flat_map}
 use Rattle.packet_sync.specs.Notes.{NotesView, SayAlike, no_notes}
+use Rattle.packet_sync.specs.PacketBytes.{packets_in}
 use Rattle.packet_sync.specs.Slips.{slips}
 use Rattle.packet_sync.specs.declared.left_out.FieldLeftOut.{FieldLeftOut}
 use Rattle.packet_sync.specs.declared.slip.Slip.{Slip}
 use Rattle.packet_sync.specs.declared.stretch.Stretch.{Stretch}
 use Rattle.fed_streams.specs.Feeding.{Fed, FeedView}
 use Rattle.es_feed.specs.StreamFeeding.{IsFedBy, StreamFeedView, at_first, fed_of}
+use Rattle.es_feed.specs.StreamPackets.{ArePackets, PacketsView, no_bytes}
 use Rattle.fed_streams.specs.declared.feed_fault.FeedFault.TheVariants.{Slipped}
 use Rattle.es_feed.specs.declared.slip_watch.StreamPlace.{StreamPlace}
 
@@ -66,20 +68,27 @@ pub record AreRounds (fed : List Fed) (found : List Slip) (all : List Fed) : Typ
 -- 3. A stream
 
 pub record WatchedView : Type 0 where
+  pub packets : PacketsView
   pub stream : StreamFeedView
   pub watch : WatchView
 
 abbrev pub watched_first : FeedView → WatchedView
-watched_first feed = record { stream = at_first feed; watch = none_watched }
+watched_first feed = record { packets = no_bytes; stream = at_first feed; watch = none_watched }
 
--- after these bytes
+-- after these bytes of a stream: all of its packets but those of the held bytes
 pub record IsWatchedBy (first : FeedView) (bytes : List ℕ) (ended : Bool) (s : WatchedView) (all : List Fed) : Type 0 where
+  pub gone : List ℕ
+  pub packets_are : ArePackets bytes gone s.packets
   pub fed : List Fed
   pub found : List Slip
   pub rounds : AreRounds fed found all
-  pub by : IsFedBy first bytes ended s.stream fed
-  pub slips_are : AreSlips bytes ended s.watch.held s.watch.place found
+  pub by : IsFedBy first gone ended s.stream fed
+  pub slips_are : AreSlips gone ended s.watch.held s.watch.place found
 
--- all that is fed of a stream, and all its slips
+-- few bytes are held: of the stream at most 1,227, which do not yet decide where a packet begins, and of its packets the last 1,127
+abbrev pub HoldsFew : WatchedView → Type 0
+HoldsFew s = (length s.packets.held < 1228) × (length s.stream.held < 1128)
+
+-- all that is fed of the packets of a stream, and all their slips
 pub record IsWatchedOf (first : FeedView) (bytes : List ℕ) (all : List Fed) : Type 0 where
-  pub rounds : AreRounds (fed_of first bytes) (slips bytes) all
+  pub rounds : AreRounds (fed_of first (packets_in bytes)) (slips (packets_in bytes)) all

@@ -25,6 +25,7 @@ mod records;
 mod slip_watch;
 mod stream_feed;
 mod stream_lines;
+mod stream_packets;
 mod unit_feed;
 pub mod watched_feed;
 

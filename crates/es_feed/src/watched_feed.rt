@@ -1,11 +1,12 @@
 //! A stream and its slips.
 
-ghost use Rattle.std.specs.Prelude.{◌≡◌, ◌<◌, ◌++◌, [], List, OnOk, false, length, ℕ};
+ghost use Rattle.std.specs.Prelude.{◌≡◌, ◌++◌, [], List, OnOk, false, ℕ};
 ghost use Rattle.fed_streams.specs.Feeding.{Fed, FeedView};
 ghost use Rattle.es_feed.specs.Watching as spec;
 
 use crate::slip_watch::SlipWatch;
 use crate::stream_feed::StreamFeed;
+use crate::stream_packets::StreamPackets;
 use crate::unit_feed::{NO_STREAM, UnitFeed};
 use fed_streams::FeedFault;
 use fed_streams::feed_fault::SlippedBytes;
@@ -14,21 +15,23 @@ use pes_packet::Unit;
 use std::alloc::{AllocError, Global};
 use std::marker::Model;
 
-/// A stream whose bytes arrive piece by piece, and the bytes of it that are in no packet.
+/// A stream whose bytes arrive piece by piece, with packets of 188, 192 or 204 bytes, and the bytes of it that are in no
+/// packet.
 #[derive(Drop)]
 pub struct WatchedFeed {
     alloc: Global,
+    packets: StreamPackets,
     stream: StreamFeed,
     watch: SlipWatch,
 }
 
-// A contract sees both.
+// A contract sees all three.
 impl Model for WatchedFeed {
     ghost use Rattle.es_feed.specs.Watching.{WatchedView};
 
     ghost Value = { WatchedView };
 
-    ghost view = { λ w. record { stream = w.stream; watch = w.watch } };
+    ghost view = { λ w. record { packets = w.packets; stream = w.stream; watch = w.watch } };
 }
 
 // Appends the reports on slips.
@@ -53,6 +56,7 @@ impl WatchedFeed {
     {
         WatchedFeed {
             alloc,
+            packets: StreamPackets::new(alloc),
             stream: StreamFeed::new(alloc, feed),
             watch: SlipWatch::new(alloc),
         }
@@ -71,11 +75,12 @@ impl WatchedFeed {
         ensures taken { (first : FeedView) (stream : List ℕ) (before : List Fed) →
             spec.IsWatchedBy first stream false self.old before →
             OnOk result (spec.IsWatchedBy first (stream ++ piece.now) false self.new (before ++ fed.new.items)) }
-        ensures held { OnOk result (length self.new.stream.held < 1128) }
+        ensures held { OnOk result (spec.HoldsFew self.new) }
     {
-        self.stream.push(piece, fed)?;
+        let packets = self.packets.take(piece)?;
+        self.stream.push(&packets, fed)?;
         let mut found = Vec::new(self.alloc);
-        self.watch.push(piece, &mut found)?;
+        self.watch.push(&packets, &mut found)?;
         push_slips(fed, &found)?;
         Ok(())
     }
@@ -90,8 +95,13 @@ impl WatchedFeed {
             OnOk result (spec.IsWatchedOf first stream (before ++ fed.new.items)) }
     {
         let mut found = Vec::new(self.alloc);
-        self.stream.finish(fed)?;
-        self.watch.finish(&mut found)?;
+        let packets = self.packets.finish()?;
+        let mut stream = self.stream;
+        stream.push(&packets, fed)?;
+        stream.finish(fed)?;
+        let mut watch = self.watch;
+        watch.push(&packets, &mut found)?;
+        watch.finish(&mut found)?;
         push_slips(fed, &found)?;
         Ok(())
     }

@@ -41,10 +41,7 @@ use Rattle.job_run.specs.declared.job_arguments.Subcommand.{Subcommand}
 use Rattle.job_run.specs.declared.job_arguments.Subcommand.TheVariants.{Units}
 use Rattle.job_run.specs.JobArguments.{JobArgumentsView}
 use Rattle.job_run.specs.Outcomes.{Gives, GivesUnits}
-use Rattle.packet_sync.specs.OtherPackets.{other_packets}
-use Rattle.packet_sync.specs.PacketBytes.{packet_bytes, packets_in}
-use Rattle.packet_sync.specs.Slips.{carried}
-use Rattle.packet_sync.specs.declared.packet_sizes.OtherPackets.{OtherPackets}
+use Rattle.packet_sync.specs.PacketBytes.{packets_in}
 use Rattle.job_run.specs.Streams.{asked_findings, findings_for, findings_of, in_step, parts_by, references_by}
 use Rattle.tsjob_cli.specs.StreamedUnits.{GoesBy, earliest, feed_of, maps_of, marking_by, pids_of, streams_from}
 use Rattle.laws_pipe.specs.StreamedUnits.{AreAlike, AreLaterByOne, AreMarkedAlike, TheSameUnits, lone_found, timed_findings}
@@ -116,8 +113,8 @@ first_streams d ranges = record {
 
 -- The records of all bytes, without a fault
 record FedBy (w : JobOptionsView) (d : Described) (bytes output : List ℕ) : Type 0 where
-  silent : have_fault (fed_of (feed_of w d) bytes) ≡ false
-  output_is : output ≡ fed_records (fed_of (feed_of w d) bytes)
+  silent : have_fault (fed_of (feed_of w d) (packets_in bytes)) ≡ false
+  output_is : output ≡ fed_records (fed_of (feed_of w d) (packets_in bytes))
 
 not_one : (status : ℕ) → status ≡ 0 → status ≡ 1 → ⊥
 not_one status good one = omega (arith, good, one)
@@ -153,11 +150,11 @@ ended w d bytes output stream records faults known empty output_is e =
     let none : have_fault p.fed ≡ false = sym p.faulty_is ∙ quiet in
     let came : p.came ≡ bytes =
     all_came stream.before.bytes stream.after.bytes bytes p.came known p.passes.read (at_end (IsAtEnd stream.after.bytes) p.fed none p.ends) in
-    let all : p.fed ≡ fed_of (feed_of w d) p.came = clear_is_fed (feed_of w d) p.came p.fed p.fed_is none in
+    let all : p.fed ≡ fed_of (feed_of w d) (packets_in p.came) = clear_is_fed (feed_of w d) p.came p.fed p.fed_is none in
     record {
-      silent = ap (λ (b : List ℕ). have_fault (fed_of (feed_of w d) b)) (sym came) ∙ ap have_fault (sym all) ∙ none;
+      silent = ap (λ (b : List ℕ). have_fault (fed_of (feed_of w d) (packets_in b))) (sym came) ∙ ap have_fault (sym all) ∙ none;
       output_is = sym (taken records.before.bytes records.after.bytes (fed_records p.fed) output empty output_is p.passes.written)
-          ∙ ap fed_records all ∙ ap (λ (b : List ℕ). fed_records (fed_of (feed_of w d) b)) came;
+          ∙ ap fed_records all ∙ ap (λ (b : List ℕ). fed_records (fed_of (feed_of w d) (packets_in b))) came;
     }
 
 gone : (w : JobOptionsView) (d : Described) (bytes output : List ℕ) (stream records faults : Device) → stream.before.bytes ≡ Some bytes →
@@ -327,22 +324,16 @@ whole_streams a w d bytes input constants alike =
 
 -- 7. Both modes
 
-plain_packets : (bytes : List ℕ) → other_packets bytes ≡ None → in_step bytes ≡ carried bytes
-unfolding packets_in packet_bytes
-plain_packets bytes plain = ap (λ (o : Option OtherPackets). carried (packet_bytes o bytes)) plain
-
 alike_units : (a : JobArgumentsView) (w : JobOptionsView) (d : Described) (bytes : List ℕ) (input : JobInputView) (units : List (ℕ × AccessUnit)) →
     HasConstants a.options (findings_for a.options bytes) input →
-    IsInRange d → have_fault (fed_of (feed_of w d) bytes) ≡ false → AreMerged (map (λ t. t.units) input.streams) units → AreAlike a w d bytes input →
-    AreLaterByOne (length d.streams) (fed_of (feed_of w d) bytes) units
+    IsInRange d → have_fault (fed_of (feed_of w d) (packets_in bytes)) ≡ false → AreMerged (map (λ t. t.units) input.streams) units →
+    AreAlike a w d bytes input → AreLaterByOne (length d.streams) (fed_of (feed_of w d) (packets_in bytes)) units
 alike_units a w d bytes input units constants ranges silent merged alike =
     let whole = findings_for a.options bytes in
-    let plain = plain_packets bytes alike.plain in
-    let streamed = all_marked (marking_by w d) (findings_of (carried bytes)) in
+    let streamed = streamed_findings w d bytes in
     let base = constants.constant alike.clock in
-    let apart = fed_apart earliest base (marking_by w d) (maps_of d) (streams_from 0 d.streams) bytes (omega arith) (first_streams d ranges) silent
-    (subst (λ (r : List ℕ). AreWhole base earliest (streams_from 0 d.streams) (all_marked (marking_by w d) (findings_of r))) plain
-    (whole_streams a w d bytes input constants alike)) in
+    let apart = fed_apart earliest base (marking_by w d) (maps_of d) (streams_from 0 d.streams) (packets_in bytes) (omega arith) (first_streams d ranges) silent
+    (whole_streams a w d bytes input constants alike) in
     record {
       here = apart.here;
       there = apart.there;
@@ -354,8 +345,7 @@ alike_units a w d bytes input units constants ranges silent merged alike =
           fed_at 0 k d.streams b.described b.described_is ∙ ap (λ (n : ℕ). Some (fed_stream n b.described.pid)) number in
           let timed : t.units ≡ moved base None (apart_wire_units t.pid whole) = (by_one a w d bytes input k t constants alike b.timed_is).are in
           let wire : apart_wire_units t.pid whole ≡ apart_wire_units b.described.pid streamed =
-          same_wire a w d bytes input k t alike b.timed_is ∙ ap (λ (p : ℕ). apart_wire_units p (streamed_findings w d bytes)) (sym b.pid)
-          ∙ ap (λ (r : List ℕ). apart_wire_units b.described.pid (all_marked (marking_by w d) (findings_of r))) plain in
+          same_wire a w d bytes input k t alike b.timed_is ∙ ap (λ (p : ℕ). apart_wire_units p streamed) (sym b.pid) in
           let same : units_of k units ≡ moved base None (apart_wire_units b.described.pid streamed) =
           merged.each k t.units (slice_get-map (λ t. t.units) input.streams k ∙ ap (option_map (λ t. t.units)) b.timed_is)
           ∙ timed ∙ ap (λ (us : List AccessUnit). moved base None us) wire in
@@ -377,7 +367,7 @@ the_same_units words a v d bytes whole streamed one records job_reports status o
       units = units.units;
       merged = units.merged;
       whole_is = units.is;
-      fed = fed_of (feed_of v d) bytes;
+      fed = fed_of (feed_of v d) (packets_in bytes);
       streamed_is = fed.output_is;
       same = λ alike. alike_units a v d bytes given.input units.units constants ranges fed.silent units.merged alike;
     }

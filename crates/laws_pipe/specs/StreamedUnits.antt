@@ -1,5 +1,5 @@
 -- The output of `tsjob units --stream` for a stream while it comes, compared with the output of `tsjob units` for the whole stream.
-use Rattle.std.specs.Prelude.{◌≡◌, ◌≤◌, ◌<◌, ℕ, ◌+◌, ◌/◌, true, false, List, [], length, map, slice_get, None, Some, Ok, All}
+use Rattle.std.specs.Prelude.{◌≡◌, ◌≤◌, ◌<◌, ℕ, ◌+◌, ◌/◌, true, false, List, [], length, map, slice_get, Some, Ok, All}
 use Rattle.std.specs.List.{list_any}
 use Rattle.clap.specs.Words.{Text}
 use Rattle.pes_packet.specs.AccessUnits.{AccessUnit}
@@ -30,7 +30,6 @@ use Rattle.devices.specs.Runs.{Ends}
 use Rattle.job_run.specs.declared.job_arguments.Subcommand.TheVariants.{Units}
 use Rattle.job_run.specs.JobArguments.{JobArgumentsView}
 use Rattle.job_run.specs.Outcomes.{Leads}
-use Rattle.packet_sync.specs.OtherPackets.{other_packets}
 use Rattle.job_run.specs.Streams.{asked_findings, falling_by, findings_for, findings_of, in_step}
 use Rattle.tsjob_cli.specs.Arguments.{arguments_in}
 use Rattle.tsjob_cli.specs.StreamedUnits.{GoesBy, earliest, marking_by}
@@ -75,8 +74,6 @@ pub record AreAlike (a : JobArgumentsView) (w : JobOptionsView) (d : Described) 
   -- the DTS are the stream's own: none are made, neither asked for nor because they do not rise
   pub own : a.options.make_dts ≡ false
   pub keep : All (λ t. KeepDts t.pid (findings_for a.options bytes)) input.streams
-  -- its packets have 188 bytes
-  pub plain : other_packets bytes ≡ None
   -- no parts are joined
   pub unjoined : a.options.joined ≡ false
   -- the programs of the streams are on one clock
