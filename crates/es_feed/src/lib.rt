@@ -5,8 +5,9 @@
 //! earlier ones and change none of them, and that the fed units of each stream are the units that its PID carries, at
 //! their moments by one constant, in the order of their DTS (`specs/EachStream`, `specs/MovedApart`). A [`StreamFeed`]
 //! takes the bytes of a stream in pieces of any size, the packets in step (`specs/StreamFeeding`): at its end it has
-//! fed what the whole stream feeds, and at each moment a beginning of it. A `WatchedFeed` finds where packets are out
-//! of step, too (`specs/Watching`). `specs/FedLines` says which records the feed writes.
+//! fed what the whole stream feeds, and at each moment a beginning of it. A `WatchedFeed` takes packets of 192 and 204
+//! bytes, too (`specs/StreamPackets`), and finds where packets are out of step (`specs/Watching`). `specs/FedLines` says
+//! which records the feed writes.
 //!
 //! Records of units are written on an output in large pieces: [`write_job`] writes a job's texts and the records of units
 //! that are given (`specs/Records`); [`pass_stream`] reads a stream as it arrives, and writes all units that a read makes
