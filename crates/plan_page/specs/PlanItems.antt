@@ -1,7 +1,7 @@
 -- The items of a description, with the limits of their gaps.
 use Rattle.std.specs.Prelude.{ℕ, ◌*◌, List, [], ◌∷◌, ◌++◌, Option, Some, None, codes, slice_get}
 use Rattle.description_parts.specs.Described.{Described, DescribedProgram, DescribedStream, DescribedEntry}
-use Rattle.description_parts.specs.Tables.{round_packets, table_kind, table_kinds, table_limit, table_pid}
+use Rattle.description_parts.specs.Tables.{clock_of, round_packets, table_kind, table_kinds, table_limit, table_pid}
 use Rattle.description_parts.specs.declared.table_kind.TableKind.{TableKind}
 use Rattle.description_parts.specs.declared.table_kind.TableKind.TheVariants.{Pat, Pmt, Nit, Sdt, Eit, Tdt, Private}
 use Rattle.slot_plan.specs.Numbered.{numbered}
@@ -54,9 +54,10 @@ stream_item number s = record {
   limit_name = Lead;
 }
 
-abbrev pub pcr_item : ℕ → DescribedProgram → PlanItem
-pcr_item number p = record {
-  owner = Item (Pcr number);
+-- a program on another's clock has that program's slots
+abbrev pub pcr_item : Described → ℕ → DescribedProgram → PlanItem
+pcr_item d number p = record {
+  owner = Item (Pcr (clock_of d number));
   name = named.Pcr;
   program = p.number;
   pid = p.pcr_pid;
@@ -105,4 +106,4 @@ null_item = record { owner = Null; name = named.Carried carried.Null; program = 
 -- streams, clock references, tables, null packets
 abbrev pub plan_items : Described → List PlanItem
 plan_items d = numbered (λ i s. stream_item i s ∷ []) 0 d.streams
-    ++ (numbered (λ i p. pcr_item i p ∷ []) 0 d.programs ++ (numbered (λ t _. table_item d t ∷ []) 0 (table_kinds d) ++ null_item ∷ []))
+    ++ (numbered (λ i p. pcr_item d i p ∷ []) 0 d.programs ++ (numbered (λ t _. table_item d t ∷ []) 0 (table_kinds d) ++ null_item ∷ []))

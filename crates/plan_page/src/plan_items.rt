@@ -6,6 +6,7 @@ ghost use Rattle.plan_page.specs.PlanItems as spec;
 use crate::owners::Owner;
 use crate::table_items::push_tables;
 use events::PidName;
+use plan_checker::clock_item;
 use slot_plan::{Description, Item, ProgramDescription, StreamDescription};
 use std::alloc::{AllocError, Global};
 use stream_coding::coding_of;
@@ -88,13 +89,13 @@ fn stream_item(number: usize, stream: &StreamDescription) -> PlanItem
     }
 }
 
-// The clock references of a program (ISO/IEC 13818-1, 2.7.2).
-fn pcr_item(number: usize, program: &ProgramDescription) -> PlanItem
-    requires { number < 256 }
-    ensures { result ≡ spec.pcr_item number program.now }
+// The clock references of a program (ISO/IEC 13818-1, 2.7.2), in slots of the program that has its clock.
+fn pcr_item(description: &Description, number: usize, program: &ProgramDescription) -> PlanItem
+    requires { number < length description.now.programs }
+    ensures { result ≡ spec.pcr_item description.now number program.now }
 {
     PlanItem {
-        owner: Owner::Item(Item::Pcr(number as u8)),
+        owner: Owner::Item(clock_item(description, number)),
         name: ItemName::Pcr,
         program: program.number(),
         pid: program.pcr_pid(),
@@ -130,16 +131,12 @@ fn push_streams(items: &mut Vec<PlanItem>, streams: &[StreamDescription]) -> Res
     Ok(())
 }
 
-fn push_programs(
-    items: &mut Vec<PlanItem>,
-    programs: &[ProgramDescription],
-) -> Result<(), AllocError>
-    requires few { length programs.now ≤ 256 }
-    ensures { OnOk result (items.new.items
-        ≡ items.old.items ++ numbered (λ i p. spec.pcr_item i p ∷ []) 0 programs.now) }
+fn push_programs(items: &mut Vec<PlanItem>, description: &Description) -> Result<(), AllocError>
+    ensures { OnOk result (items.new.items ≡ items.old.items
+        ++ numbered (λ i p. spec.pcr_item description.now i p ∷ []) 0 description.now.programs) }
 {
-    for (number, program) in programs.iter().enumerate() {
-        items.push(pcr_item(number, program))?;
+    for (number, program) in description.programs().iter().enumerate() {
+        items.push(pcr_item(description, number, program))?;
     }
     Ok(())
 }
@@ -155,7 +152,7 @@ pub(crate) fn plan_items(
     description.keeps_ranges();
     let mut items = Vec::new(alloc);
     push_streams(&mut items, description.streams())?;
-    push_programs(&mut items, description.programs())?;
+    push_programs(&mut items, description)?;
     push_tables(&mut items, description)?;
     items.push(null_item())?;
     Ok(items)
