@@ -165,35 +165,35 @@ pub no_curves : (es : List PidCurve) → es ≡ [] → AreCurves es []
 unfolding AreCurves
 no_curves es e = subst (λ (x : List PidCurve). AreCurves x []) (sym e) tt
 
-pub full : (es : List PidCurve) (ks : List KeptCurve) (pid : ℕ) → 32 ≤ length es → AreCurves es ks → nat_le 32 (length es) ≡ is_closed pid ks
+pub full : (es : List PidCurve) (ks : List KeptCurve) (pid : ℕ) → 256 ≤ length es → AreCurves es ks → nat_le 256 (length es) ≡ is_closed pid ks
 full es ks pid many a =
-    let here : nat_le 32 (length es) ≡ true = tested 32 (length es) many in
-    let there : nat_le 32 (length ks) ≡ true = tested 32 (length ks) (omega (arith, many, same_length es ks a)) in
+    let here : nat_le 256 (length es) ≡ true = tested 256 (length es) many in
+    let there : nat_le 256 (length ks) ≡ true = tested 256 (length ks) (omega (arith, many, same_length es ks a)) in
     rw (here, there) refl
   where
     tested : (a b : ℕ) → a ≤ b → nat_le a b ≡ true
     tested a b le = grind (arith, nat_tests)
 
-pub not_full : (es : List PidCurve) (ks : List KeptCurve) (pid : ℕ) (has : Bool) → length es < 32 → has ≡ has_pid pid ks → AreCurves es ks →
+pub not_full : (es : List PidCurve) (ks : List KeptCurve) (pid : ℕ) (has : Bool) → length es < 256 → has ≡ has_pid pid ks → AreCurves es ks →
     has ≡ is_closed pid ks
 not_full es ks pid has few is a =
-    let there : nat_le 32 (length ks) ≡ false = tested 32 (length ks) (omega (arith, few, same_length es ks a)) in
+    let there : nat_le 256 (length ks) ≡ false = tested 256 (length ks) (omega (arith, few, same_length es ks a)) in
     rw there is
   where
     tested : (a b : ℕ) → b < a → nat_le a b ≡ false
     tested a b lt = grind (arith, nat_tests)
 
-pub stays : (es : List PidCurve) (ks : List KeptCurve) (pid limit : ℕ) (name : PidName) (t : Bool) → t ≡ (nat_le 32 (length ks) || has_pid pid ks) → t ≡ true →
+pub stays : (es : List PidCurve) (ks : List KeptCurve) (pid limit : ℕ) (name : PidName) (t : Bool) → t ≡ (nat_le 256 (length ks) || has_pid pid ks) → t ≡ true →
     AreCurves es ks →
     AreCurves es (opened pid name limit ks)
 stays es ks pid limit name t is holds a =
-    let here : (nat_le 32 (length ks) || has_pid pid ks) ≡ true = sym is ∙ holds in
+    let here : (nat_le 256 (length ks) || has_pid pid ks) ≡ true = sym is ∙ holds in
     rw here a
 
-pub opens : (es : List PidCurve) (ks : List KeptCurve) (e : PidCurve) (t : Bool) → t ≡ (nat_le 32 (length ks) || has_pid e.pid ks) → t ≡ false →
+pub opens : (es : List PidCurve) (ks : List KeptCurve) (e : PidCurve) (t : Bool) → t ≡ (nat_le 256 (length ks) || has_pid e.pid ks) → t ≡ false →
     IsCurve e.curve [] → AreCurves es ks →
     AreCurves (es ++ e ∷ []) (opened e.pid e.name e.limit ks)
 opens es ks e t is fails curve a =
-    let here : (nat_le 32 (length ks) || has_pid e.pid ks) ≡ false = sym is ∙ fails in
+    let here : (nat_le 256 (length ks) || has_pid e.pid ks) ≡ false = sym is ∙ fails in
     rw here (one_more es ks e (record { pid = e.pid; name = e.name; limit = e.limit; samples = [] }) a
     (record { pid = refl; name = refl; limit = refl; curve = curve }))

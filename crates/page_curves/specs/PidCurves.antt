@@ -33,9 +33,9 @@ unfoldable pub kept_name : ℕ → List KeptCurve → Option PidName
 kept_name pid [] = None
 kept_name pid (kept ∷ more) = if kept.pid == pid then Some kept.name else kept_name pid more
 
--- a curve more, unless the PID has one or there are 32
+-- a curve more, unless the PID has one or there are 256
 abbrev pub is_closed : ℕ → List KeptCurve → Bool
-is_closed pid kept = nat_le 32 (length kept) || has_pid pid kept
+is_closed pid kept = nat_le 256 (length kept) || has_pid pid kept
 
 abbrev pub opened : ℕ → PidName → ℕ → List KeptCurve → List KeptCurve
 opened pid name limit kept =

@@ -9,7 +9,7 @@ use events::PidName;
 use std::alloc::{AllocError, Global};
 
 /// The greatest number of curves: later PIDs have no curve.
-pub const MOST_CURVES: usize = 32;
+pub const MOST_CURVES: usize = 256;
 
 /// The curve of a PID, what the PID carries, and the limit of the values, 0 for none.
 #[derive(Drop)]

@@ -4,7 +4,7 @@
 //!
 //! `values` keeps the curves of PIDs, `services` the curves of programs. `summary_text` writes the head of the page,
 //! `tree` the PIDs of each program, `fault_tables` the tables of faults; `page_heads` has the constant texts. Memory
-//! does not grow with the stream: curves of 512 slots, for 32 PIDs each, the rows of `view_rows`, and the programs of
+//! does not grow with the stream: curves of 512 slots, for 256 PIDs each, the rows of `view_rows`, and the programs of
 //! PIDs with the names of their services.
 #![tactic(auto)]
 

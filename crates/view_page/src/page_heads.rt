@@ -43,10 +43,10 @@ const STRIPS: &str =
 const TREE: &str = "<h2 id=programs>Programs and PIDs</h2><ul class=tree>\n";
 
 const SERVICES: &str =
-    "<h2 id=services>Bit rate by service</h2><p class=\"soft\">Packets of 188 bytes, by window: each program on those after it; the first 32 programs.</p>\n";
+    "<h2 id=services>Bit rate by service</h2><p class=\"soft\">Packets of 188 bytes, by window: each program on those after it; the first 256 programs.</p>\n";
 
 const RATES: &str =
-    "<h2 id=rates>Bit rate by PID</h2><p class=\"soft\">Packets of 188 bytes, by window; the first 32 PIDs.</p>\n";
+    "<h2 id=rates>Bit rate by PID</h2><p class=\"soft\">Packets of 188 bytes, by window; the first 256 PIDs.</p>\n";
 
 const SLACKS: &str =
     "</details><h2 id=slacks>Time from a unit's last byte to its DTS</h2><p class=\"soft\">The least of the units that ended in a window.</p>\n";
