@@ -44,7 +44,7 @@ fn is_finer(description: &Description) -> bool
 
 /// Returns whether the own slots of stream number `i` continue over the switch, in a description of such streams.
 pub fn continues<A: Allocator>(plans: &PlanPair<'_, A>, i: usize) -> bool
-    requires { i < 32 }
+    requires { i < 256 }
     ensures { result ≡ continues plans.now.description.now plans.now.first.now plans.now.second.now i }
 {
     let item = Item::Stream(i as u8);

@@ -27,7 +27,7 @@ fn framed_across<A: Allocator>(
     left: u8,
 ) -> u128
     requires stream { i < length plans.now.description.now.streams }
-    requires index { i < 32 }
+    requires index { i < 256 }
     requires ranges { IsStream stream.now }
     ensures { result ≡ framed_across plans.now.description.now.rate (declaration stream.now)
         framing (stream_share plans.now.first.now i)
@@ -51,7 +51,7 @@ pub fn frame_switches<A: Allocator>(
     search: &mut FailureSearch,
 )
     requires stream { i < length plans.now.description.now.streams }
-    requires index { i < 32 }
+    requires index { i < 256 }
     requires ranges { IsStream stream.now }
     ensures { search_of search.new ≡ after (search_of search.old) (frame_switch_entries
         plans.now.description.now plans.now.first.now plans.now.second.now i stream.now stream.now.framing) }
@@ -71,7 +71,7 @@ fn framed_switches<A: Allocator>(
     search: &mut FailureSearch,
 )
     requires stream { i < length plans.now.description.now.streams }
-    requires index { i < 32 }
+    requires index { i < 256 }
     requires ranges { IsStream stream.now }
     ensures { search_of search.new ≡ after (search_of search.old) (entries_from (frame_switch_entry
         plans.now.description.now plans.now.first.now plans.now.second.now i stream.now framing) 1
@@ -94,7 +94,7 @@ fn frame_switch<A: Allocator>(
     search: &mut FailureSearch,
 )
     requires stream { i < length plans.now.description.now.streams }
-    requires index { i < 32 }
+    requires index { i < 256 }
     requires ranges { IsStream stream.now }
     ensures { search_of search.new ≡ after (search_of search.old) (frame_switch_entry
         plans.now.description.now plans.now.first.now plans.now.second.now i stream.now framing gone ∷ []) }

@@ -53,7 +53,7 @@ fn lead_switch<A: Allocator>(
     search: &mut FailureSearch,
 )
     requires stream { i < length plans.now.description.now.streams }
-    requires index { i < 32 }
+    requires index { i < 256 }
     requires ranges { IsStream stream.now }
     ensures { search_of search.new ≡ after (search_of search.old) (if_changed
         plans.now.description.now plans.now.first.now plans.now.second.now i
@@ -105,7 +105,7 @@ fn changed_elementary<A: Allocator>(
     search: &mut FailureSearch,
 )
     requires stream { i < length plans.now.description.now.streams }
-    requires index { i < 32 }
+    requires index { i < 256 }
     requires ranges { IsStream stream.now }
     ensures { search_of search.new ≡ after (search_of search.old) (if_changed
         plans.now.description.now plans.now.first.now plans.now.second.now i
@@ -127,7 +127,7 @@ fn elementary_switch<A: Allocator>(
     search: &mut FailureSearch,
 )
     requires stream { i < length plans.now.description.now.streams }
-    requires index { i < 32 }
+    requires index { i < 256 }
     requires ranges { IsStream stream.now }
     ensures { search_of search.new ≡ after (search_of search.old) (elementary_switch_entries
         plans.now.description.now plans.now.first.now plans.now.second.now i stream.now stream.now.multiplexing) }
@@ -212,7 +212,7 @@ fn row_switches(
     requires rate { rate ≤ 100000000 }
     requires drain { drain ≤ 200000000 }
     requires stream { IsStream stream.now }
-    requires index { i < 32 }
+    requires index { i < 256 }
     requires in_range { AreSharesInRange shares }
     requires spread { shares.first.spread < 2 ^ 33 }
     requires next_spread { shares.second.spread < 2 ^ 33 }
@@ -249,7 +249,7 @@ fn deadline(
     requires rate { rate ≤ 100000000 }
     requires drain { drain ≤ 200000000 }
     requires stream { IsStream stream.now }
-    requires index { i < 32 }
+    requires index { i < 256 }
     requires in_range { AreSharesInRange shares }
     requires spread { shares.first.spread < 2 ^ 33 }
     requires next_spread { shares.second.spread < 2 ^ 33 }

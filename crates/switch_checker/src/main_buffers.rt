@@ -27,7 +27,7 @@ pub fn bytes_across<A: Allocator>(
     lead: u64,
 ) -> u128
     requires stream { i < length plans.now.description.now.streams }
-    requires index { i < 32 }
+    requires index { i < 256 }
     requires ranges { IsStream stream.now }
     requires positive { 0 < lead }
     requires lead { lead ≤ 90000 }
@@ -70,7 +70,7 @@ fn changed_mains<A: Allocator>(
     search: &mut FailureSearch,
 )
     requires stream { i < length plans.now.description.now.streams }
-    requires index { i < 32 }
+    requires index { i < 256 }
     requires ranges { IsStream stream.now }
     ensures { search_of search.new ≡ after (search_of search.old) (if_changed
         plans.now.description.now plans.now.first.now plans.now.second.now i
@@ -92,7 +92,7 @@ fn main_switches<A: Allocator>(
     search: &mut FailureSearch,
 )
     requires stream { i < length plans.now.description.now.streams }
-    requires index { i < 32 }
+    requires index { i < 256 }
     requires ranges { IsStream stream.now }
     ensures { search_of search.new ≡ after (search_of search.old) (
         main_switch_entry plans.now.description.now plans.now.first.now plans.now.second.now i stream.now
@@ -111,7 +111,7 @@ fn main_switch<A: Allocator>(
     search: &mut FailureSearch,
 )
     requires stream { i < length plans.now.description.now.streams }
-    requires index { i < 32 }
+    requires index { i < 256 }
     requires ranges { IsStream stream.now }
     ensures { search_of search.new ≡ after (search_of search.old)
         (main_switch_entry plans.now.description.now plans.now.first.now plans.now.second.now i stream.now ∷ []) }

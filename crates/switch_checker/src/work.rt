@@ -35,7 +35,7 @@ fn work_switch(
     search: &mut FailureSearch,
 )
     requires short { length slots.now ≤ 65536 }
-    requires number { number < 100 }
+    requires number { number < 1000 }
     requires rate { rate ≤ 100000000 }
     requires drain { drain ≤ 200000000 }
     requires start { start < 10 ^ 18 }
@@ -69,7 +69,7 @@ fn emptied_switch(
 )
     requires short { length slots.now ≤ 65536 }
     requires next_short { length next_slots.now ≤ 65536 }
-    requires number { number < 100 }
+    requires number { number < 1000 }
     requires rate { rate ≤ 100000000 }
     requires drain { drain ≤ 200000000 }
     requires start { start < 10 ^ 18 }
@@ -116,7 +116,7 @@ fn stream_works<A: Allocator>(
     search: &mut FailureSearch,
 )
     requires stream { i < length plans.now.description.now.streams }
-    requires index { i < 32 }
+    requires index { i < 256 }
     requires ranges { IsStream stream.now }
     ensures { search_of search.new ≡ after (search_of search.old) (stream_work_entries
         plans.now.description.now plans.now.first.now plans.now.second.now i stream.now) }
@@ -133,7 +133,7 @@ fn stream_work<A: Allocator>(
     search: &mut FailureSearch,
 )
     requires stream { i < length plans.now.description.now.streams }
-    requires index { i < 32 }
+    requires index { i < 256 }
     requires ranges { IsStream stream.now }
     ensures { search_of search.new ≡ after (search_of search.old) (stream_work_entry
         plans.now.description.now plans.now.first.now plans.now.second.now i stream.now ∷ []) }
@@ -158,7 +158,7 @@ fn stream_emptied<A: Allocator>(
     search: &mut FailureSearch,
 )
     requires stream { i < length plans.now.description.now.streams }
-    requires index { i < 32 }
+    requires index { i < 256 }
     requires ranges { IsStream stream.now }
     ensures { search_of search.new ≡ after (search_of search.old) (stream_emptied_switch_entries
         plans.now.description.now plans.now.first.now plans.now.second.now i stream.now stream.now.multiplexing) }
@@ -265,7 +265,7 @@ fn multiplexing_work<A: Allocator>(
     search: &mut FailureSearch,
 )
     requires stream { i < length plans.now.description.now.streams }
-    requires index { i < 32 }
+    requires index { i < 256 }
     requires ranges { IsStream stream.now }
     ensures { search_of search.new ≡ after (search_of search.old) (multiplexing_work_entries
         plans.now.description.now plans.now.first.now plans.now.second.now i stream.now.multiplexing) }
@@ -286,7 +286,7 @@ fn leaking_work<A: Allocator>(
     search: &mut FailureSearch,
 )
     requires stream { i < length plans.now.description.now.streams }
-    requires index { i < 32 }
+    requires index { i < 256 }
     requires ranges { IsStream stream.now }
     requires buffer { stream.now.multiplexing ≡ Some buffer }
     ensures { search_of search.new ≡ after (search_of search.old) (multiplexing_work_entries
