@@ -14,30 +14,13 @@ if [ $# -lt 5 ]; then
     ffmpeg -nostdin -loglevel error -y -f lavfi -i "testsrc2=size=320x240:rate=25" -f lavfi -i "sine=frequency=440:sample_rate=48000" -t "$seconds" \
         -c:v libx264 -b:v 600k -maxrate $maxrate -bufsize $bufsize -g 25 -c:a mp2 -b:a $audiorate -f mpegts "$stream"
 fi
-"$tsjob" describe --whole --declare time < "$stream" > "$work/description"
-# Our own stream is declared by what holds its coders, whatever comes. Of the pictures: in any time no more than the buffer and the greatest rate in that
-# time, in packets of 184 bytes of payload, with one more packet and a header for each picture; a picture has at most the whole buffer. Of the sound: a frame
-# of layer II has 1,152 samples, 24 ms, and at a constant rate as many bytes each; ffmpeg puts as many into a PES packet as 2,930 bytes hold. So each unit has
-# the same bytes, and comes the same time after the one before it.
-if [ $# -lt 5 ]; then
-    frame=$((audiorate * 1152 / 48000 / 8))
-    frames=$((2930 / frame))
-    packets=$(((19 + frames * frame + 183) / 184))
-    distance=$((frames * 1152 * 90000 / 48000))
-    awk -v RS= -v ORS='\n\n' -v burst=$((bufsize / 8 / 184 + 3)) -v pace=$((maxrate * 188 / 184 + 25 * 188 * 8 * 10 / 9)) -v size=$((bufsize / 8)) \
-        -v audio_burst=$packets -v audio_pace=$(((packets * 135360000 + distance - 1) / distance)) -v audio_size=$((frames * frame)) -v distance=$distance '
-        function put(key, value) { sub("\n" key " = [^\n]*", "\n" key " = " value) }
-        /^\[\[stream\]\]/ && /\ntype = 27( |$)/ { put("burst_packets", burst); put("pace", pace); put("size", size) }
-        /^\[\[stream\]\]/ && /\ntype = [34]( |$)/ { put("burst_packets", audio_burst); put("pace", audio_pace); put("size", audio_size); put("interval", distance) }
-        { print }' "$work/description" > "$work/declared"
-    mv "$work/declared" "$work/description"
-fi
+"$tsjob" describe --whole --declare time < "$stream" > "$work/sampled"
+# Our own stream is declared by the limits of its encoders, and the rate is the first with a plan.
+limits=
+[ $# -ge 5 ] || limits="256:$maxrate:$bufsize 257:$audiorate"
+"$here/declare-encoder" --tsmux "$tsmux" $limits < "$work/sampled" > "$work/description"
+"$tsmux" plan < "$work/description" > "$work/plan"
 rate=$(awk '/^rate/ { print $3 }' "$work/description")
-until "$tsmux" plan < "$work/description" > "$work/plan" 2> "$work/no-plan"; do
-    rate=$((rate + rate / 64))
-    sed -i "s/^rate = .*/rate = $rate/" "$work/description"
-    [ "$rate" -lt 100000000 ]
-done
 
 # One datagram after the other, as they come; a receiver has one of its own socket for each run.
 rm -f "$work/came.ts"
