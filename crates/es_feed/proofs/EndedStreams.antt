@@ -46,7 +46,7 @@ stream_ends first pids input o0 o1 o2 f0 f1 f2 early late faulty s l m ends unre
   ends = still_ends (IsAtEnd input.after.bytes) m.fed last ends;
   unrefused = unrefused;
   unfailed = m.unfailed;
-  faulty_is = all_faulty early late faulty m.fed last m.faulty_is out.3 is;
+  faulty_is = all_faulty pids l early late faulty m.fed last m.lines_are m.faulty_is out.3 is;
 }
 
 pub end_fails : (first : FeedView) (pids : List ℕ) (input : Device) (o0 o1 o2 f0 f1 f2 : Port) (early : Bool) (s : WatchedView) (l : LinesView)

@@ -17,12 +17,12 @@ use Rattle.demux.specs.FoundSoFar.{taken_all}
 use Rattle.fed_streams.specs.Feeding.{Fed, FeedView}
 use Rattle.es_feed.specs.StreamFeeding.{IsFedBy, at_first, is_packet}
 use Rattle.es_feed.specs.Watching.{AreSlips, HoldsFew, IsWatchedBy, IsWatchedOf, WatchedView, first_place, watched_first}
-use Rattle.es_feed.proofs.ReportedLines.{any_append, flat_append, lines_append, or_true, state_append}
+use Rattle.es_feed.proofs.ReportedLines.{any_append, flat_append, have_append, lines_append, or_true, state_append}
 use Rattle.es_feed.proofs.StreamPackets.{none_given}
 use Rattle.es_feed.proofs.WatchedStreams.{no_rounds}
 use Rattle.fed_streams.specs.Ticks.{after_packets, fed_packets}
-use Rattle.es_feed.specs.FedLines.{fed_record, fed_records, has_fault, have_fault, have_refusal, is_refusal}
-use Rattle.es_feed.specs.StreamLines.{LinesView, after_lines, fed_lines, first_lines, lines_from}
+use Rattle.es_feed.specs.FedLines.{fed_record, fed_records, have_refusal, is_refusal}
+use Rattle.es_feed.specs.StreamLines.{LinesView, after_lines, fed_lines, first_lines, have_line, lines_from}
 use Rattle.es_feed.specs.Passing.{FailsToPass, FeedsPiece, FeedsSome, GoesOut, IsFedSoFar, IsUnrefused, Midway, Passes}
 use Rattle.es_feed.specs.Passing.{PassesPieces, longest_piece}
 
@@ -55,7 +55,7 @@ pub record MidwayLong (first : FeedView) (pids : List ℕ) (input output faults 
 
 pub none_came : (first : FeedView) (pids : List ℕ) (input output faults : Port) →
     MidwayLong first pids (between input input) (between output output) (between faults faults) false (watched_first first) (first_lines pids) 0
-unfolding lines_from after_lines
+unfolding lines_from after_lines have_line
 none_came first pids input output faults = record {
   midway = record {
     came = [];
@@ -101,9 +101,11 @@ all_lines_are : (pids : List ℕ) (l next : LinesView) (old new : List Fed) → 
 all_lines_are pids l next old new is more =
     more ∙ ap (λ (k : LinesView). after_lines k new) is ∙ sym (state_append (first_lines pids) old new)
 
-pub all_faulty : (early late faulty : Bool) (old new : List Fed) → early ≡ have_fault old → late ≡ have_fault new → faulty ≡ (early || late) →
-    faulty ≡ have_fault (old ++ new)
-all_faulty early late faulty old new a b e = e ∙ ap (λ (x : Bool). x || late) a ∙ ap (λ (x : Bool). have_fault old || x) b ∙ sym (any_append has_fault old new)
+pub all_faulty : (pids : List ℕ) (l : LinesView) (early late faulty : Bool) (old new : List Fed) → l ≡ after_lines (first_lines pids) old →
+    early ≡ have_line (first_lines pids) old → late ≡ have_line l new → faulty ≡ (early || late) → faulty ≡ have_line (first_lines pids) (old ++ new)
+all_faulty pids l early late faulty old new is a b e =
+    e ∙ ap (λ (x : Bool). x || late) a ∙ ap (λ (x : Bool). have_line (first_lines pids) old || x) (b ∙ ap (λ (k : LinesView). have_line k new) is)
+    ∙ sym (have_append (first_lines pids) old new)
 
 -- The input of a stream so far extends to the place where the last read ended.
 with_input : (first : FeedView) (pids piece : List ℕ) (i0 i1 i2 : Port) (output faults : Device) (faulty : Bool) (s : WatchedView) (l : LinesView)
@@ -333,7 +335,7 @@ more_came first pids i0 i1 i2 o0 o1 o2 f0 f1 f2 early late faulty s t l k new m 
     reports_all = all_lines_reported pids l f0 f1 f2 m.fed new m.lines_are m.passes.reports_all out.2;
   };
   unfailed = p.clean ∙ m.unfailed;
-  faulty_is = all_faulty early late faulty m.fed new m.faulty_is out.3 is;
+  faulty_is = all_faulty pids l early late faulty m.fed new m.lines_are m.faulty_is out.3 is;
   lines_are = all_lines_are pids l k m.fed new m.lines_are next;
 }
 

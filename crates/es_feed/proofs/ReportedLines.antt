@@ -1,5 +1,5 @@
 -- The lines that are written about the items that are fed
-use Rattle.std.proofs.Common.{◌≡◌, ◌≢◌, ◌<◌, ◌≤◌, ◌+◌, ◌==◌, ℕ, Bool, true, false, List, [], ◌∷◌, ◌++◌, length, drop, get_or, Result, Ok, Err, refl, sym}
+use Rattle.std.proofs.Common.{◌≡◌, ◌≢◌, ◌<◌, ◌≤◌, ◌+◌, ◌==◌, ℕ, Bool, true, false, List, [], ◌∷◌, ◌++◌, length, drop, get_or, Option, Some, None, Result, Ok, Err, refl, sym}
 use Rattle.std.proofs.Common.{ap, ◌∙◌, subst, if◌then◌else◌, ne_eqb}
 use Rattle.std.specs.Prelude.{◌||◌}
 use Rattle.std.specs.List.{flat_map, list_any}
@@ -10,9 +10,12 @@ use Rattle.devices.proofs.ReportedTexts.{reported_all, reported_more, reported_n
 use Rattle.pes_packet.specs.AccessUnits.{AccessUnit}
 use Rattle.fed_streams.specs.declared.feed_fault.FeedFault.{FeedFault}
 use Rattle.fed_streams.specs.Feeding.{Fed}
-use Rattle.es_feed.specs.FedLines.{fault_line, has_fault, have_fault, pid_at}
-use Rattle.es_feed.specs.StreamLines.{LinesView, after_lines, after_one, fall_lines, fault_lines, fell_at, is_short_fall, lines_from, lines_of}
+use Rattle.es_feed.specs.FedLines.{fault_line, pid_at}
+use Rattle.es_feed.specs.EachStream.{has_fault, have_fault}
+use Rattle.es_feed.specs.StreamLines.{LinesView, after_lines, after_one, change_at, change_line, change_lines, fall_lines}
+use Rattle.es_feed.specs.StreamLines.{fault_lines, fell_at, has_line, have_line, is_short_fall, lines_from, lines_of}
 use Rattle.es_feed.specs.StreamLines.{unordered_line}
+use Rattle.es_feed.specs.declared.stops.StopChange.{StopChange}
 
 -- 1. One item after another
 
@@ -93,20 +96,27 @@ fault_other before after fell pid fault e r =
 
 -- 3. The lines of a record
 
-pub reported_none_of : (pids : List ℕ) (fell : ℕ) (port : Port) (one : Fed) (u : AccessUnit) → one.1 ≡ Ok u → ReportsAll port port (lines_of pids fell one)
-unfolding lines_of
-reported_none_of pids fell port one u is =
-    subst (λ (x : Result AccessUnit FeedFault). ReportsAll port port (lines_of pids fell (one.0, x))) (sym is) (reported_none port)
+pub no_change : (pids : List ℕ) (n : ℕ) (port : Port) (change : Option StopChange) → change ≡ None → ReportsAll port port (change_lines pids n change)
+unfolding change_lines
+no_change pids n port change is = subst (λ (x : Option StopChange). ReportsAll port port (change_lines pids n x)) (sym is) (reported_none port)
 
-pub reported_one_of : (pids : List ℕ) (fell n : ℕ) (before after : Port) (one : Fed) (fault : FeedFault) (pid : ℕ) → one.1 ≡ Err fault → n ≡ fell →
-    pid ≡ pid_at pids one.0 →
-    ReportsAll before after (fault_lines n pid fault) →
-    ReportsAll before after (lines_of pids fell one)
+pub one_change : (pids : List ℕ) (n : ℕ) (before after : Port) (change : Option StopChange) (c : StopChange) → change ≡ Some c →
+    Reports (between before after) (change_line pids n c) → ReportsAll before after (change_lines pids n change)
+unfolding change_lines
+one_change pids n before after change c is r =
+    subst (λ (x : Option StopChange). ReportsAll before after (change_lines pids n x)) (sym is) (reported_one before after (change_line pids n c) r)
+
+pub unit_lines : (s : LinesView) (before after : Port) (one : Fed) (u : AccessUnit) → one.1 ≡ Ok u →
+    ReportsAll before after (change_lines s.pids one.0 (change_at s one.0 u.dts)) → ReportsAll before after (lines_of s one)
 unfolding lines_of
-reported_one_of pids fell n before after one fault pid is same at r =
-    subst (λ (x : Result AccessUnit FeedFault). ReportsAll before after (lines_of pids fell (one.0, x))) (sym is)
-    (subst (λ (m : ℕ). ReportsAll before after (fault_lines m (pid_at pids one.0) fault)) same
-    (subst (λ (p : ℕ). ReportsAll before after (fault_lines n p fault)) at r))
+unit_lines s before after one u is r =
+    subst (λ (x : Result AccessUnit FeedFault). ReportsAll before after (lines_of s (one.0, x))) (sym is) r
+
+pub fault_has : (s : LinesView) (before after : Port) (one : Fed) (fault : FeedFault) → one.1 ≡ Err fault →
+    ReportsAll before after (fault_lines (fell_at s one.0) (pid_at s.pids one.0) fault) → ReportsAll before after (lines_of s one)
+unfolding lines_of
+fault_has s before after one fault is r =
+    subst (λ (x : Result AccessUnit FeedFault). ReportsAll before after (lines_of s (one.0, x))) (sym is) r
 
 -- 4. Records one after another
 
@@ -116,21 +126,23 @@ pub record ReportsFront (first : LinesView) (old now : Port) (s : LinesView) (fo
   pub reports_all : ReportsAll old now texts
   pub left : texts ++ lines_from s (drop i fed) ≡ lines_from first fed
   pub state : after_lines s (drop i fed) ≡ after_lines first fed
-  pub faulty : (found || have_fault (drop i fed)) ≡ have_fault fed
+  pub faulty : (found || have_line s (drop i fed)) ≡ have_line first fed
 
 pub front_none : (first : LinesView) (port : Port) (fed : List Fed) → ReportsFront first port port first false fed 0
 front_none first port fed = record { texts = []; reports_all = reported_none port; left = refl; state = refl; faulty = refl }
 
-any_step : (fed : List Fed) (i : ℕ) (one : Fed) → i < length fed → one ≡ get_or fed i one →
-    have_fault (drop i fed) ≡ (has_fault one || have_fault (drop (i + 1) fed))
-any_step fed i one s e = at_drop_more have_fault fed i one s ∙ ap (λ (x : Fed). has_fault x || have_fault (drop (i + 1) fed)) (sym e)
+any_step : (s : LinesView) (fed : List Fed) (i : ℕ) (one : Fed) → i < length fed → one ≡ get_or fed i one →
+    have_line s (drop i fed) ≡ (has_line s one || have_line (after_one s one) (drop (i + 1) fed))
+unfolding have_line
+any_step s fed i one h e =
+    at_drop_more (have_line s) fed i one h ∙ ap (λ (x : Fed). has_line s x || have_line (after_one s x) (drop (i + 1) fed)) (sym e)
 
 lines_step : (s : LinesView) (fed : List Fed) (i : ℕ) (one : Fed) → i < length fed → one ≡ get_or fed i one →
-    lines_from s (drop i fed) ≡ lines_of s.pids (fell_at s one.0) one ++ lines_from (after_one s one) (drop (i + 1) fed)
+    lines_from s (drop i fed) ≡ lines_of s one ++ lines_from (after_one s one) (drop (i + 1) fed)
 unfolding lines_from
 lines_step s fed i one h e =
     at_drop_more (lines_from s) fed i one h
-    ∙ ap (λ (x : Fed). lines_of s.pids (fell_at s x.0) x ++ lines_from (after_one s x) (drop (i + 1) fed)) (sym e)
+    ∙ ap (λ (x : Fed). lines_of s x ++ lines_from (after_one s x) (drop (i + 1) fed)) (sym e)
 
 state_step : (s : LinesView) (fed : List Fed) (i : ℕ) (one : Fed) → i < length fed → one ≡ get_or fed i one →
     after_lines s (drop i fed) ≡ after_lines (after_one s one) (drop (i + 1) fed)
@@ -140,23 +152,23 @@ state_step s fed i one h e =
 
 front_next : (first : LinesView) (old mid new : Port) (s : LinesView) (found reported all : Bool) (fed : List Fed) (i : ℕ) (one : Fed) → i < length fed →
     one ≡ get_or fed i one →
-    ReportsFront first old mid s found fed i → ReportsAll mid new (lines_of s.pids (fell_at s one.0) one) → reported ≡ has_fault one →
+    ReportsFront first old mid s found fed i → ReportsAll mid new (lines_of s one) → reported ≡ has_line s one →
     all ≡ (found || reported) →
     ReportsFront first old new (after_one s one) all fed (i + 1)
 front_next first old mid new s found reported all fed i one h e so t is o = record {
-  texts = so.texts ++ lines_of s.pids (fell_at s one.0) one;
-  reports_all = reported_all old mid new so.texts (lines_of s.pids (fell_at s one.0) one) so.reports_all t;
-  left = append_assoc so.texts (lines_of s.pids (fell_at s one.0) one) (lines_from (after_one s one) (drop (i + 1) fed))
+  texts = so.texts ++ lines_of s one;
+  reports_all = reported_all old mid new so.texts (lines_of s one) so.reports_all t;
+  left = append_assoc so.texts (lines_of s one) (lines_from (after_one s one) (drop (i + 1) fed))
       ∙ ap (λ (x : List (List ℕ)). so.texts ++ x) (sym (lines_step s fed i one h e)) ∙ so.left;
   state = sym (state_step s fed i one h e) ∙ so.state;
-  faulty = ap (λ (x : Bool). x || have_fault (drop (i + 1) fed)) (o ∙ ap (λ (x : Bool). found || x) is)
-      ∙ sym (or_assoc found (has_fault one) (have_fault (drop (i + 1) fed)))
-      ∙ ap (λ (x : Bool). found || x) (sym (any_step fed i one h e)) ∙ so.faulty;
+  faulty = ap (λ (x : Bool). x || have_line (after_one s one) (drop (i + 1) fed)) (o ∙ ap (λ (x : Bool). found || x) is)
+      ∙ sym (or_assoc found (has_line s one) (have_line (after_one s one) (drop (i + 1) fed)))
+      ∙ ap (λ (x : Bool). found || x) (sym (any_step s fed i one h e)) ∙ so.faulty;
 }
 
 pub front_more : (first : LinesView) (old mid new : Port) (s t : LinesView) (found reported all : Bool) (fed : List Fed) (i : ℕ) (one : Fed) → i < length fed →
     one ≡ get_or fed i one →
-    ReportsFront first old mid s found fed i → ReportsAll mid new (lines_of s.pids (fell_at s one.0) one) → reported ≡ has_fault one →
+    ReportsFront first old mid s found fed i → ReportsAll mid new (lines_of s one) → reported ≡ has_line s one →
     all ≡ (found || reported) → t ≡ after_one s one →
     ReportsFront first old new t all fed (i + 1)
 front_more first old mid new s t found reported all fed i one h e so r is o next =
@@ -167,16 +179,16 @@ front_more first old mid new s t found reported all fed i one h e so r is o next
 pub record ReportsWhole (first : LinesView) (old now : Port) (s : LinesView) (found : Bool) (fed : List Fed) : Type 0 where
   pub reports_all : ReportsAll old now (lines_from first fed)
   pub state : s ≡ after_lines first fed
-  pub found_is : found ≡ have_fault fed
+  pub found_is : found ≡ have_line first fed
 
 pub front_whole : (first : LinesView) (old now : Port) (s : LinesView) (found : Bool) (fed : List Fed) (i : ℕ) → length fed ≤ i →
     ReportsFront first old now s found fed i → ReportsWhole first old now s found fed
-unfolding lines_from after_lines
+unfolding lines_from after_lines have_line
 front_whole first old now s found fed i h so = record {
   reports_all = subst (λ (x : List (List ℕ)). ReportsAll old now x)
       (sym (append-nil so.texts) ∙ ap (λ (x : List Fed). so.texts ++ lines_from s x) (sym (drop_all i fed h)) ∙ so.left) so.reports_all;
   state = ap (λ (x : List Fed). after_lines s x) (sym (drop_all i fed h)) ∙ so.state;
-  found_is = sym (or_false found) ∙ ap (λ (x : List Fed). found || have_fault x) (sym (drop_all i fed h)) ∙ so.faulty;
+  found_is = sym (or_false found) ∙ ap (λ (x : List Fed). found || have_line s x) (sym (drop_all i fed h)) ∙ so.faulty;
 }
 
 -- 5. The lines of records after earlier ones
@@ -185,10 +197,34 @@ pub lines_append : (s : LinesView) (old new : List Fed) → lines_from s (old ++
 unfolding lines_from after_lines
 lines_append s [] new = refl
 lines_append s (f ∷ fs) new =
-    ap (λ (x : List (List ℕ)). lines_of s.pids (fell_at s f.0) f ++ x) (lines_append (after_one s f) fs new)
-    ∙ sym (append_assoc (lines_of s.pids (fell_at s f.0) f) (lines_from (after_one s f) fs) (lines_from (after_lines (after_one s f) fs) new))
+    ap (λ (x : List (List ℕ)). lines_of s f ++ x) (lines_append (after_one s f) fs new)
+    ∙ sym (append_assoc (lines_of s f) (lines_from (after_one s f) fs) (lines_from (after_lines (after_one s f) fs) new))
 
 pub state_append : (s : LinesView) (old new : List Fed) → after_lines s (old ++ new) ≡ after_lines (after_lines s old) new
 unfolding after_lines
 state_append s [] new = refl
 state_append s (f ∷ fs) new = state_append (after_one s f) fs new
+
+pub have_append : (s : LinesView) (old new : List Fed) → have_line s (old ++ new) ≡ (have_line s old || have_line (after_lines s old) new)
+unfolding have_line after_lines
+have_append s [] new = refl
+have_append s (f ∷ fs) new =
+    ap (λ (b : Bool). has_line s f || b) (have_append (after_one s f) fs new)
+    ∙ or_assoc (has_line s f) (have_line (after_one s f) fs) (have_line (after_lines (after_one s f) fs) new)
+
+-- A stream without lines feeds units alone.
+neither_of : (a b : Bool) → (a || b) ≡ false → (a ≡ false) × (b ≡ false)
+neither_of false b e = (refl, e)
+neither_of true b e = absurd cc
+
+no_fault : (s : LinesView) (one : Fed) → has_line s one ≡ false → has_fault one ≡ false
+unfolding has_line has_fault
+no_fault s (n, Ok u) e = refl
+no_fault s (n, Err fault) e = absurd cc
+
+pub no_faults : (s : LinesView) (fed : List Fed) → have_line s fed ≡ false → have_fault fed ≡ false
+unfolding have_line
+no_faults s [] e = refl
+no_faults s (f ∷ fs) e =
+    let two = neither_of (has_line s f) (have_line (after_one s f) fs) e in
+    ap (λ (b : Bool). b || have_fault fs) (no_fault s f two.0) ∙ no_faults (after_one s f) fs two.1

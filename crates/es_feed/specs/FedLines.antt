@@ -5,7 +5,6 @@ use Rattle.std.specs.List.{flat_map, list_any}
 use Rattle.unit_records.specs.Records.{record_bytes}
 use Rattle.es_moments.specs.declared.stamps.StampFault.{StampFault}
 use Rattle.es_moments.specs.declared.stamps.StampFault.TheVariants.{DtsNotIncreasing, PtsOutOfRange, DtsTooFar}
-pub use Rattle.es_feed.specs.EachStream.{has_fault, have_fault}
 use Rattle.fed_streams.specs.Feeding.{Fed}
 use Rattle.fed_streams.specs.declared.feed_fault.FeedFault.{FeedFault}
 use Rattle.fed_streams.specs.declared.feed_fault.ClockJump.{ClockJump}
@@ -121,14 +120,6 @@ is_other (Packet fault) = false
 is_other (Restarted restart) = false
 is_other (Silent dts) = false
 is_other (Slipped bytes) = false
-
--- the line of a fault; none for a unit at its moment
-unfoldable pub lines_of : List ℕ → Fed → List (List ℕ)
-lines_of pids (n, Ok u) = []
-lines_of pids (n, Err fault) = fault_line (pid_at pids n) fault ∷ []
-
-abbrev pub fed_lines : List ℕ → List Fed → List (List ℕ)
-fed_lines pids fed = flat_map (lines_of pids) fed
 
 -- the description is of another stream: then nothing more is read
 unfoldable pub is_refusal : Fed → Bool

@@ -7,5 +7,6 @@ pub mod Watching
 pub mod FedLines
 pub mod DamagedReferences
 pub mod Records
+pub mod Stops
 pub mod StreamLines
 pub mod Passing

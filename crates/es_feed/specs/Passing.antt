@@ -1,6 +1,6 @@
 -- A stream, read as it comes, and what goes out of it: the records of its units and of ticks before the next read, and a line for each
--- unit that has no moment, each loss of packets, whatever else cuts units, each new map, each jump of the clock, and bytes in no packet;
--- a stream whose DTS do not rise has one line (`StreamLines`).
+-- unit that has no moment, each loss of packets, whatever else cuts units, each new map, each jump of the clock, bytes in no packet, and each
+-- stream that stops; a stream whose DTS do not rise has one line (`StreamLines`).
 use Rattle.std.specs.Prelude.{◌≡◌, ◌⊎◌, ◌<◌, ◌≤◌, ◌-◌, ◌^◌, ℕ, Bool, true, false, if◌then◌else◌, List, [], ◌++◌, length, take, Result, Ok, Err}
 use Rattle.std.specs.Io.KnownBytes.{Consumes, IsAtEnd, Keeps}
 use Rattle.counted_io.specs.Device.{CountsOne}
@@ -11,8 +11,8 @@ use Rattle.devices.specs.declared.halt.Halt.{Halt}
 use Rattle.devices.specs.declared.halt.Halt.TheVariants.{Read, Write, Memory}
 use Rattle.fed_streams.specs.Feeding.{Fed, FeedView}
 use Rattle.es_feed.specs.Watching.{HoldsFew, IsWatchedBy, IsWatchedOf, WatchedView}
-use Rattle.es_feed.specs.FedLines.{fed_records, have_fault, have_refusal}
-use Rattle.es_feed.specs.StreamLines.{LinesView, after_lines, fed_lines, first_lines, lines_from}
+use Rattle.es_feed.specs.FedLines.{fed_records, have_refusal}
+use Rattle.es_feed.specs.StreamLines.{LinesView, after_lines, fed_lines, first_lines, have_line, lines_from}
 
 -- 1. The records of a stream while it comes
 
@@ -56,7 +56,7 @@ pub record PassesAll (first : FeedView) (pids : List ℕ) (input output faults :
   pub ends : IsAtEnd input.after.bytes ⊎ (have_refusal fed ≡ true)
   pub unrefused : IsUnrefused first came
   pub unfailed : IsClean input
-  pub faulty_is : faulty ≡ have_fault fed
+  pub faulty_is : faulty ≡ have_line (first_lines pids) fed
 
 -- no more is taken: a call of the reader failed, or the stream is longer than any; or there is no memory for these bytes that
 -- were read
@@ -120,7 +120,7 @@ FeedsPiece old input new fed (Err Memory) =
 -- the fed records go out, and then a line for everything else; or the writer fails within the records
 abbrev pub GoesOut : LinesView → List Fed → Device → Device → Result Bool Halt → Type 0
 GoesOut lines fed output faults (Ok faulty) =
-    Takes output (fed_records fed) × IsClean output × ReportsAll faults.before faults.after (lines_from lines fed) × (faulty ≡ have_fault fed)
+    Takes output (fed_records fed) × IsClean output × ReportsAll faults.before faults.after (lines_from lines fed) × (faulty ≡ have_line lines fed)
 GoesOut lines fed output faults (Err Read) = ⊥
 GoesOut lines fed output faults (Err Write) = Stopped (fed_records fed) output × HasFailed output × IsUntouched faults
 GoesOut lines fed output faults (Err Memory) = ⊥
@@ -133,7 +133,7 @@ pub record Midway (first : FeedView) (pids : List ℕ) (input output faults : De
   pub held : HoldsFew state
   pub passes : Passes pids came fed input output faults
   pub unfailed : IsClean input
-  pub faulty_is : faulty ≡ have_fault fed
+  pub faulty_is : faulty ≡ have_line (first_lines pids) fed
   pub lines_are : lines ≡ after_lines (first_lines pids) fed
 
 abbrev pub PassesPieces : FeedView → List ℕ → Device → Device → Device → Result Bool Halt → WatchedView → LinesView → Type 0

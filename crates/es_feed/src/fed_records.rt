@@ -1,7 +1,7 @@
 //! What a stream feeds: records on an output, and lines for units that have no moment, lost packets, what else cuts
 //! units, new maps and a clock that jumps.
 
-ghost use Rattle.std.specs.Prelude.{◌≡◌, ◌≤◌, ◌++◌, length};
+ghost use Rattle.std.specs.Prelude.{◌≡◌, ◌≤◌, ◌++◌, is_some, length};
 ghost use Rattle.devices.specs.Devices.{writes};
 ghost use Rattle.devices.specs.Lines.{Reports, ReportsAll, WritesLine};
 ghost use Rattle.es_feed.specs.FedLines as spec;
@@ -10,7 +10,10 @@ ghost use Rattle.es_feed.specs.StreamLines as stated;
 
 use crate::pending::PendingBytes;
 use crate::records::{flush, put_record};
-use crate::stream_lines::{StreamLines, UNORDERED, is_short_fall, report_unordered};
+use crate::stops::StopChange;
+use crate::stream_lines::{
+    StreamLines, UNORDERED, is_short_fall, report_resumed, report_stopped, report_unordered,
+};
 use counted_io::Sink;
 use devices::{Halt, report_line};
 use es_moments::StampFault;
@@ -262,29 +265,102 @@ fn report_by<E: Sink>(faults: &mut E, fell: u8, pid: u16, fault: FeedFault)
     report_fault(faults, pid, fault);
 }
 
-// Writes the line of a report, if it has one, and returns whether it is a report and no unit.
-#[tactic(auto, unfolding(crate::specs::StreamLines::lines_of, crate::specs::EachStream::has_fault))]
-fn report_one<E: Sink>(
+// Writes the line of what a unit of the stream of a number shows.
+#[tactic(auto, unfolding(crate::specs::StreamLines::change_line))]
+fn report_shown<E: Sink>(faults: &mut E, lines: &StreamLines<'_>, number: u8, change: StopChange)
+    ensures { Reports (writes E.Sink faults.old faults.new) (stated.change_line lines.now.pids number change) }
+{
+    match change {
+        StopChange::Stops(k) => report_stopped(faults, lines.pid_at(k)),
+        StopChange::Resumes(long) => report_resumed(faults, lines.pid_at(number as usize), long),
+    }
+}
+
+// Writes the line of what a unit of the stream of a number shows, and returns whether it shows something.
+fn report_change<E: Sink>(
     faults: &mut E,
     lines: &StreamLines<'_>,
+    number: u8,
+    change: Option<StopChange>,
+) -> bool
+    ensures reports_all { ReportsAll (writes E.Sink faults.old faults.new).before
+        (writes E.Sink faults.old faults.new).after
+        (stated.change_lines lines.now.pids number change) }
+    ensures found { result ≡ is_some change }
+{
+    match change {
+        None => false,
+        Some(shown) => {
+            report_shown(faults, lines, number, shown);
+            true
+        }
+    }
+}
+
+// Takes a unit of the stream of a number, and writes the line of what it shows. Returns whether there is one.
+fn report_unit<E: Sink>(
+    faults: &mut E,
+    lines: &mut StreamLines<'_>,
+    number: u8,
+    unit: &Unit,
+) -> bool
+    ensures reports_all { ReportsAll (writes E.Sink faults.old faults.new).before
+        (writes E.Sink faults.old faults.new).after
+        (stated.change_lines lines.old.pids number (stated.change_at lines.old number unit.now.dts)) }
+    ensures lines { lines.new ≡ stated.after_unit_of lines.old number unit.now.dts }
+    ensures found { result ≡ is_some (stated.change_at lines.old number unit.now.dts) }
+{
+    let change = lines.take_unit(number, unit.dts);
+    report_change(faults, lines, number, change)
+}
+
+// Takes a report on the stream of a number, and writes its line, if it has one.
+fn report_and_take<E: Sink>(
+    faults: &mut E,
+    lines: &mut StreamLines<'_>,
+    number: u8,
+    fault: FeedFault,
+)
+    ensures reports_all { ReportsAll (writes E.Sink faults.old faults.new).before
+        (writes E.Sink faults.old faults.new).after
+        (stated.fault_lines (stated.fell_at lines.old number) (spec.pid_at lines.old.pids number) fault) }
+    ensures lines { lines.new ≡ stated.after_fault lines.old number fault }
+{
+    report_by(
+        faults,
+        lines.fell_at(number),
+        lines.pid_at(number as usize),
+        fault,
+    );
+    lines.take_fault(number, fault);
+}
+
+// Takes a record, and writes its line, if it has one. Returns whether it has one; of units that fall in a stream whose DTS
+// do not rise, whether there was one.
+#[tactic(auto, unfolding(crate::specs::StreamLines::lines_of, crate::specs::StreamLines::has_line, crate::specs::StreamLines::after_one))]
+fn report_one<E: Sink>(
+    faults: &mut E,
+    lines: &mut StreamLines<'_>,
     fed: &(u8, Result<Unit, FeedFault>),
 ) -> bool
     ensures reports_all { ReportsAll (writes E.Sink faults.old faults.new).before
         (writes E.Sink faults.old faults.new).after
-        (stated.lines_of lines.now.pids (stated.fell_at lines.now fed.now.0) fed.now) }
-    ensures found { result ≡ spec.has_fault fed.now }
+        (stated.lines_of lines.old fed.now) }
+    ensures lines { lines.new ≡ stated.after_one lines.old fed.now }
+    ensures found { result ≡ stated.has_line lines.old fed.now }
 {
     match &fed.1 {
-        Ok(_) => false,
+        Ok(unit) => report_unit(faults, lines, fed.0, unit),
         Err(fault) => {
-            report_by(faults, lines.fell_at(fed.0), lines.pid_at(fed.0), *fault);
+            report_and_take(faults, lines, fed.0, *fault);
             true
         }
     }
 }
 
 /// Reports each unit that has no moment, each loss of packets, whatever else cuts units, each new map and each jump of
-/// the clock; of units that fall in a stream whose DTS do not rise, the stream. Returns whether there is one.
+/// the clock; of units that fall in a stream whose DTS do not rise, the stream; each stream that stops or has units again.
+/// Returns whether there is one.
 pub(crate) fn report_faults<E: Sink>(
     faults: &mut E,
     lines: &mut StreamLines<'_>,
@@ -294,12 +370,11 @@ pub(crate) fn report_faults<E: Sink>(
         (writes E.Sink faults.old faults.new).after
         (stated.lines_from lines.old fed.now) }
     ensures lines { lines.new ≡ stated.after_lines lines.old fed.now }
-    ensures found { result ≡ spec.have_fault fed.now }
+    ensures found { result ≡ stated.have_line lines.old fed.now }
 {
     let mut found = false;
     for one in fed {
         let reported = report_one(faults, lines, one);
-        lines.take(one);
         if reported {
             found = true;
         }

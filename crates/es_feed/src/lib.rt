@@ -24,6 +24,7 @@ mod passing;
 mod pending;
 mod records;
 mod slip_watch;
+mod stops;
 mod stream_feed;
 mod stream_lines;
 mod stream_packets;

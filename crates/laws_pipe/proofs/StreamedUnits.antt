@@ -24,6 +24,8 @@ use Rattle.es_feed.proofs.MovedApart.{fed_apart}
 use Rattle.es_feed.specs.MovedApart.{AreWhole, after_time}
 use Rattle.es_feed.specs.FedLines.{fed_records, have_refusal}
 use Rattle.es_feed.specs.Passing.{EndsStream}
+use Rattle.es_feed.specs.StreamLines.{first_lines}
+use Rattle.es_feed.proofs.ReportedLines.{no_faults}
 use Rattle.es_feed.proofs.WatchedStreams.{clear_is_fed, refusal_reported}
 use Rattle.es_moments.specs.Merging.{AreMerged}
 use Rattle.es_units.specs.Marking.{MarkingView, all_marked}
@@ -147,7 +149,7 @@ ended : (w : JobOptionsView) (d : Described) (bytes output : List ℕ) (stream r
 ended w d bytes output stream records faults known empty output_is e =
     let p = e.passes in
     let quiet : e.faulty ≡ false = not_faulty e.faulty 0 refl e.status_is in
-    let none : have_fault p.fed ≡ false = sym p.faulty_is ∙ quiet in
+    let none : have_fault p.fed ≡ false = no_faults (first_lines (pids_of d)) p.fed (sym p.faulty_is ∙ quiet) in
     let came : p.came ≡ bytes =
     all_came stream.before.bytes stream.after.bytes bytes p.came known p.passes.read (at_end (IsAtEnd stream.after.bytes) p.fed none p.ends) in
     let all : p.fed ≡ fed_of (feed_of w d) (packets_in p.came) = clear_is_fed (feed_of w d) p.came p.fed p.fed_is none in

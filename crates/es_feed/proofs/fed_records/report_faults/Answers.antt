@@ -17,9 +17,9 @@ loop-one-preserved g c =
       | then-reported w ↦ joined_true c.loop-one.found c.report_one-reported.result c.if-reported.found w.if-reported.true w.found-is
       | else-reported w ↦ joined_false c.loop-one.found c.report_one-reported.result c.if-reported.found w.if-reported.false w.found-is
     ] in
-    front_more c.args.lines.now old mid new c.loop-one.lines c.take.new.self c.loop-one.found c.report_one-reported.result c.if-reported.found
+    front_more c.args.lines.now old mid new c.loop-one.lines c.report_one-reported.new.lines c.loop-one.found c.report_one-reported.result c.if-reported.found
     c.args.fed.now c.loop-one.one-index c.one-item.result c.loop-one-test.true c.one-item.is c.loop-one.invariant
-    c.report_one-reported.ensures.reports_all c.report_one-reported.ensures.found all c.take.ensures
+    c.report_one-reported.ensures.reports_all c.report_one-reported.ensures.found all c.report_one-reported.ensures.lines
 
 pub returns-clause-reports_all : goal.returns-clause-reports_all
 returns-clause-reports_all g c =

@@ -1,16 +1,15 @@
 use Rattle.devices.specs.Devices.{Port}
-use Rattle.es_feed.specs.StreamLines.{fell_at}
-use Rattle.es_feed.proofs.ReportedLines.{reported_none_of, reported_one_of}
+use Rattle.es_feed.proofs.ReportedLines.{fault_has, unit_lines}
 use Rattle.es_feed.proofs.fed_records.report_one.Goals as goal
 
 pub returns-in-Ok-clause-reports_all : goal.returns-in-Ok-clause-reports_all
 returns-in-Ok-clause-reports_all g c =
-    reported_none_of c.args.lines.now.pids (fell_at c.args.lines.now c.args.fed.now.0)
-    (record { bytes = g.E.Write.contents c.args.faults.now; failed = g.E.Sink.fault_count c.args.faults.now }) c.args.fed.now c.in-Ok.field-0 c.in-Ok.is
+    let before : Port = record { bytes = g.E.Write.contents c.args.faults.now; failed = g.E.Sink.fault_count c.args.faults.now } in
+    let after : Port = record { bytes = g.E.Write.contents c.report_unit.new.faults; failed = g.E.Sink.fault_count c.report_unit.new.faults } in
+    unit_lines c.args.lines.now before after c.args.fed.now c.in-Ok.unit c.in-Ok.is c.report_unit.ensures.reports_all
 
 pub returns-in-Err-clause-reports_all : goal.returns-in-Err-clause-reports_all
 returns-in-Err-clause-reports_all g c =
     let before : Port = record { bytes = g.E.Write.contents c.args.faults.now; failed = g.E.Sink.fault_count c.args.faults.now } in
-    let after : Port = record { bytes = g.E.Write.contents c.report_by.new.faults; failed = g.E.Sink.fault_count c.report_by.new.faults } in
-    reported_one_of c.args.lines.now.pids (fell_at c.args.lines.now c.args.fed.now.0) c.fell_at.result before after c.args.fed.now c.in-Err.fault
-    c.pid_at.result c.in-Err.is c.fell_at.ensures c.pid_at.ensures c.report_by.ensures
+    let after : Port = record { bytes = g.E.Write.contents c.report_and_take.new.faults; failed = g.E.Sink.fault_count c.report_and_take.new.faults } in
+    fault_has c.args.lines.now before after c.args.fed.now c.in-Err.fault c.in-Err.is c.report_and_take.ensures.reports_all
