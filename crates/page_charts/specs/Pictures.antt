@@ -1,4 +1,4 @@
--- A picture of the bytes in a buffer near its greatest excess: its name, the scale, the packets, the size of the buffer, and the numbers as a table.
+-- A folded picture of the bytes in a buffer near its greatest excess: its name, the scale, the packets, the size of the buffer, and the numbers as a table.
 use Rattle.std.specs.Prelude.{ℕ, List, ◌++◌, codes, decimal}
 use Rattle.events.specs.declared.rule_event.TracePoint.{TracePoint}
 use Rattle.events.specs.BufferKinds.{word_of}
@@ -7,13 +7,13 @@ use Rattle.page_curves.specs.PidLabels.{LabelsState, label_text}
 use Rattle.page_charts.specs.Points.{drawn, height_of}
 
 unfoldable pub title_head : ℕ → List ℕ → List ℕ
-title_head pid word = codes "<p id=trace-" ++ (decimal pid ++ (codes "-" ++ (word ++ (codes ">PID " ++ (decimal pid ++ codes " ")))))
+title_head pid word = codes "<details id=trace-" ++ (decimal pid ++ (codes "-" ++ (word ++ (codes "><summary>PID " ++ (decimal pid ++ codes " ")))))
 
 unfoldable pub title_word : List ℕ → List ℕ
 title_word word = codes ", " ++ (word ++ codes " buffer: at most ")
 
 unfoldable pub title_size : ℕ → List ℕ
-title_size size = grouped (drawn size) ++ codes " bytes</p>\n"
+title_size size = grouped (drawn size) ++ codes " bytes</summary>\n"
 
 unfoldable pub title_bytes : TracePoint → List ℕ
 title_bytes p = grouped (drawn p.peak) ++ (codes " of " ++ title_size p.size)
@@ -58,7 +58,7 @@ drawing p line marks = picture_head p.pid (word_of p.buffer) ++ (levels p ++ (ma
 unfoldable pub numbers : List ℕ → List ℕ
 numbers rows =
     codes "<details><summary>Numbers</summary><div class=\"wide tall\"><table><tr><th scope=col>packet<th scope=col>left the transport buffer, ticks<th scope=col>least<th scope=col>most<th scope=col>unit\n"
-    ++ (rows ++ codes "</table></div></details>\n")
+    ++ (rows ++ codes "</table></div></details></details>\n")
 
 unfoldable pub picture : LabelsState → TracePoint → List ℕ → List ℕ → List ℕ → List ℕ
 picture labels p line marks rows = title labels p ++ (drawing p line marks ++ numbers rows)

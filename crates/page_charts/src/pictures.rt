@@ -12,7 +12,7 @@ use std::fmt::Write;
 fn write_title_head(text: &mut String, pid: u16, word: &str) -> Result<(), AllocError>
     ensures { OnOk result (string_bytes text.new ≡ string_bytes text.old ++ spec.title_head pid word.now) }
 {
-    write!(text, "<p id=trace-{pid}-{word}>PID {pid} ")
+    write!(text, "<details id=trace-{pid}-{word}><summary>PID {pid} ")
 }
 
 #[tactic(auto, unfolding(crate::specs::Pictures::title_word))]
@@ -28,7 +28,7 @@ fn write_title_size(text: &mut String, size: u64) -> Result<(), AllocError>
     ensures { OnOk result (string_bytes text.new ≡ string_bytes text.old ++ spec.title_size size) }
 {
     write_grouped(text, drawn(u128::from(size)))?;
-    text.push_str(" bytes</p>\n")
+    text.push_str(" bytes</summary>\n")
 }
 
 // Appends the most bytes that the buffer held, and its size.
@@ -154,7 +154,7 @@ fn write_drawing(
     write_curve(text, point, line)
 }
 
-// Appends the numbers as a table.
+// Appends the numbers as a table, at the end of the picture's fold.
 #[tactic(auto, unfolding(crate::specs::Pictures::numbers))]
 fn write_numbers(text: &mut String, rows: &str) -> Result<(), AllocError>
     ensures { OnOk result (string_bytes text.new ≡ string_bytes text.old ++ spec.numbers rows.now) }
@@ -163,7 +163,7 @@ fn write_numbers(text: &mut String, rows: &str) -> Result<(), AllocError>
         "<details><summary>Numbers</summary><div class=\"wide tall\"><table><tr><th scope=col>packet<th scope=col>left the transport buffer, ticks<th scope=col>least<th scope=col>most<th scope=col>unit\n",
     )?;
     text.push_str(rows)?;
-    text.push_str("</table></div></details>\n")
+    text.push_str("</table></div></details></details>\n")
 }
 
 /// Appends a picture of the buffer of a point, by the line, the marks, and the rows of its packets.
