@@ -4,6 +4,7 @@ use Rattle.events.specs.declared.event.Event.{Event}
 use Rattle.events.specs.declared.event.Event.TheVariants.{Input, Stream, Late, ElementaryLate, Unclocked, Continuity}
 use Rattle.events.specs.declared.event.Event.TheVariants.{Buffer, Marks, System, Clock, Table, Pid, Unreferenced, Missing, Check, Summary}
 use Rattle.events.specs.declared.timed_event.TimedEvent.{TimedEvent}
+use Rattle.events.specs.declared.check_counts.CheckTotals.{CheckTotals}
 use Rattle.events.specs.declared.event.StreamBegin.{StreamBegin}
 use Rattle.events.specs.declared.input_event.InputEvent.{InputEvent}
 use Rattle.events.specs.declared.input_event.InputEvent.TheVariants as inputs
@@ -21,7 +22,7 @@ use Rattle.view_rows.specs.RowCells.{reference_cells, stream_cells, system_cells
 use Rattle.view_rows.specs.InputCells.{empty_cells, no_stream_cells, no_stamps_cells, other_rate_cells, packet_size_cells, rest_cells, slip_cells}
 use Rattle.page_curves.specs.PidLabels.{LabelsState}
 use Rattle.view_rows.specs.MarkCells.{mark_cells}
-use Rattle.view_rows.specs.SummaryCells.{fault_cells, sentence_text, time_cells, totals_cells}
+use Rattle.view_rows.specs.SummaryCells.{failure_if, fault_cells, sentence_text, time_cells, totals_cells}
 use Rattle.view_rows.specs.FaultRows.{buffer_of, fault_buffer}
 use Rattle.view_rows.specs.RowTexts.{RowTexts}
 
@@ -72,6 +73,10 @@ totals_row labels e = begun_row labels (totals_cells e)
 abbrev pub with_totals : LabelsState → RowTexts → FaultTotals → RowTexts
 with_totals labels r e = record r { kinds = r.kinds ++ record { buffer = buffer_of e.kind e.source; cells = totals_row labels e } ∷ [] }
 
+-- a check has a row, and a sentence before the verdict if it has failed
+abbrev pub with_check : LabelsState → RowTexts → CheckTotals → RowTexts
+with_check labels r e = record r { verdict = r.verdict ++ failure_if e; checks = r.checks ++ row labels (check_cells e) }
+
 abbrev pub with_sentence : RowTexts → Verdict → RowTexts
 with_sentence r verdict = record r { verdict = r.verdict ++ sentence_text verdict }
 
@@ -114,7 +119,7 @@ with_kind labels fault r (Table e) = record r { tables = r.tables ++ row labels 
 with_kind labels fault r (Pid e) = record r { pids = r.pids ++ row labels (pid_cells e) }
 with_kind labels fault r (Unreferenced e) = record r { apart = r.apart ++ row labels (reference_cells kinds.Unreferenced e) }
 with_kind labels fault r (Missing e) = record r { apart = r.apart ++ row labels (reference_cells kinds.Missing e) }
-with_kind labels fault r (Check e) = record r { checks = r.checks ++ row labels (check_cells e) }
+with_kind labels fault r (Check e) = with_check labels r e
 with_kind labels fault r (Summary e) = with_summary labels r e
 with_kind labels fault r event = with_fault_event labels fault r event
 

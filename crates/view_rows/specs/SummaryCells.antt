@@ -1,5 +1,7 @@
 -- The cells of faults by kind and stream, of a fault of a rule, and the sentences of the verdict.
-use Rattle.std.specs.Prelude.{ℕ, List, [], ◌∷◌, ◌++◌, codes, Option, Some, None}
+use Rattle.std.specs.Prelude.{ℕ, ◌==◌, ◌&&◌, not, is_none, Bool, if◌then◌else◌, List, [], ◌∷◌, ◌++◌, codes, decimal, Option, Some, None}
+use Rattle.events.specs.Checks.{name_of, number_of}
+use Rattle.events.specs.declared.check_counts.CheckTotals.{CheckTotals}
 use Rattle.events.specs.declared.fault.Fault.{Fault}
 use Rattle.events.specs.declared.fault.Measured.{Measured}
 use Rattle.events.specs.declared.fault_kind.FaultKind.{FaultKind}
@@ -86,3 +88,15 @@ sentence_head (Checks e) = codes "<p>"
 
 abbrev pub sentence_text : Verdict → List ℕ
 sentence_text verdict = sentence_head verdict ++ (sentence verdict ++ codes ".</p>\n")
+
+-- a sentence on each check that was made and has failed
+abbrev pub has_failed : CheckTotals → Bool
+has_failed e = is_none e.no_verdict && not (e.count.faults == 0)
+
+abbrev pub failure_text : List ℕ → List ℕ → ℕ → List ℕ
+failure_text number name faults =
+    codes "<p class=\"bad\">&#9650; check "
+    ++ (number ++ (codes " " ++ (name ++ (codes ": faults " ++ (decimal faults ++ codes ".</p>\n")))))
+
+abbrev pub failure_if : CheckTotals → List ℕ
+failure_if e = if has_failed e then failure_text (number_of e.check) (name_of e.check) e.count.faults else []

@@ -13,10 +13,12 @@ use crate::row_cells::{
     buffer_cells, check_cells, clock_cells, continuity_cells, elementary_late_cells, late_cells,
     pid_cells, reference_cells, stream_cells, system_cells, table_cells, unclocked_cells,
 };
-use crate::summary_cells::{fault_cells, time_cells, totals_cells, write_sentence};
+use crate::summary_cells::{
+    fault_cells, time_cells, totals_cells, write_failure_if, write_sentence,
+};
 use events::{
-    Event, Fault, FaultKind, FaultTotals, InputEvent, StreamBegin, SummaryEvent, TimedEvent,
-    Verdict,
+    CheckTotals, Event, Fault, FaultKind, FaultTotals, InputEvent, StreamBegin, SummaryEvent,
+    TimedEvent, Verdict,
 };
 use page_curves::PidLabels;
 use std::alloc::{AllocError, Global};
@@ -41,7 +43,7 @@ impl Model for StreamRow {
     ghost view = { λ r. record { pid = r.pid; cells = string_bytes r.cells } };
 }
 
-/// The sentences of the verdict, the rows of each table, and the number of faults; 100 faults have rows.
+/// The sentences of failed checks and of the verdict, the rows of each table, and the number of faults; 100 faults have rows.
 #[derive(Drop)]
 pub struct Rows {
     alloc: Global,
@@ -166,6 +168,14 @@ impl Rows {
         Ok(())
     }
 
+    // Takes a check: a row, and a sentence before the verdict if it has failed.
+    fn take_check(&mut self, labels: &PidLabels, e: &CheckTotals) -> Result<(), AllocError>
+        ensures { OnOk result (self.new ≡ spec.with_check labels.now self.old e.now) }
+    {
+        write_failure_if(&mut self.verdict, e)?;
+        write_row(&mut self.checks, labels, &check_cells(e))
+    }
+
     // Takes a sentence of the verdict.
     fn take_sentence(&mut self, verdict: &Verdict) -> Result<(), AllocError>
         ensures { OnOk result (self.new ≡ spec.with_sentence self.old verdict.now) }
@@ -273,7 +283,7 @@ impl Rows {
                     &reference_cells(FaultKind::Missing, *pid),
                 )
             }
-            Event::Check(e) => write_row(&mut self.checks, labels, &check_cells(e)),
+            Event::Check(e) => self.take_check(labels, e),
             Event::Summary(e) => self.take_summary(labels, e),
             _ => self.take_faults(labels, fault, event),
         }

@@ -4,8 +4,9 @@ ghost use Rattle.view_rows.specs.SummaryCells as spec;
 
 use crate::cells::{Cell, CellUnit, CellWord, short};
 use event_lines::write_verdict_text;
-use events::{Fault, FaultKind, FaultTotals, Measured, Verdict};
+use events::{CheckTotals, Fault, FaultKind, FaultTotals, Measured, Verdict};
 use std::alloc::AllocError;
+use std::fmt::Write;
 
 const KINDS: &str =
     "</table></div><h2 id=kinds>Faults by kind and stream</h2><div class=\"wide\"><table aria-labelledby=kinds><tr><th class=word scope=col>what<th scope=col>where<th scope=col>faults<th scope=col>first packet<th scope=col>last packet<th scope=col>from, ms<th scope=col>to, ms<th scope=col>worst<th scope=col>limit<th class=word scope=col>unit\n";
@@ -162,4 +163,32 @@ pub(crate) fn write_sentence(text: &mut String, verdict: &Verdict) -> Result<(),
     text.push_str(sentence_head(verdict))?;
     write_verdict_text(text, verdict)?;
     text.push_str(".</p>\n")
+}
+
+// Returns whether a check was made and has failed.
+fn has_failed(e: &CheckTotals) -> bool
+    ensures { result ≡ spec.has_failed e.now }
+{
+    e.no_verdict.is_none() && e.count.faults != 0
+}
+
+fn write_failure(text: &mut String, number: &str, name: &str, faults: u64) -> Result<(), AllocError>
+    ensures { OnOk result (string_bytes text.new
+        ≡ string_bytes text.old ++ spec.failure_text number.now name.now faults) }
+{
+    write!(
+        text,
+        "<p class=\"bad\">&#9650; check {number} {name}: faults {faults}.</p>\n"
+    )
+}
+
+/// Appends a sentence on a check, if it has failed.
+pub(crate) fn write_failure_if(text: &mut String, e: &CheckTotals) -> Result<(), AllocError>
+    ensures { OnOk result (string_bytes text.new ≡ string_bytes text.old ++ spec.failure_if e.now) }
+{
+    if has_failed(e) {
+        write_failure(text, e.check.number(), e.check.name(), e.count.faults)
+    } else {
+        Ok(())
+    }
 }
