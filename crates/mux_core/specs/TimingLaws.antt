@@ -10,7 +10,7 @@ use Rattle.unit_timing.specs.MainBuffer.{mb_fullness}
 use Rattle.unit_timing.specs.SystemBuffer.{system_tb_fullness, bsys_fullness}
 use Rattle.description_parts.specs.Described.{Described, DescribedProgram, DescribedStream}
 use Rattle.description_parts.specs.Ranges.{IsInRange}
-use Rattle.description_parts.specs.Tables.{table_count, table_limit, section_count}
+use Rattle.description_parts.specs.Tables.{clock_of, table_count, table_limit, section_count}
 use Rattle.slot_plan.specs.declared.slot.Item.TheVariants.{Stream, Pcr, System}
 use Rattle.slot_plan.specs.Planned.{Planned}
 use Rattle.slot_plan.specs.Conditions.{IsServing}
@@ -45,7 +45,7 @@ SystemFits d schedule = (i x : ℕ) (slots : List ℕ) → i < length d.programs
 -- 2.7.2; ETSI TR 101 290, 5.2)
 abbrev pub PcrsRecur : Described → Schedule → Type 0
 PcrsRecur d schedule = (i n : ℕ) (p : DescribedProgram) → slice_get d.programs i ≡ Some p →
-    Recur d.rate p.pcr_limit 0 (map (λ s. 188 * s + 10) (own_slots (owned schedule (Pcr i)) 0 n)) (188 * n)
+    Recur d.rate p.pcr_limit 0 (map (λ s. 188 * s + 10) (own_slots (owned schedule (Pcr (clock_of d i))) 0 n)) (188 * n)
 
 abbrev pub SectionsRecur : Described → Schedule → Type 0
 SectionsRecur d schedule = (t j n : ℕ) → t < table_count d → j < section_count d t →
