@@ -70,11 +70,13 @@ fn clock_recurs(program: &ProgramDescription) -> Recurring
 fn own_clocks(alloc: Global, programs: &[ProgramDescription]) -> Result<Vec<Recurring>, AllocError>
     ensures { IfOk result (λ all. all.items ≡ map spec.clock_recurs (filter (λ p. p.has_clock) programs.now)) }
 {
-    programs
-        .iter()
-        .filter(|program| program.has_clock())
-        .map(|program| clock_recurs(program))
-        .collect(alloc)
+    let mut clocks = Vec::new(alloc);
+    for program in programs {
+        if program.has_clock() {
+            clocks.push(clock_recurs(program))?;
+        }
+    }
+    Ok(clocks)
 }
 
 // Returns the first program that has no clock of its own.
