@@ -94,7 +94,7 @@ streams_apart : (d : Described) (j k : ℕ) (s t : DescribedStream) → IsInRang
 streams_apart d j k s t ranges one two same =
     let places = pid_positions d in
     let there = pids_apart d (table_count d + length d.programs + j) (table_count d + length d.programs + k) t.pid ranges
-    (places.stream j s one ∙ ap (λ (p : ℕ). Some p) same) (places.stream k t two) in
+    (places.stream j s one ∙ ap (λ (p : ℕ). Some (Some p)) same) (places.stream k t two) in
     omega (arith, there)
 
 first_streams : (d : Described) → IsInRange d → AreFirst (streams_from 0 d.streams)
