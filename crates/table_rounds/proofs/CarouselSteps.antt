@@ -4,13 +4,13 @@ use Rattle.std.proofs.Common.{slice_index_or, Option, Some, None, is_some, refl,
 use Rattle.std.proofs.lemmas.Bool.{cases_lt, ne_eqb}
 use Rattle.std.proofs.lemmas.List.{length-map}
 use Rattle.std.proofs.lemmas.Nat.{mod_below}
-use Rattle.std.proofs.Math.Nat.{mod-eq_of_lt, mod_self, mod-add-mod}
+use Rattle.std.proofs.Math.Nat.{mod-eq_of_lt, mod_self, mod-add-mod, zero-div}
 use Rattle.clock27.specs.Units.{slot_seconds_at_1bps}
 use Rattle.own_slots.specs.Slots.{own_before}
 use Rattle.own_slots.proofs.Counts.{own_before_own, own_before_other}
 use Rattle.slot_contents.specs.Contents.{packet_of, Piece}
 use Rattle.table_rounds.specs.Parts.{places_of, part_of, part_content}
-use Rattle.table_rounds.specs.Tables.{Table, SectionPlace, round_places, place_in, place_at, round_before, moment_of, moment_before, bytes_at, part_at}
+use Rattle.table_rounds.specs.Tables.{Table, SectionPlace, round_places, place_in, place_at, round_before, begin_before, moment_of, moment_before, bytes_at, part_at}
 use Rattle.table_rounds.specs.Tables.{one_if_some, payloads_before}
 use Rattle.table_rounds.specs.Carousels.{Carousel, CarouselHolds, moment_now, begun, section_advanced, advanced, counted}
 use Rattle.table_rounds.specs.Laws.{HasPlaces, IsSourceOf, FirstCarouselLaw, TableSlotLaw, OtherTableSlotLaw}
@@ -31,6 +31,18 @@ round_other : (own : ℕ → Bool) (k s : ℕ) → own s ≡ false → round_bef
 unfolding round_before
 round_other own k s n = rw n refl
 
+pub section_at : (table : Table) (s : ℕ) → table.own s ≡ true → (place_at table s).part ≡ 0 → begin_before table (suc s) ≡ s
+unfolding begin_before
+section_at table s y z = let e : ((place_at table s).part == 0) ≡ true = eq-eqb (place_at table s).part 0 z in rw (y, e) refl
+
+section_stays : (table : Table) (s : ℕ) → table.own s ≡ true → 0 < (place_at table s).part → begin_before table (suc s) ≡ begin_before table s
+unfolding begin_before
+section_stays table s y some = let e : ((place_at table s).part == 0) ≡ false = not_zero (place_at table s).part some in rw (y, e) refl
+
+section_other : (table : Table) (s : ℕ) → table.own s ≡ false → begin_before table (suc s) ≡ begin_before table s
+unfolding begin_before
+section_other table s n = rw n refl
+
 -- A round with a place has a section.
 has_section : (ls : List ℕ) → 0 < round_places ls → 0 < length ls
 has_section [] some = absurd (omega (arith, some))
@@ -38,20 +50,23 @@ has_section (l ∷ ls) some = omega arith
 
 -- The state before slot 0
 pub first_carousel_holds : FirstCarouselLaw
-unfolding own_before payloads_before
+unfolding own_before payloads_before round_before
 first_carousel_holds table some = record {
   pid = refl;
   rate = refl;
   start = refl;
   packets_per_section = refl;
   place = ap (place_in 0 table.lengths) zero_place ∙ place_first 0 table.lengths (has_section table.lengths some);
-  moment = λ lt. absurd (omega (arith, lt, zero_place));
+  moment = first_moment;
   bytes = λ lt. absurd (omega (arith, lt));
   counter = refl;
 }
   where
     zero_place : 0 % round_places table.lengths ≡ 0
     zero_place = mod-eq_of_lt some
+
+    first_moment : table.start ≡ table.start + 0 * slot_seconds_at_1bps / table.rate
+    first_moment = let e : 0 * slot_seconds_at_1bps / table.rate ≡ 0 = zero-div table.rate in omega (arith, e)
 
 -- The state after a slot that is not the table's own
 pub other_slot : OtherTableSlotLaw
@@ -68,8 +83,9 @@ other_slot table s carousel n h =
       start = h.start;
       packets_per_section = h.packets_per_section;
       place = ap (λ (i : ℕ). place_in 0 table.lengths (i % round_places table.lengths)) before ∙ h.place;
-      moment = λ lt. h.moment (subst (λ (i : ℕ). 0 < i % round_places table.lengths) before lt) ∙ ap (moment_of table) (sym round);
-      bytes = λ lt. h.bytes lt ∙ ap (λ (r : ℕ). table.bytes carousel.section (moment_of table r)) (sym round);
+      moment = h.moment ∙ ap (moment_of table) (sym round);
+      bytes = λ lt. h.bytes lt ∙ ap (λ (r : ℕ). table.bytes (begin_before table s) carousel.section (moment_of table r)) (sym round)
+          ∙ ap (λ (b : ℕ). table.bytes b carousel.section (moment_before table (suc s))) (sym (section_other table s n));
       counter = h.counter ∙ ap (λ (i : ℕ). i % 256) (sym count);
     }
 
@@ -82,7 +98,7 @@ record Ready (table : Table) (s : ℕ) (b : Carousel) : Type 0 where
   packets_per_section : b.packets_per_section ≡ map places_of table.lengths
   place : place_at table s ≡ record { section = b.section; part = b.part }
   moment : b.moment ≡ moment_before table (suc s)
-  bytes : b.bytes ≡ table.bytes b.section (moment_before table (suc s))
+  bytes : b.bytes ≡ table.bytes (begin_before table (suc s)) b.section (moment_before table (suc s))
   counter : b.counter ≡ payloads_before table (suc s) % 256
 
 -- The state at the next place
@@ -95,8 +111,8 @@ placed table s section part b r place same = record {
   start = r.start;
   packets_per_section = r.packets_per_section;
   place = place;
-  moment = λ lt. r.moment;
-  bytes = λ lt. r.bytes ∙ ap (λ (j : ℕ). table.bytes j (moment_before table (suc s))) (sym (same lt));
+  moment = r.moment;
+  bytes = λ lt. r.bytes ∙ ap (λ (j : ℕ). table.bytes (begin_before table (suc s)) j (moment_before table (suc s))) (sym (same lt));
   counter = r.counter;
 }
 
@@ -171,23 +187,25 @@ abbrev made : Carousel → ℕ → List ℕ → Carousel
 made carousel moment bytes = record carousel { moment = moment; bytes = bytes }
 
 -- At an own slot the state has the moment of the round and the bytes of the section.
-begun_is : (table : Table) (s : ℕ) (source : ℕ → ℕ → List ℕ) (carousel : Carousel) → HasPlaces table → IsSourceOf table source → table.own s ≡ true →
+begun_is : (table : Table) (s : ℕ) (source : ℕ → ℕ → List ℕ) (carousel : Carousel) → HasPlaces table → IsSourceOf table s source → table.own s ≡ true →
     CarouselHolds table s carousel
-    → begun source s carousel ≡ made carousel (moment_before table (suc s)) (table.bytes carousel.section (moment_before table (suc s)))
+    → begun source s carousel ≡ made carousel (moment_before table (suc s)) (table.bytes (begin_before table (suc s)) carousel.section (moment_before table (suc s)))
 unfolding begun
 begun_is table s source carousel some is y h = elim (cases_lt 0 carousel.part) [
   | inl later ↦
       let e : (carousel.part == 0) ≡ false = not_zero carousel.part later in
       let f : begun source s carousel ≡ carousel = rw e refl in
       let n : 0 < i % k = inside later in
-      f ∙ remade (h.moment n ∙ ap (moment_of table) (sym (round_stays table.own k s y n)))
-      (h.bytes later ∙ ap (λ (r : ℕ). table.bytes carousel.section (moment_of table r)) (sym (round_stays table.own k s y n)))
+      f ∙ remade (h.moment ∙ ap (moment_of table) (sym (round_stays table.own k s y n)))
+      (h.bytes later ∙ ap (λ (r : ℕ). table.bytes (begin_before table s) carousel.section (moment_of table r)) (sym (round_stays table.own k s y n))
+      ∙ ap (λ (b : ℕ). table.bytes b carousel.section (moment_before table (suc s))) (sym (section_stays table s y (under_way later))))
   | inr first ↦
       let z : carousel.part ≡ 0 = omega (arith, first) in
       let e : (carousel.part == 0) ≡ true = eq-eqb carousel.part 0 z in
       let f : begun source s carousel ≡ made carousel (moment_now s carousel) (source carousel.section (moment_now s carousel)) = rw e refl in
       f ∙ ap (λ (m : ℕ). made carousel m (source carousel.section m)) (moment z)
-      ∙ ap (made carousel (moment_before table (suc s))) (is carousel.section (moment_before table (suc s)) within)
+      ∙ ap (made carousel (moment_before table (suc s))) (is carousel.section (moment_before table (suc s)) within
+      ∙ ap (λ (b : ℕ). table.bytes b carousel.section (moment_before table (suc s))) (sym (section_at table s y (here ∙ z))))
 ]
   where
     k : ℕ
@@ -204,6 +222,12 @@ begun_is table s source carousel some is y h = elim (cases_lt 0 carousel.part) [
 
     part : st.q ≡ carousel.part
     part = ap (λ (p : SectionPlace). p.part) (sym st.place ∙ h.place)
+
+    here : (place_at table s).part ≡ carousel.part
+    here = ap (λ (p : SectionPlace). p.part) h.place
+
+    under_way : 0 < carousel.part → 0 < (place_at table s).part
+    under_way later = omega (arith, here, later)
 
     within : carousel.section < length table.lengths
     within = omega (arith, section, st.section)
@@ -231,7 +255,7 @@ begun_is table s source carousel some is y h = elim (cases_lt 0 carousel.part) [
       | inl n ↦
           let e : (carousel.section == 0) ≡ false =
           not_zero carousel.section (elim (cases_lt 0 carousel.section) [ inl x ↦ x | inr x ↦ absurd (omega (arith, n, at_first (omega (arith, x)) z)) ]) in
-          ap (λ (b : Bool). cond b (carousel.start + s * slot_seconds_at_1bps / carousel.rate) carousel.moment) e ∙ h.moment n
+          ap (λ (b : Bool). cond b (carousel.start + s * slot_seconds_at_1bps / carousel.rate) carousel.moment) e ∙ h.moment
           ∙ ap (moment_of table) (sym (round_stays table.own k s y n))
       | inr n ↦
           let zero_place : i % k ≡ 0 = omega (arith, n) in
@@ -243,7 +267,7 @@ begun_is table s source carousel some is y h = elim (cases_lt 0 carousel.part) [
 
 -- The payload of the slot is counted.
 ready : (table : Table) (s : ℕ) (carousel : Carousel) (o : Option Piece) → table.own s ≡ true → CarouselHolds table s carousel → part_at table s ≡ o
-    → Ready table s (counted (is_some o) (made carousel (moment_before table (suc s)) (table.bytes carousel.section (moment_before table (suc s)))))
+    → Ready table s (counted (is_some o) (made carousel (moment_before table (suc s)) (table.bytes (begin_before table (suc s)) carousel.section (moment_before table (suc s)))))
 unfolding payloads_before
 ready table s carousel None y h e =
     let more : payloads_before table (suc s) ≡ payloads_before table s + 0 =
@@ -285,13 +309,13 @@ same_packet pid number counter (Some p) e = let f : counter % 16 ≡ number % 16
 
 pub own_slot : TableSlotLaw
 own_slot table s source carousel some is y h =
-    let b : begun source s carousel ≡ made carousel (moment_before table (suc s)) (table.bytes carousel.section (moment_before table (suc s))) =
+    let b : begun source s carousel ≡ made carousel (moment_before table (suc s)) (table.bytes (begin_before table (suc s)) carousel.section (moment_before table (suc s))) =
     begun_is table s source carousel some is y h in
-    let bytes : bytes_at table s ≡ table.bytes carousel.section (moment_before table (suc s)) =
-    ap (λ (p : SectionPlace). table.bytes p.section (moment_before table (suc s))) h.place in
-    let part : part_at table s ≡ part_of (table.bytes carousel.section (moment_before table (suc s))) carousel.part =
+    let bytes : bytes_at table s ≡ table.bytes (begin_before table (suc s)) carousel.section (moment_before table (suc s)) =
+    ap (λ (p : SectionPlace). table.bytes (begin_before table (suc s)) p.section (moment_before table (suc s))) h.place in
+    let part : part_at table s ≡ part_of (table.bytes (begin_before table (suc s)) carousel.section (moment_before table (suc s))) carousel.part =
     ap (λ (l : List ℕ). part_of l (place_at table s).part) bytes
-    ∙ ap (λ (p : SectionPlace). part_of (table.bytes carousel.section (moment_before table (suc s))) p.part) h.place in
+    ∙ ap (λ (p : SectionPlace). part_of (table.bytes (begin_before table (suc s)) carousel.section (moment_before table (suc s))) p.part) h.place in
     record {
       packet = ap (λ (t : Carousel). packet_of (part_content t.pid t.counter (part_of t.bytes t.part))) b
           ∙ ap (λ (o : Option Piece). packet_of (part_content carousel.pid carousel.counter o)) (sym part)

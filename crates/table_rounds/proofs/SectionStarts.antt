@@ -10,11 +10,12 @@ use Rattle.ts_packet.specs.Views.{PacketView}
 use Rattle.ts_packet.specs.Beginnings.{is_start, has_access, start_by, start_in}
 use Rattle.slot_contents.specs.Contents.{run_bytes, Payload, payload_at, Piece, put}
 use Rattle.table_rounds.specs.Parts.{filled, part_of}
-use Rattle.table_rounds.specs.Tables.{Table, SectionPlace, round_places, place_in, place_at, moment_before, part_at}
+use Rattle.table_rounds.specs.Tables.{Table, SectionPlace, round_places, place_in, place_at, begin_before, moment_before, part_at}
 use Rattle.table_rounds.specs.Laws.{first_place}
 use Rattle.table_rounds.specs.Payloads.{BeginsLaw}
 use Rattle.table_rounds.proofs.Places.{place_law}
 use Rattle.table_rounds.proofs.CarriedBytes.{table_carried}
+use Rattle.table_rounds.proofs.CarouselSteps.{section_at}
 
 -- An own slot at the first place of a section
 starts_own : (own : ℕ → Bool) (k place s : ℕ) → starts own k place s ≡ true → (own s ≡ true) × (own_before own s % k ≡ place)
@@ -79,11 +80,13 @@ unfolding part_of payload
 begins table n j s content alone lt within e =
     let own = starts_own table.own (round_places table.lengths) (first_place table.lengths j) s e in
     let place = begins_at table j s lt own.1 in
-    let bytes = table.bytes j (moment_before table (suc s)) in
+    let bytes = table.bytes s j (moment_before table (suc s)) in
+    let here : begin_before table (suc s) ≡ s = section_at table s own.0 (ap (λ (p : SectionPlace). p.part) place) in
     let some : nat_lt (184 * 0) (1 + length bytes) ≡ true = lt-ltb 0 (1 + length bytes) (omega arith) in
     let first : part_of bytes 0 ≡ Some (record { start = start_by true false; bytes = take 184 (drop (184 * 0) (filled bytes)) }) = rw some refl in
     let part : part_at table s ≡ Some (record { start = start_by true false; bytes = take 184 (drop (184 * 0) (filled bytes)) }) =
-    ap (λ (p : SectionPlace). part_of (table.bytes p.section (moment_before table (suc s))) p.part) place ∙ first in
+    ap (λ (p : SectionPlace). part_of (table.bytes (begin_before table (suc s)) p.section (moment_before table (suc s))) p.part) place
+    ∙ ap (λ (b : ℕ). part_of (table.bytes b j (moment_before table (suc s))) 0) here ∙ first in
     let at = found table 0 n s (record { start = start_by true false; bytes = take 184 (drop (184 * 0) (filled bytes)) }) (omega arith) (omega (arith, within))
     own.0 part in
     let carried = table_carried table n content alone in

@@ -1,10 +1,9 @@
 -- The state of a table between its slots, and the table that it represents.
-use Rattle.std.specs.Prelude.{◌≡◌, ℕ, ◌+◌, ◌*◌, ◌/◌, ◌%◌, ◌==◌, ◌<◌, nat_lt, Bool, cond, List, [], map, slice_index_or, length, Option, is_some}
+use Rattle.std.specs.Prelude.{◌≡◌, ℕ, ◌+◌, ◌*◌, ◌/◌, ◌%◌, ◌==◌, ◌<◌, nat_lt, Bool, cond, List, [], map, slice_index_or, length, Option, Some, None, is_some}
 use Rattle.clock27.specs.Units.{slot_seconds_at_1bps}
-use Rattle.own_slots.specs.Slots.{own_before}
 use Rattle.slot_contents.specs.Contents.{Content, Piece}
 use Rattle.table_rounds.specs.Parts.{places_of, part_of, part_content}
-use Rattle.table_rounds.specs.Tables.{Table, round_places, place_at, moment_before, payloads_before}
+use Rattle.table_rounds.specs.Tables.{Table, place_at, begin_before, moment_before, payloads_before}
 
 -- the next place, the moment of the round, the bytes of the current section, and the number of payloads sent modulo 256
 pub record Carousel : Type 0 where
@@ -25,14 +24,18 @@ pub record CarouselHolds (table : Table) (slots : ℕ) (carousel : Carousel) : T
   pub start : carousel.start ≡ table.start
   pub packets_per_section : carousel.packets_per_section ≡ map places_of table.lengths
   pub place : place_at table slots ≡ record { section = carousel.section; part = carousel.part }
-  pub moment : 0 < own_before table.own slots % round_places table.lengths → carousel.moment ≡ moment_before table slots
-  pub bytes : 0 < carousel.part → carousel.bytes ≡ table.bytes carousel.section (moment_before table slots)
+  pub moment : carousel.moment ≡ moment_before table slots
+  pub bytes : 0 < carousel.part → carousel.bytes ≡ table.bytes (begin_before table slots) carousel.section (moment_before table slots)
   pub counter : carousel.counter ≡ payloads_before table slots % 256
 
--- a table's state before slot 0
+-- a table's state before slot 0: before the first round the moment is that of slot 0
 abbrev pub first_carousel : ℕ → ℕ → ℕ → List ℕ → Carousel
 first_carousel pid rate start lengths =
-    record { pid = pid; rate = rate; start = start; packets_per_section = map places_of lengths; section = 0; part = 0; moment = 0; counter = 0; bytes = [] }
+    record { pid = pid; rate = rate; start = start; packets_per_section = map places_of lengths; section = 0; part = 0; moment = start; counter = 0; bytes = [] }
+
+-- the section that begins in the next own slot, if one begins there
+abbrev pub next_section : Carousel → Option ℕ
+next_section carousel = cond (carousel.part == 0) (Some carousel.section) None
 
 -- the moment of the round in slot s: section 0 takes the time of the slot, other sections keep the moment
 abbrev pub moment_now : ℕ → Carousel → ℕ

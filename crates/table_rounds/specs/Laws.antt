@@ -9,9 +9,9 @@ use Rattle.table_rounds.specs.Carousels.{Carousel, CarouselHolds, first_carousel
 abbrev pub HasPlaces : Table → Type 0
 HasPlaces table = 0 < round_places table.lengths
 
--- the source gives the bytes of each section of the table
-abbrev pub IsSourceOf : Table → (ℕ → ℕ → List ℕ) → Type 0
-IsSourceOf table source = (j moment : ℕ) → j < length table.lengths → source j moment ≡ table.bytes j moment
+-- the source gives the bytes of each section of the table that begins in slot s
+abbrev pub IsSourceOf : Table → ℕ → (ℕ → ℕ → List ℕ) → Type 0
+IsSourceOf table s source = (j moment : ℕ) → j < length table.lengths → source j moment ≡ table.bytes s j moment
 
 -- the first state represents the table before slot 0
 abbrev pub FirstCarouselLaw : Type 0
@@ -23,7 +23,7 @@ pub record TableSlot (table : Table) (s : ℕ) (source : ℕ → ℕ → List �
   pub holds : CarouselHolds table (suc s) (carousel_after source s carousel)
 
 abbrev pub TableSlotLaw : Type 0
-TableSlotLaw = (table : Table) (s : ℕ) (source : ℕ → ℕ → List ℕ) (carousel : Carousel) → HasPlaces table → IsSourceOf table source → table.own s ≡ true →
+TableSlotLaw = (table : Table) (s : ℕ) (source : ℕ → ℕ → List ℕ) (carousel : Carousel) → HasPlaces table → IsSourceOf table s source → table.own s ≡ true →
     CarouselHolds table s carousel → TableSlot table s source carousel
 
 -- in any other slot the state does not change

@@ -49,7 +49,7 @@ pub record Begins (table : Table) (j s : ℕ) (bytes : List ℕ) : Type 0 where
   pub listed : slice_get (pid_list table.pid bytes) number ≡ Some entry
   pub slot : entry.index ≡ s
   pub start : entry.packet.header.payload_unit_start_indicator ≡ true
-  pub first : payload_of entry.packet ≡ take 184 (filled (table.bytes j (moment_before table (suc s))))
+  pub first : payload_of entry.packet ≡ take 184 (filled (table.bytes s j (moment_before table (suc s))))
 
 -- a section begins in each slot that is its first place
 abbrev pub BeginsLaw : Type 0

@@ -13,8 +13,8 @@ pub record Table : Type 0 where
   pub pid : ℕ
   -- the greatest length of each section over all moments, in bytes
   pub lengths : List ℕ
-  -- the bytes of a section at a moment, in seconds since 1970
-  pub bytes : ℕ → ℕ → List ℕ
+  -- the bytes of a section that begins in a slot, for a moment, in seconds since 1970: the texts may be others from a slot on
+  pub bytes : ℕ → ℕ → ℕ → List ℕ
   -- bits a second of the output, and the moment at which slot 0 begins
   pub rate : ℕ
   pub start : ℕ
@@ -42,6 +42,11 @@ unfoldable pub round_before : (ℕ → Bool) → ℕ → ℕ → ℕ
 round_before own k zero = 0
 round_before own k (suc s) = cond (own s && (own_before own s % k == 0)) s (round_before own k s)
 
+-- the last own slot before slot s in which a section begins
+unfoldable pub begin_before : Table → ℕ → ℕ
+begin_before table zero = 0
+begin_before table (suc s) = cond (table.own s && ((place_at table s).part == 0)) s (begin_before table s)
+
 -- the moment at which slot s begins: a slot lasts 1,504 / rate seconds
 abbrev pub moment_of : Table → ℕ → ℕ
 moment_of table s = table.start + s * slot_seconds_at_1bps / table.rate
@@ -52,7 +57,7 @@ moment_before table s = moment_of table (round_before table.own (round_places ta
 
 -- the bytes of the section in the own slot s, and the part of the section there
 abbrev pub bytes_at : Table → ℕ → List ℕ
-bytes_at table s = table.bytes (place_at table s).section (moment_before table (suc s))
+bytes_at table s = table.bytes (begin_before table (suc s)) (place_at table s).section (moment_before table (suc s))
 
 abbrev pub part_at : Table → ℕ → Option Piece
 part_at table s = part_of (bytes_at table s) (place_at table s).part

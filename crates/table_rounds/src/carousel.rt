@@ -89,10 +89,28 @@ impl TableCarousel {
             packets_per_section: places_of_each(lengths),
             section: 0,
             part: 0,
-            moment: 0,
+            moment: start as u64,
             counter: 0,
             bytes: ArrayVec::new(),
         }
+    }
+
+    /// Returns the section that begins in the next own slot, if one begins there.
+    pub fn next_section(&self) -> Option<u8>
+        ensures { result ≡ spec.next_section self.now }
+    {
+        if self.part == 0 {
+            Some(self.section)
+        } else {
+            None
+        }
+    }
+
+    /// Returns the moment of the last round that began, before the first round the moment of slot 0.
+    pub fn moment(&self) -> u64
+        ensures { result ≡ self.now.moment }
+    {
+        self.moment
     }
 
     /// Returns the packet of an own slot: a part of the current section, or the null packet if the section is shorter
