@@ -1,5 +1,5 @@
 -- The rows of keys, and what each refuses.
-use Rattle.std.specs.Prelude.{ℕ, pos, ◌&&◌, ◌==◌, not, Bool, false, List, map, find, Option, is_none}
+use Rattle.std.specs.Prelude.{ℕ, pos, ◌&&◌, ◌==◌, not, Bool, List, map, find, Option, is_none}
 use Rattle.std.specs.Borrow.{Bor}
 use Rattle.toml.specs.Data.{Data, get}
 use Rattle.description_values.specs.Moments.{moment_at}
@@ -12,7 +12,8 @@ use Rattle.description_keys.specs.StreamKeys.{has_frame_left, has_owner, has_sha
 use Rattle.description_keys.specs.StreamKeys.{refuses_group, refuses_group_packets, refuses_mb, refuses_pace, refuses_rbx, stream_id, stream_main}
 use Rattle.description_keys.specs.StreamKeys.{stream_rx, stream_size}
 use Rattle.description_keys.specs.TableKeys.{entry_descriptors, entry_type, is_listed}
-use Rattle.description_keys.specs.TopKeys.{limit_in, refuses_shared_clock}
+use Rattle.description_keys.specs.TopKeys.{limit_in, refuses_eit_packets, refuses_shared_clock}
+use Rattle.description_keys.specs.VersionKeys.{refuses_versions}
 use Rattle.description_keys.specs.declared.keys.TheConstants.{KEYS}
 use Rattle.description_keys.specs.declared.key_row.Row.{Row}
 use Rattle.description_keys.specs.declared.key_row.KeyPart.{KeyPart}
@@ -48,6 +49,8 @@ row_of code = find (λ row. row.code == code) keys
 -- a key whose values depend on other keys
 abbrev pub refuses_jointly : JointKey → Data → Data → Bool
 refuses_jointly joint.SharedClock document d = refuses_shared_clock d
+refuses_jointly joint.EitPackets document d = refuses_eit_packets d
+refuses_jointly joint.Versions document d = refuses_versions d
 refuses_jointly joint.ClockPid document d = refuses_pcr_pid document d
 refuses_jointly joint.Channel document d = refuses_channel document d
 refuses_jointly joint.StreamId document d = is_none (stream_id d)
@@ -80,7 +83,7 @@ refuses_kind kind.Pid name document d = is_none (integer_at name (pos 32) (pos 8
 refuses_kind (kind.NumberOr default least most) name document d = is_none (integer_or default name (pos least) (pos most) d)
 refuses_kind (kind.NumberIfAny least most) name document d = is_none (optional_integer name (pos least) (pos most) d)
 refuses_kind kind.Moment name document d = is_none (moment_at name d)
-refuses_kind kind.Flag name document d = is_none (boolean_or false name d)
+refuses_kind (kind.Flag default) name document d = is_none (boolean_or default name d)
 refuses_kind (kind.Text most) name document d = is_none (text_at most name d)
 refuses_kind (kind.TextOrEmpty most) name document d = is_none (text_or most name d)
 refuses_kind kind.Language name document d = is_none (language_at name d)

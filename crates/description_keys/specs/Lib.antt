@@ -1,4 +1,5 @@
 pub mod Rules
+pub mod VersionKeys
 pub mod TopKeys
 pub mod NetworkKeys
 pub mod ProgramKeys

@@ -3,7 +3,7 @@ use Rattle.std.specs.Prelude.{ℕ, pos, ◌==◌, ◌&&◌, ◌||◌, not, Bool,
 use Rattle.std.specs.List.{list_any}
 use Rattle.std.specs.Option.{option_or}
 use Rattle.toml.specs.Data.{Data, get}
-use Rattle.description_values.specs.Values.{integer_at, integer_or, optional_integer, text_or, descriptors_or_none, elements}
+use Rattle.description_values.specs.Values.{boolean_or, integer_at, integer_or, optional_integer, text_or, descriptors_or_none, elements}
 use Rattle.description_keys.specs.Rules.{Rule, needs, rule}
 use Rattle.description_keys.specs.TopKeys.{clock_pid_of, has_own_clock}
 use Rattle.description_keys.specs.declared.key_row.KeyPart.TheVariants as part
@@ -77,7 +77,15 @@ refuses_number document program (Some channel) = is_none (get (codes "network") 
 abbrev pub refuses_channel : Data → Data → Bool
 refuses_channel document program = elim (program_channel program) [ None ↦ true | Some channel ↦ refuses_number document program channel ]
 
--- the rules of the keys, by their numbers
+-- the least number of packets of a section of its PMT
+abbrev pub program_pmt_packets : Data → Option ℕ
+program_pmt_packets = integer_or 1 (codes "pmt_packets") (pos 1) (pos 6)
+
+-- whether its streams are in its PMT, and its service runs
+abbrev pub program_on_air : Data → Option Bool
+program_on_air = boolean_or true (codes "on_air")
+
+-- the rules of the keys, in the order of their refusals
 abbrev pub program_rules : List Rule
 program_rules = needs part.Program 31 (codes "number") program_number
     ∷ needs part.Program 32 (codes "pmt_pid") program_pmt_pid
@@ -86,4 +94,6 @@ program_rules = needs part.Program 31 (codes "number") program_number
     ∷ needs part.Program 35 (codes "descriptors") program_descriptors
     ∷ needs part.Program 36 (codes "service_type") program_service_type
     ∷ needs part.Program 37 (codes "provider") program_provider ∷ needs part.Program 38 (codes "name") program_name
-    ∷ rule part.Program 93 (codes "lcn") (λ document program. refuses_channel document program) ∷ []
+    ∷ rule part.Program 93 (codes "lcn") (λ document program. refuses_channel document program)
+    ∷ needs part.Program 94 (codes "pmt_packets") program_pmt_packets
+    ∷ needs part.Program 104 (codes "on_air") program_on_air ∷ []

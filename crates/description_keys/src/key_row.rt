@@ -41,6 +41,8 @@ impl KeyPart {
 #[derive(Clone, Copy)]
 pub enum JointKey {
     SharedClock,
+    EitPackets,
+    Versions,
     ClockPid,
     Channel,
     StreamId,
@@ -76,8 +78,8 @@ pub enum KeyKind {
     NumberIfAny(u64, u64),
     /// A time.
     Moment,
-    /// True or false; false if the key is absent.
-    Flag,
+    /// True or false; the value of the field if the key is absent.
+    Flag(bool),
     /// A text of up to so many bytes.
     Text(u8),
     /// The same; empty if the key is absent.

@@ -5,9 +5,9 @@ ghost use Rattle.description_keys.specs.KeyRows.{keys, row_of, rule_of, view};
 ghost use Rattle.description_keys.specs.Refusals.{rules};
 
 use crate::key_row::JointKey::{
-    BurstPackets, Channel, ClockPid, EntryDescriptors, EntryProgram, EntryType, Frame, FrameLeft,
-    FrameSize, Frames, Group, GroupPackets, Main, Mb, Pace, Rbx, Rx, SharedClock, SharedWith, Size,
-    StreamId,
+    BurstPackets, Channel, ClockPid, EitPackets, EntryDescriptors, EntryProgram, EntryType, Frame,
+    FrameLeft, FrameSize, Frames, Group, GroupPackets, Main, Mb, Pace, Rbx, Rx, SharedClock,
+    SharedWith, Size, StreamId, Versions,
 };
 use crate::key_row::KeyKind::{
     Descriptors, Flag, Joint, Language, LanguageIfAny, Moment, Number, NumberIfAny, NumberOr,
@@ -17,7 +17,7 @@ use crate::key_row::KeyPart::{Document, Event, Network, Program, Stream, Table};
 use crate::key_row::{KeyRow, Row};
 
 /// All keys, in the order of their refusals: a table or an array before its keys.
-pub const KEYS: [KeyRow; 64] = [
+pub const KEYS: [KeyRow; 72] = [
     Row(
         Document,
         10,
@@ -35,15 +35,33 @@ pub const KEYS: [KeyRow; 64] = [
     ),
     Row(Document, 13, "ts_id", Number(0, 65_535), ""),
     Row(Document, 14, "original_network_id", Number(0, 65_535), ""),
-    Row(Document, 15, "sdt", Flag, ""),
-    Row(Document, 16, "tdt", Flag, ""),
-    Row(Document, 17, "transponder", Flag, ""),
+    Row(Document, 15, "sdt", Flag(false), ""),
+    Row(Document, 16, "tdt", Flag(false), ""),
+    Row(Document, 17, "transponder", Flag(false), ""),
     Row(
         Document,
         18,
         "clock_pid",
         Joint(SharedClock),
         "a PID, 32 to 8190, beside a program without pcr_pid",
+    ),
+    Row(Document, 95, "eit", Flag(false), ""),
+    Row(
+        Document,
+        105,
+        "eit_packets",
+        Joint(EitPackets),
+        "2 to 23 packets, beside eit = true",
+    ),
+    Row(Document, 97, "pat_packets", NumberOr(1, 1, 6), " packets"),
+    Row(Document, 98, "sdt_packets", NumberOr(1, 1, 6), " packets"),
+    Row(Document, 99, "nit_packets", NumberOr(1, 1, 6), " packets"),
+    Row(
+        Document,
+        103,
+        "versions",
+        Joint(Versions),
+        "an array of texts PAT V, NIT V, SDT V, PMT N V or EIT N V, with a program's number N and a version V of 0 to 31",
     ),
     Row(Document, 20, "network", OneTable, ""),
     Row(Network, 21, "id", Number(0, 65_535), ""),
@@ -71,6 +89,8 @@ pub const KEYS: [KeyRow; 64] = [
         Joint(Channel),
         "1 to 1023, in no other program, and only beside [network]",
     ),
+    Row(Program, 94, "pmt_packets", NumberOr(1, 1, 6), " packets"),
+    Row(Program, 104, "on_air", Flag(true), ""),
     Row(Document, 40, "stream", Tables(0, 32, 254), ""),
     Row(Stream, 41, "program", Owner, ""),
     Row(Stream, 42, "pid", Pid, ""),

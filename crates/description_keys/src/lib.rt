@@ -7,6 +7,7 @@
 // Keys whose values depend on other keys, and the program of a part.
 pub mod channels;
 pub mod clock_keys;
+pub mod eit_keys;
 pub mod frame_keys;
 pub mod limits;
 pub mod multiplexing_keys;
@@ -15,6 +16,7 @@ mod program_numbers;
 pub mod sharers;
 pub mod stream_keys;
 pub mod table_keys;
+pub mod version_keys;
 
 // The keys by rows, the names of a part's keys, and refusals.
 mod fault;

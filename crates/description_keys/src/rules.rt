@@ -7,6 +7,7 @@ ghost use Rattle.description_keys.specs.Refusals.{parts_of};
 
 use crate::channels::refuses_channel;
 use crate::clock_keys::{refuses_pcr_pid, refuses_shared_clock};
+use crate::eit_keys::refuses_eit_packets;
 use crate::frame_keys::{has_frame_left, refuses_frame, refuses_frame_size, refuses_frames};
 use crate::key_row::{JointKey, KeyKind, KeyRow};
 use crate::limits::limit_in;
@@ -19,6 +20,7 @@ use crate::stream_keys::{
     size, stream_id,
 };
 use crate::table_keys::{entry_descriptors, entry_type, is_listed};
+use crate::version_keys::refuses_versions;
 use description_values::arrays::{sections_at, tables_at};
 use description_values::descriptors::descriptors_or_none;
 use description_values::moments::moment_at;
@@ -32,6 +34,8 @@ fn refuses_jointly(key: JointKey, document: &Value, part: &Value) -> bool
 {
     match key {
         JointKey::SharedClock => refuses_shared_clock(part),
+        JointKey::EitPackets => refuses_eit_packets(part),
+        JointKey::Versions => refuses_versions(part),
         JointKey::ClockPid => refuses_pcr_pid(document, part),
         JointKey::Channel => refuses_channel(document, part),
         JointKey::StreamId => stream_id(part).is_none(),
@@ -75,7 +79,7 @@ fn refuses_kind(kind: KeyKind, name: &str, document: &Value, part: &Value) -> bo
         KeyKind::NumberOr(default, least, most) => has_no_number(default, part, name, least, most),
         KeyKind::NumberIfAny(least, most) => optional_integer(part, name, least, most).is_none(),
         KeyKind::Moment => moment_at(part, name).is_none(),
-        KeyKind::Flag => boolean_or(false, part, name).is_none(),
+        KeyKind::Flag(default) => boolean_or(default, part, name).is_none(),
         KeyKind::Text(most) => has_no_text(part, name, most),
         KeyKind::TextOrEmpty(most) => has_other_text(part, name, most),
         KeyKind::Language => language_at(part, name).is_none(),

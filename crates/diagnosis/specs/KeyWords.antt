@@ -8,7 +8,7 @@ use Rattle.description_keys.specs.declared.key_row.KeyKind.TheVariants as kind
 unfoldable pub kind_words : KeyKind → List ℕ
 kind_words kind.Pid = codes "a PID, 32 to 8190"
 kind_words kind.Moment = codes "a time in quotation marks, YYYY-MM-DDThh:mm:ss, 1970-01-01T00:00:00 to 2037-12-31T23:59:59"
-kind_words kind.Flag = codes "true or false"
+kind_words (kind.Flag default) = codes "true or false"
 kind_words kind.Language = codes "three ASCII letters"
 kind_words kind.LanguageIfAny = codes "three ASCII letters"
 kind_words kind.Descriptors = codes "hex of whole descriptors, up to 700 bytes"

@@ -18,7 +18,7 @@ fn kind_words(kind: KeyKind) -> &'static str
         KeyKind::Moment => {
             "a time in quotation marks, YYYY-MM-DDThh:mm:ss, 1970-01-01T00:00:00 to 2037-12-31T23:59:59"
         }
-        KeyKind::Flag => "true or false",
+        KeyKind::Flag(_) => "true or false",
         KeyKind::Language | KeyKind::LanguageIfAny => "three ASCII letters",
         KeyKind::Descriptors => "hex of whole descriptors, up to 700 bytes",
         KeyKind::Sections => {
