@@ -207,8 +207,8 @@ has_counts d none =
           All-map (λ table. length table.sections ≤ 8) described_table (tables_of d) (λ k other within. (table_sections d none k other within).most);
     }
 
--- The counts depend only on the programs, streams and tables.
-pub counts_of : (d e : Described) → d.programs ≡ e.programs → d.streams ≡ e.streams → d.tables ≡ e.tables → HasCounts d → HasCounts e
+-- The counts depend only on the number of programs, the streams and the tables.
+pub counts_of : (d e : Described) → length d.programs ≡ length e.programs → d.streams ≡ e.streams → d.tables ≡ e.tables → HasCounts d → HasCounts e
 counts_of d e p s t h = record {
   some_programs = rw (← p) h.some_programs;
   most_programs = rw (← p) h.most_programs;

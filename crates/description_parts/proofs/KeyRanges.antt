@@ -35,7 +35,7 @@ pub map_all : {X Y : Type 0} (P : Y → Type 0) (Q : X → Type 0) (f : X → Y)
 map_all P Q f None h q = tt
 map_all P Q f (Some x) h q = h x q
 
-tested : (low high k : ℕ) (b c : Bool) → (b ≡ true → low ≤ k) → (c ≡ true → k ≤ high) → IfSome (if b && c then Some k else None) (Within low high)
+pub tested : (low high k : ℕ) (b c : Bool) → (b ≡ true → low ≤ k) → (c ≡ true → k ≤ high) → IfSome (if b && c then Some k else None) (Within low high)
 tested low high k true true l h = record { least = l refl; most = h refl }
 tested low high k true false l h = tt
 tested low high k false c l h = tt

@@ -3,6 +3,8 @@ pub mod KeyRanges
 pub mod TextRanges
 pub mod Counts
 pub mod ChannelRanges
+pub mod VersionRanges
+pub mod RoomLengths
 pub mod PartsInRange
 pub mod Distinct
 pub mod Declared

@@ -33,6 +33,7 @@ use Rattle.description_parts.proofs.TextRanges.{text_at-is, text_or-is, descript
 use Rattle.description_parts.proofs.TextRanges.{sections-are, weaker, then_tested}
 use Rattle.description_parts.proofs.ChannelRanges.{channels_are, two_are}
 use Rattle.description_parts.proofs.Counts.{HasLength}
+use Rattle.description_parts.proofs.VersionRanges.{version_at-is}
 
 pid_is : (key : List ℕ) (d : Data) → IsPid (unwrap_or (integer_at key (pos 32) (pos 8190) d) 32)
 pid_is key d = let w = integer_at-within key 32 8190 32 d (omega arith) (omega arith) in record { low = w.least; high = w.most }
@@ -74,6 +75,7 @@ pub program_is : (document d : Data) → IsProgram (described_program document d
 program_is document d =
     let number = integer_at-within (codes "number") 1 65535 1 d (omega arith) (omega arith) in
     let limit = integer_or-within (codes "pcr_limit") 1 100 40 1 d (omega arith) (omega arith) (omega arith) (omega arith) in
+    let packets = integer_or-within (codes "pmt_packets") 1 6 1 1 d (omega arith) (omega arith) (omega arith) (omega arith) in
     record {
       some_number = number.least;
       most_number = number.most;
@@ -81,6 +83,10 @@ program_is document d =
       pcr_pid = clock_is document d;
       some_limit = limit.least;
       most_limit = limit.most;
+      some_packets = packets.least;
+      most_packets = packets.most;
+      pmt_version = version_at-is 3 (described_number d) document;
+      eit_count = version_at-is 4 (described_number d) document;
       descriptors = descriptors-is (codes "descriptors") d;
       service_type = (integer_or-within (codes "service_type") 0 255 1 0 d (omega arith) (omega arith) (omega arith) (omega arith)).most;
       provider = text_or-is 100 (codes "provider") d;

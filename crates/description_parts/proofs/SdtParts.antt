@@ -9,7 +9,7 @@ use Rattle.std.proofs.lemmas.Option.{get_or_from_slice_get, slice_get_within}
 use Rattle.description_parts.specs.Described.{DescribedProgram}
 use Rattle.description_parts.specs.Ranges.{IsProgram}
 use Rattle.description_parts.specs.SdtParts.{AreSdtParts, SdtPartsLaw, all_services, services_taken}
-use Rattle.description_parts.specs.Tables.{most_services, sdt_length, service_length, services_cut, takes_service}
+use Rattle.description_parts.specs.Tables.{most_services, service_length, services_cut, takes_service}
 
 -- The first section, and the sections after it
 abbrev sections_of : List DescribedProgram → List (List DescribedProgram)
@@ -169,22 +169,23 @@ pub sdt_parts_law : SdtPartsLaw
 sdt_parts_law d h = parts_are d.is_transponder d.programs h.some_programs h.programs
 
 -- The lengths of one more section
-lengths_more : (parts : List (List DescribedProgram)) (i : ℕ) (ps : List DescribedProgram) → slice_get parts i ≡ Some ps
-    → map sdt_length (take i parts) ++ sdt_length ps ∷ [] ≡ map sdt_length (take (i + 1) parts)
-lengths_more parts i ps h =
+lengths_more : (f : List DescribedProgram → ℕ) (parts : List (List DescribedProgram)) (i : ℕ) (ps : List DescribedProgram)
+    → slice_get parts i ≡ Some ps → map f (take i parts) ++ f ps ∷ [] ≡ map f (take (i + 1) parts)
+lengths_more f parts i ps h =
     let within = slice_get_within parts i ps h in
-    sym (ap (map sdt_length) (take_more parts i ps within) ∙ map-append sdt_length (take i parts) (get_or parts i ps ∷ [])
-    ∙ ap (λ (x : List DescribedProgram). map sdt_length (take i parts) ++ sdt_length x ∷ []) (get_or_from_slice_get parts i ps ps h))
+    sym (ap (map f) (take_more parts i ps within) ∙ map-append f (take i parts) (get_or parts i ps ∷ [])
+    ∙ ap (λ (x : List DescribedProgram). map f (take i parts) ++ f x ∷ []) (get_or_from_slice_get parts i ps ps h))
 
-pub lengths_pushed : (parts : List (List DescribedProgram)) (i : ℕ) (ps : List DescribedProgram) (lengths new : List ℕ) (n : ℕ)
-    → new ≡ lengths ++ n ∷ [] → lengths ≡ map sdt_length (take i parts) → n ≡ sdt_length ps → slice_get parts i ≡ Some ps
-    → new ≡ map sdt_length (take (i + 1) parts)
-lengths_pushed parts i ps lengths new n pushed before one h = rw (pushed, before, one) (lengths_more parts i ps h)
+pub lengths_pushed : (f : List DescribedProgram → ℕ) (parts : List (List DescribedProgram)) (i : ℕ) (ps : List DescribedProgram)
+    (lengths new : List ℕ) (n : ℕ)
+    → new ≡ lengths ++ n ∷ [] → lengths ≡ map f (take i parts) → n ≡ f ps → slice_get parts i ≡ Some ps → new ≡ map f (take (i + 1) parts)
+lengths_pushed f parts i ps lengths new n pushed before one h = rw (pushed, before, one) (lengths_more f parts i ps h)
 
 pub past_none : {X : Type 0} (xs : List X) (i : ℕ) → slice_get xs i ≡ None → length xs ≤ i
 past_none [] i h = omega arith
 past_none (x ∷ xs) zero h = absurd (cc)
 past_none (x ∷ xs) (suc i) h = let rest = past_none xs i h in omega (arith, rest)
 
-pub lengths_all : (parts : List (List DescribedProgram)) (i : ℕ) → length parts ≤ i → map sdt_length (take i parts) ≡ map sdt_length parts
-lengths_all parts i h = ap (map sdt_length) (take_all i parts h)
+pub lengths_all : (f : List DescribedProgram → ℕ) (parts : List (List DescribedProgram)) (i : ℕ) → length parts ≤ i
+    → map f (take i parts) ≡ map f parts
+lengths_all f parts i h = ap (map f) (take_all i parts h)

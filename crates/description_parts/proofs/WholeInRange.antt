@@ -12,7 +12,8 @@ use Rattle.toml.specs.Data.{Data, get}
 use Rattle.description_parts.specs.Described.{Described, DescribedNetwork}
 use Rattle.description_parts.specs.Ranges.{IsInRange, IsNetwork, IsProgram, IsStream, IsTable, IsListed, IsSharing, named_pids, program_numbers}
 use Rattle.description_parts.specs.Ranges.{longest_section}
-use Rattle.description_parts.specs.Tables.{only_if, has_event, kind_lengths, service_tables, table_kinds, pmt_length, nit_length, numbers_from}
+use Rattle.description_parts.specs.Tables.{only_if, has_events_table, kind_lengths, service_tables, table_kinds, pmt_length, map_length, nit_length, network_length}
+use Rattle.description_parts.specs.Tables.{most_bytes, numbers_from}
 use Rattle.description_values.specs.Values.{integer_in, is_distinct}
 use Rattle.description_keys.specs.ProgramKeys.{clock_pid_in, program_pcr_pid, refuses_pcr_pid}
 use Rattle.description_keys.specs.StreamKeys.{owner_number, has_owner, has_sharers, stream_sharers}
@@ -33,12 +34,17 @@ use Rattle.description_parts.proofs.Declared.{owner_declared}
 use Rattle.description_parts.proofs.NamedSharers.{AreSharers, sharers_are}
 use Rattle.description_parts.proofs.Distinct.{IsDistinct-is, most_events}
 use Rattle.description_parts.proofs.TableNumbers.{table_kind-pmt}
+use Rattle.description_parts.proofs.RoomLengths.{room_least, rooms_are}
+use Rattle.description_parts.proofs.VersionRanges.{version_at-is}
 
 -- The parts together cause no refusal.
 pub record NoJointFault (d : Described) : Type 0 where
   pub pids : is_distinct (named_pids d) ≡ true
   pub numbers : is_distinct (program_numbers d) ≡ true
   pub lengths : list_any (is_too_long d) (table_kinds d) ≡ false
+
+within_trans : {a b c : ℕ} → a ≤ b → b ≤ c → a ≤ c
+within_trans h k = omega arith
 
 not_some : {X : Type 0} (b : Bool) (x : X) → (if b then None else Some x) ≡ None → b ≡ true
 not_some true x h = refl
@@ -82,19 +88,23 @@ pmt_fits : (d : Described) → list_any (is_too_long d) (table_kinds d) ≡ fals
 pmt_fits d h = λ k other within.
     let is : suc k - 1 ≡ k = omega arith in
     let at : slice_get (table_kinds d) (suc k) ≡ Some (Pmt k) = sym (table_kind-pmt d (suc k) (omega arith) (omega arith)) ∙ ap (λ (i : ℕ). Some (Pmt i)) is in
-    one_length (pmt_length d) (slice_get d.programs k) (get_or d.programs k other) (slice_get-get_or d.programs k other within)
-    (none_at (is_too_long d) (table_kinds d) (suc k) (Pmt k) h at)
+    let p = get_or d.programs k other in
+    within_trans (room_least most_bytes p.pmt_packets (pmt_length d p))
+    (one_length (map_length d) (slice_get d.programs k) p (slice_get-get_or d.programs k other within)
+    (none_at (is_too_long d) (table_kinds d) (suc k) (Pmt k) h at))
 
 -- Neither the NIT nor the SDT is too long.
 only_none : {X : Type 0} (p : X → Bool) (b : Bool) (x : X) → list_any p (only_if b x) ≡ false → b ≡ true → p x ≡ false
 only_none p true x h is = (or_parts (p x) false h).0
 only_none p false x h is = absurd (cc)
 
-network_fits : (o : Option DescribedNetwork) → (is_some o ≡ true → list_any (nat_lt longest_section) (map nit_length (option_to_list o)) ≡ false)
+network_fits : (d : Described) (o : Option DescribedNetwork)
+    → (is_some o ≡ true → list_any (nat_lt longest_section) (map (network_length d) (option_to_list o)) ≡ false)
     → All (λ n. nit_length n ≤ longest_section) (option_to_list o)
-network_fits None h = All-nil (λ n. nit_length n ≤ longest_section)
-network_fits (Some n) h =
-    All-cons (λ n. nit_length n ≤ longest_section) n [] (one_length nit_length (Some n) n refl (h refl)) (All-nil (λ n. nit_length n ≤ longest_section))
+network_fits d None h = All-nil (λ n. nit_length n ≤ longest_section)
+network_fits d (Some n) h =
+    let fits = within_trans (room_least most_bytes d.rooms.nit (nit_length n)) (one_length (network_length d) (Some n) n refl (h refl)) in
+    All-cons (λ n. nit_length n ≤ longest_section) n [] fits (All-nil (λ n. nit_length n ≤ longest_section))
 
 all_short : (ls : List ℕ) → list_any (nat_lt longest_section) ls ≡ false → All (λ l. l ≤ longest_section) ls
 all_short [] h = All-nil (λ l. l ≤ longest_section)
@@ -115,13 +125,13 @@ services_fit d h =
     let services = or_parts (list_any p (service_tables d)) (list_any p last) (sym (list_any-append p (service_tables d) last) ∙ whole.1) in
     let nit : List TableKind = only_if (is_some d.network) Nit in
     let sdt : List TableKind = only_if d.has_sdt Sdt in
-    let eit : List TableKind = only_if (list_any has_event d.programs) Eit in
+    let eit : List TableKind = only_if (has_events_table d) Eit in
     let tdt : List TableKind = only_if d.has_tdt Tdt in
     let three = or_parts (list_any p ((nit ++ sdt) ++ eit)) (list_any p tdt) (sym (list_any-append p ((nit ++ sdt) ++ eit) tdt) ∙ services.0) in
     let two = or_parts (list_any p (nit ++ sdt)) (list_any p eit) (sym (list_any-append p (nit ++ sdt) eit) ∙ three.0) in
     let one = or_parts (list_any p nit) (list_any p sdt) (sym (list_any-append p nit sdt) ∙ two.0) in
     record {
-      nit = network_fits d.network (only_none p (is_some d.network) Nit one.0);
+      nit = network_fits d d.network (only_none p (is_some d.network) Nit one.0);
       sdt = λ is. all_short (kind_lengths d Sdt) (only_none p d.has_sdt Sdt one.1 is);
     }
 
@@ -176,9 +186,6 @@ clock_shared document part accepted other =
 clocks_shared : (d : Data) → NoFault d → All (λ part. has_own_clock part ≡ false → clock_pid_of d ≡ Some (clock_pid_in d part)) (programs_of d)
 clocks_shared d none = λ k other within. clock_shared d (get_or (programs_of d) k other) (none.program.1.1.0 k other within)
 
-within_trans : {a b c : ℕ} → a ≤ b → b ≤ c → a ≤ c
-within_trans h k = omega arith
-
 network_in_range : (document : Data) (o : Option Data) → All IsNetwork (option_to_list (option_map (described_network document) o))
 network_in_range document None = All-nil IsNetwork
 network_in_range document (Some n) = All-cons IsNetwork (described_network document n) [] (network_is document n) (All-nil IsNetwork)
@@ -203,6 +210,8 @@ described-in_range document keys joint =
       base0 = omega (arith, base0);
       transport_stream_id = (integer_at-within (codes "ts_id") 0 65535 0 document (omega arith) (omega arith)).most;
       original_network_id = (integer_at-within (codes "original_network_id") 0 65535 0 document (omega arith) (omega arith)).most;
+      rooms = rooms_are document;
+      versions = record { pat = version_at-is 0 0 document; sdt = version_at-is 2 0 document; nit = version_at-is 1 0 document };
       network = network_in_range document (network_of document);
       some_programs = counts.some_programs;
       most_programs = counts.most_programs;

@@ -1,15 +1,18 @@
 -- What a document describes: each key's value, with the least value of its range if the key is refused. (The
 -- document is refused then, and no description has that value.)
-use Rattle.std.specs.Prelude.{ℕ, false, List, [], ◌++◌, Option, None, Some, map, filter, unwrap_or, option_map, codes, if◌then◌else◌}
+use Rattle.std.specs.Prelude.{ℕ, true, false, List, [], ◌++◌, Option, None, Some, map, filter, unwrap_or, option_map, codes, if◌then◌else◌}
 use Rattle.std.specs.List.{filter_map}
 use Rattle.toml.specs.Data.{Data}
 use Rattle.description_parts.specs.Channels.{described_channels}
+use Rattle.description_parts.specs.declared.rooms.Rooms.{Rooms}
+use Rattle.description_parts.specs.declared.versions.Versions.{Versions}
 use Rattle.description_parts.specs.Described.{Described, DescribedNetwork, DescribedProgram, DescribedStream, DescribedEvent, DescribedEntry, DescribedTable}
 use Rattle.description_values.specs.Values.{elements, section_in}
 use Rattle.description_keys.specs.TopKeys as top
+use Rattle.description_keys.specs.VersionKeys.{version_at}
 use Rattle.description_keys.specs.NetworkKeys.{network_id, network_name, network_descriptors}
 use Rattle.description_keys.specs.ProgramKeys.{program_number, program_pmt_pid, clock_pid_in, program_pcr_limit, program_descriptors, program_service_type}
-use Rattle.description_keys.specs.ProgramKeys.{program_provider, program_name}
+use Rattle.description_keys.specs.ProgramKeys.{program_provider, program_name, program_pmt_packets, program_on_air}
 use Rattle.description_keys.specs.StreamKeys.{owner_number, is_owned_by, stream_sharers, stream_pid, id_or_private, stream_type, stream_interval, stream_size}
 use Rattle.description_keys.specs.StreamKeys.{stream_lead, stream_pts_limit, stream_rx, stream_main, stream_tag, stream_language, stream_descriptors}
 use Rattle.description_keys.specs.StreamKeys.{stream_allowance, stream_multiplexing, stream_framing}
@@ -52,6 +55,10 @@ described_program document program = record {
   pcr_pid = clock_pid_in document program;
   has_clock = top.has_own_clock program;
   pcr_limit = unwrap_or (program_pcr_limit program) 1;
+  pmt_packets = unwrap_or (program_pmt_packets program) 1;
+  is_on_air = unwrap_or (program_on_air program) true;
+  pmt_version = version_at 3 (described_number program) document;
+  eit_count = version_at 4 (described_number program) document;
   descriptors = unwrap_or (program_descriptors program) [];
   service_type = unwrap_or (program_service_type program) 0;
   provider = unwrap_or (program_provider program) [];
@@ -101,6 +108,19 @@ described_table part = record {
   entry = entry_if_listed part;
 }
 
+-- the packets of sections
+abbrev pub described_rooms : Data → Rooms
+described_rooms document = record {
+  pat = unwrap_or (top.pat_packets document) 1;
+  sdt = unwrap_or (top.sdt_packets document) 1;
+  nit = unwrap_or (top.nit_packets document) 1;
+  eit = unwrap_or (top.eit_packets document) 2;
+}
+
+-- the versions that no program has: 0 without a text
+abbrev pub described_versions : Data → Versions
+described_versions document = record { pat = version_at 0 0 document; sdt = version_at 2 0 document; nit = version_at 1 0 document }
+
 abbrev pub described : Data → Described
 described document = record {
   rate = unwrap_or (top.rate document) 100000;
@@ -112,6 +132,9 @@ described document = record {
   has_tdt = unwrap_or (top.has_tdt document) false;
   is_transponder = top.is_transponder document;
   clock_pid = top.clock_pid_of document;
+  has_eit = top.has_eit document;
+  rooms = described_rooms document;
+  versions = described_versions document;
   network = option_map (described_network document) (network_of document);
   programs = map (described_program document) (programs_of document);
   streams = map described_stream (streams_of document);

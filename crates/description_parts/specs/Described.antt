@@ -4,7 +4,9 @@ use Rattle.std.specs.Prelude.{ℕ, Bool, List, Option}
 use Rattle.dvb_tables.specs.declared.schedule.Event.{Event}
 use Rattle.description_parts.specs.declared.map_entry.MapEntry.{MapEntry}
 use Rattle.description_parts.specs.declared.network.Network.{Network}
+use Rattle.description_parts.specs.declared.rooms.Rooms.{Rooms}
 use Rattle.description_parts.specs.declared.stream.StreamDescription.{StreamDescription}
+use Rattle.description_parts.specs.declared.versions.Versions.{Versions}
 
 -- the network that the stream belongs to (EN 300 468, 5.2.1)
 abbrev pub DescribedNetwork : Type 0
@@ -25,13 +27,18 @@ event_view e = record { id = e.id; start = e.start; duration = e.duration; langu
 
 -- one program (ISO/IEC 13818-1, 2.4.4.8) and its service (EN 300 468, 5.2.3), with its events in order of start;
 -- pcr_pid is the PID of its PCRs, has_clock whether these are its own or the ones that programs share, pcr_limit the greatest time
--- between two of them, in ms
+-- between two of them, in ms; pmt_packets is the least number of packets of its PMT's section, is_on_air whether its streams are in its PMT,
+-- pmt_version the version_number there, and eit_count the number from which the version_number of its sections of the EIT is counted
 pub record DescribedProgram : Type 0 where
   pub number : ℕ
   pub pmt_pid : ℕ
   pub pcr_pid : ℕ
   pub has_clock : Bool
   pub pcr_limit : ℕ
+  pub pmt_packets : ℕ
+  pub is_on_air : Bool
+  pub pmt_version : ℕ
+  pub eit_count : ℕ
   pub descriptors : List ℕ
   pub service_type : ℕ
   pub provider : List ℕ
@@ -59,7 +66,8 @@ pub record DescribedTable : Type 0 where
   pub entry : Option DescribedEntry
 
 -- the whole: rate in bits a second, start the moment of the first slot, base0 the system clock's first value (90 kHz), is_transponder
--- whether it has the limits of a whole transponder, clock_pid the PID of the PCRs that programs share
+-- whether it has the limits of a whole transponder, clock_pid the PID of the PCRs that programs share, has_eit whether each program has two
+-- sections in the EIT, also without an event, rooms the packets of sections, versions the version_number of PAT, NIT and SDT
 pub record Described : Type 0 where
   pub rate : ℕ
   pub start : ℕ
@@ -70,6 +78,9 @@ pub record Described : Type 0 where
   pub has_tdt : Bool
   pub is_transponder : Bool
   pub clock_pid : Option ℕ
+  pub has_eit : Bool
+  pub rooms : Rooms
+  pub versions : Versions
   pub network : Option DescribedNetwork
   pub programs : List DescribedProgram
   pub streams : List DescribedStream

@@ -1,5 +1,6 @@
 pub mod Described
 pub mod Tables
+pub mod Numbers
 pub mod Ranges
 pub mod SdtParts
 pub mod Shown

@@ -12,7 +12,9 @@ use Rattle.unit_timing.specs.declared.multiplexing_buffer.MultiplexingBuffer.{Mu
 use Rattle.description_parts.specs.Described.{Described, DescribedNetwork, DescribedProgram, DescribedStream, DescribedEvent, DescribedEntry, DescribedTable}
 use Rattle.description_values.specs.Values.{is_one_section}
 use Rattle.description_parts.specs.Tables.{pmt_length, nit_length, kind_lengths, greatest_unit_packets}
+use Rattle.description_parts.specs.declared.rooms.Rooms.{Rooms}
 use Rattle.description_parts.specs.declared.table_kind.TableKind.TheVariants.{Sdt}
+use Rattle.description_parts.specs.declared.versions.Versions.{Versions}
 
 -- a PID that a description may name (ISO/IEC 13818-1, table 2-3, less the PIDs of EN 300 468)
 pub record IsPid (pid : ℕ) : Type 0 where
@@ -54,11 +56,32 @@ pub record IsProgram (p : DescribedProgram) : Type 0 where
   pub pcr_pid : IsPid p.pcr_pid
   pub some_limit : 1 ≤ p.pcr_limit
   pub most_limit : p.pcr_limit ≤ 100
+  pub some_packets : 1 ≤ p.pmt_packets
+  pub most_packets : p.pmt_packets ≤ 6
+  pub pmt_version : p.pmt_version < 32
+  pub eit_count : p.eit_count < 32
   pub descriptors : IsBytes 700 p.descriptors
   pub service_type : p.service_type ≤ 255
   pub provider : IsBytes 100 p.provider
   pub name : IsBytes 100 p.name
   pub events : All IsEvent p.events
+
+-- the packets of a section of the PAT, the SDT, the NIT and the EIT
+pub record AreRooms (r : Rooms) : Type 0 where
+  pub some_pat : 1 ≤ r.pat
+  pub most_pat : r.pat ≤ 6
+  pub some_sdt : 1 ≤ r.sdt
+  pub most_sdt : r.sdt ≤ 6
+  pub some_nit : 1 ≤ r.nit
+  pub most_nit : r.nit ≤ 6
+  pub some_eit : 2 ≤ r.eit
+  pub most_eit : r.eit ≤ 23
+
+-- version_number, five bits (ISO/IEC 13818-1, 2.4.4.5)
+pub record AreVersions (v : Versions) : Type 0 where
+  pub pat : v.pat < 32
+  pub sdt : v.sdt < 32
+  pub nit : v.nit < 32
 
 -- the stream_ids that a stream may have (ISO/IEC 13818-1, table 2-22): private_stream_1, audio and video
 abbrev pub IsStreamId : ℕ → Type 0
@@ -182,6 +205,8 @@ pub record IsInRange (d : Described) : Type 0 where
   pub base0 : d.base0 < 2 ^ 33
   pub transport_stream_id : d.transport_stream_id ≤ 65535
   pub original_network_id : d.original_network_id ≤ 65535
+  pub rooms : AreRooms d.rooms
+  pub versions : AreVersions d.versions
   pub network : All IsNetwork (option_to_list d.network)
   pub some_programs : 1 ≤ length d.programs
   pub most_programs : length d.programs ≤ 64

@@ -1,5 +1,5 @@
 -- The tables of a description: their numbers, PIDs, limits, sections and lengths (EN 300 468, 5.1.3; TR 101 290, 5.2).
-use Rattle.std.specs.Prelude.{ℕ, ◌+◌, ◌*◌, ◌/◌, ◌%◌, max, not, ◌||◌, Bool, List, [], ◌∷◌, ◌++◌, Option, None, Some, is_some, length, map, filter, sum_by, nat_le}
+use Rattle.std.specs.Prelude.{ℕ, ◌+◌, ◌*◌, ◌/◌, ◌%◌, ◌-◌, max, min, not, ◌||◌, Bool, List, [], ◌∷◌, ◌++◌, Option, None, Some, is_some, length, map, filter, sum_by, nat_le}
 use Rattle.std.specs.Prelude.{slice_index_or, slice_get, option_and_then, position, unwrap_or, ◌==◌, if◌then◌else◌}
 use Rattle.std.specs.List.{list_any}
 use Rattle.std.specs.Option.{option_to_list}
@@ -27,12 +27,19 @@ clock_of d i = elim (slice_get d.programs i) [ None ↦ i | Some p ↦ if p.has_
 abbrev pub has_references : Described → ℕ → Bool
 has_references d i = clock_of d i == i
 
--- the programs that have an event
+-- the programs in the EIT: all, or those that have an event
 abbrev pub has_event : DescribedProgram → Bool
 has_event p = nat_le 1 (length p.events)
 
+abbrev pub is_scheduled : Bool → DescribedProgram → Bool
+is_scheduled all p = all || has_event p
+
 abbrev pub scheduled_programs : Described → List DescribedProgram
-scheduled_programs d = filter has_event d.programs
+scheduled_programs d = filter (is_scheduled d.has_eit) d.programs
+
+-- the description has an EIT
+abbrev pub has_events_table : Described → Bool
+has_events_table d = d.has_eit || list_any has_event d.programs
 
 -- the element alone if the test holds, otherwise nothing
 abbrev pub only_if : {X : Type 0} → Bool → X → List X
@@ -40,7 +47,7 @@ only_if b x = if b then x ∷ [] else []
 
 -- which of NIT, SDT, EIT and TDT the description has
 abbrev pub service_tables : Described → List TableKind
-service_tables d = only_if (is_some d.network) Nit ++ only_if d.has_sdt Sdt ++ only_if (list_any has_event d.programs) Eit ++ only_if d.has_tdt Tdt
+service_tables d = only_if (is_some d.network) Nit ++ only_if d.has_sdt Sdt ++ only_if (has_events_table d) Eit ++ only_if d.has_tdt Tdt
 
 -- the tables in the order of their numbers: PAT, the PMTs in the order of the programs, NIT, SDT, EIT and TDT as far as the
 -- description has them, the private tables
@@ -74,6 +81,18 @@ kind_limit d Sdt = 2000
 kind_limit d Eit = 2000
 kind_limit d Tdt = 30000
 kind_limit d (Private i) = elim (slice_get d.tables i) [ None ↦ 0 | Some private ↦ private.limit ]
+
+-- the greatest length of a section whose text takes l bytes, if the section has room for a number of packets, with the pointer_field before it,
+-- and has at most `most` bytes: one packet reserves nothing
+abbrev pub room_length : ℕ → ℕ → ℕ → ℕ
+room_length most packets l = if packets == 1 then l else max l (min most (184 * packets - 1))
+
+-- the most bytes of a section of an EIT (EN 300 468, 5.2.4), and of any other table but a private one (5.1.1)
+abbrev pub most_eit_bytes : ℕ
+most_eit_bytes = 4096
+
+abbrev pub most_bytes : ℕ
+most_bytes = 1024
 
 -- the bytes of a long section around its body: the header's 8 and the check word's 4
 abbrev pub section_overhead : ℕ
@@ -152,12 +171,20 @@ longest_event (e ∷ es) = max (event_length e) (longest_event es)
 abbrev pub eit_length : DescribedProgram → ℕ
 eit_length p = section_overhead + 6 + longest_event p.events
 
--- the lengths of each program's two sections, for the present event and for the following event
-abbrev pub eit_lengths : List DescribedProgram → List ℕ
-eit_lengths [] = []
-eit_lengths (p ∷ ps) = eit_length p ∷ eit_length p ∷ eit_lengths ps
+-- the packets of each section of the EIT: one reserves nothing
+abbrev pub eit_room : Described → ℕ
+eit_room d = if d.has_eit then d.rooms.eit else 1
 
--- the place, among the programs with an event, of the program of a section of the EIT, and the section's section_number (EN 300 468,
+-- the greatest length of a section of a program, with room for so many packets
+abbrev pub schedule_length : ℕ → DescribedProgram → ℕ
+schedule_length packets p = room_length most_eit_bytes packets (eit_length p)
+
+-- the lengths of each program's two sections, for the present event and for the following event
+abbrev pub eit_lengths : ℕ → List DescribedProgram → List ℕ
+eit_lengths packets [] = []
+eit_lengths packets (p ∷ ps) = schedule_length packets p ∷ schedule_length packets p ∷ eit_lengths packets ps
+
+-- the place, among the programs in the EIT, of the program of a section of the EIT, and the section's section_number (EN 300 468,
 -- 5.2.4): for a transponder the sections for the present events are first, otherwise a program's two sections follow one another
 abbrev pub eit_place : Described → ℕ → ℕ × ℕ
 eit_place d j = if d.is_transponder then (j % length (scheduled_programs d), j / length (scheduled_programs d)) else (j / 2, j % 2)
@@ -165,14 +192,25 @@ eit_place d j = if d.is_transponder then (j % length (scheduled_programs d), j /
 abbrev pub tdt_length : ℕ
 tdt_length = 8
 
+-- the greatest lengths of a program's PMT, of the NIT and of a section of the SDT, with their rooms
+abbrev pub map_length : Described → DescribedProgram → ℕ
+map_length d p = room_length most_bytes p.pmt_packets (pmt_length d p)
+
+abbrev pub network_length : Described → DescribedNetwork → ℕ
+network_length d n = room_length most_bytes d.rooms.nit (nit_length n)
+
+abbrev pub services_length : Described → List DescribedProgram → ℕ
+services_length d ps = room_length most_bytes d.rooms.sdt (sdt_length ps)
+
 -- the greatest length of each section of a table, in bytes, in the order of the sections
 abbrev pub kind_lengths : Described → TableKind → List ℕ
-kind_lengths d Pat = pat_length d ∷ []
-kind_lengths d (Pmt p) = map (pmt_length d) (option_to_list (slice_get d.programs p))
-kind_lengths d Nit = map nit_length (option_to_list d.network)
-kind_lengths d Sdt = map sdt_length (sdt_parts d)
-kind_lengths d Eit = if d.is_transponder then map eit_length (scheduled_programs d) ++ map eit_length (scheduled_programs d)
-    else eit_lengths (scheduled_programs d)
+kind_lengths d Pat = room_length most_bytes d.rooms.pat (pat_length d) ∷ []
+kind_lengths d (Pmt p) = map (map_length d) (option_to_list (slice_get d.programs p))
+kind_lengths d Nit = map (network_length d) (option_to_list d.network)
+kind_lengths d Sdt = map (services_length d) (sdt_parts d)
+kind_lengths d Eit = if d.is_transponder
+    then map (schedule_length (eit_room d)) (scheduled_programs d) ++ map (schedule_length (eit_room d)) (scheduled_programs d)
+    else eit_lengths (eit_room d) (scheduled_programs d)
 kind_lengths d Tdt = tdt_length ∷ []
 kind_lengths d (Private i) = elim (slice_get d.tables i) [ None ↦ [] | Some private ↦ map length private.sections ]
 

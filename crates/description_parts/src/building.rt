@@ -17,15 +17,19 @@ use crate::map_entry::MapEntry;
 use crate::network::{Network, NetworkDescriptors};
 use crate::private_table::PrivateTable;
 use crate::program::ProgramDescription;
+use crate::rooms::Rooms;
 use crate::stream::StreamDescription;
+use crate::versions::Versions;
 use arrayvec::ArrayVec;
 use clock27::Rate;
 use description_keys::clock_keys::{clock_pid, clock_pid_in, has_own_clock};
+use description_keys::eit_keys::has_eit;
 use description_keys::frame_keys::framing;
 use description_keys::limits::is_transponder;
 use description_keys::multiplexing_keys::multiplexing;
 use description_keys::owner::{is_owned_by, owner_number, program_number};
 use description_keys::sharers::sharers;
+use description_keys::version_keys::version_at;
 use description_keys::{stream_keys, table_keys};
 use description_values::arrays::elements;
 use description_values::descriptors::descriptors_or_none;
@@ -102,6 +106,10 @@ fn program_of(
         pcr_pid: clock_pid_in(document, program),
         has_clock: has_own_clock(program),
         pcr_limit: number_or(40, program, "pcr_limit", 1, 100) as u8,
+        pmt_packets: number_or(1, program, "pmt_packets", 1, 6) as u8,
+        is_on_air: boolean_or(true, program, "on_air").unwrap_or(true),
+        pmt_version: version_at(3, number, document),
+        eit_count: version_at(4, number, document),
         descriptors: descriptors_or_none(program, "descriptors").unwrap_or(DescriptorLoop::none()),
         service_type: number_or(1, program, "service_type", 0, 255) as u8,
         provider: text_or_empty(program, "provider").unwrap_or(empty_text()),
@@ -230,6 +238,27 @@ fn rate_of(document: &Value) -> Rate
     }
 }
 
+fn rooms_of(document: &Value) -> Rooms
+    ensures { result ≡ spec.described_rooms (view document.now) }
+{
+    Rooms {
+        pat: number_or(1, document, "pat_packets", 1, 6) as u8,
+        sdt: number_or(1, document, "sdt_packets", 1, 6) as u8,
+        nit: number_or(1, document, "nit_packets", 1, 6) as u8,
+        eit: number_or(2, document, "eit_packets", 2, 23) as u8,
+    }
+}
+
+fn versions_of(document: &Value) -> Versions
+    ensures { result ≡ spec.described_versions (view document.now) }
+{
+    Versions {
+        pat: version_at(0, 0, document),
+        sdt: version_at(2, 0, document),
+        nit: version_at(1, 0, document),
+    }
+}
+
 /// Returns the contents of a document whose keys are all in their ranges.
 pub fn contents_of(alloc: Global, document: &Value) -> Result<Contents, AllocError>
     requires { refusals.key_fault (view document.now) ≡ None }
@@ -248,6 +277,9 @@ pub fn contents_of(alloc: Global, document: &Value) -> Result<Contents, AllocErr
         has_tdt: boolean_or(false, document, "tdt").unwrap_or(false),
         is_transponder: is_transponder(document),
         clock_pid: clock_pid(document),
+        has_eit: has_eit(document),
+        rooms: rooms_of(document),
+        versions: versions_of(document),
         network: network_in(document),
         programs,
         streams,

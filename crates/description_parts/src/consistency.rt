@@ -12,7 +12,6 @@ ghost use Rattle.description_parts.specs.Consistency as spec;
 use crate::contents::Contents;
 use crate::private_table::PrivateTable;
 use crate::program::ProgramDescription;
-use crate::section_lengths::nit_length;
 use crate::stream::StreamDescription;
 use crate::table_kind::TableKind;
 use arrayvec::ArrayVec;
@@ -172,11 +171,11 @@ impl Contents {
         match kind {
             TableKind::Pmt(place) => match self.programs().get(place) {
                 None => false,
-                Some(program) => self.pmt_length(program) > 1024,
+                Some(program) => self.map_length(program) > 1024,
             },
             TableKind::Nit => match self.network() {
                 None => false,
-                Some(network) => nit_length(network) > 1024,
+                Some(network) => self.network_length(network) > 1024,
             },
             TableKind::Sdt => has_long(self.sdt_lengths().as_slice()),
             TableKind::Pat | TableKind::Eit | TableKind::Tdt | TableKind::Private(_) => false,

@@ -5,7 +5,9 @@ ghost use Rattle.std.specs.Prelude.{◌≡◌, option_map};
 use crate::network::Network;
 use crate::private_table::PrivateTable;
 use crate::program::ProgramDescription;
+use crate::rooms::Rooms;
 use crate::stream::StreamDescription;
+use crate::versions::Versions;
 use clock27::Rate;
 use std::marker::Model;
 
@@ -23,6 +25,10 @@ pub struct Contents {
     pub is_transponder: bool,
     /// The PID of the clock references that programs share.
     pub clock_pid: Option<u16>,
+    /// Whether each program has two sections in the EIT, also without an event.
+    pub has_eit: bool,
+    pub rooms: Rooms,
+    pub versions: Versions,
     pub network: Option<Network>,
     pub programs: Vec<ProgramDescription>,
     pub streams: Vec<StreamDescription>,
@@ -102,5 +108,26 @@ impl Contents {
         ensures { result ≡ self.now.clock_pid }
     {
         self.clock_pid
+    }
+
+    /// Returns whether each program has two sections in the EIT, also without an event.
+    pub fn has_eit(&self) -> bool
+        ensures { result ≡ self.now.has_eit }
+    {
+        self.has_eit
+    }
+
+    /// Returns the packets that it reserves for sections.
+    pub fn rooms(&self) -> Rooms
+        ensures { result ≡ self.now.rooms }
+    {
+        self.rooms
+    }
+
+    /// Returns the versions of PAT, SDT and NIT.
+    pub fn versions(&self) -> Versions
+        ensures { result ≡ self.now.versions }
+    {
+        self.versions
     }
 }

@@ -11,11 +11,14 @@ mod map_entry;
 mod network;
 mod private_table;
 mod program;
+mod rooms;
 mod stream;
+mod versions;
 
 // Tables: their numbers, the lengths of their sections, the services of the SDT. Whose clock references programs have.
 mod clocks;
 pub mod laws;
+mod numbers;
 mod sdt_parts;
 pub mod section_lengths;
 pub mod table_kind;
@@ -30,5 +33,7 @@ pub use map_entry::MapEntry;
 pub use network::{Network, NetworkDescriptors};
 pub use private_table::PrivateTable;
 pub use program::ProgramDescription;
+pub use rooms::Rooms;
 pub use stream::StreamDescription;
 pub use table_kind::TableKind;
+pub use versions::Versions;

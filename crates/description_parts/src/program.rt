@@ -15,6 +15,10 @@ pub struct ProgramDescription {
     pub(crate) pcr_pid: u16,
     pub(crate) has_clock: bool,
     pub(crate) pcr_limit: u8,
+    pub(crate) pmt_packets: u8,
+    pub(crate) is_on_air: bool,
+    pub(crate) pmt_version: u8,
+    pub(crate) eit_count: u8,
     pub(crate) descriptors: DescriptorLoop,
     pub(crate) service_type: u8,
     pub(crate) provider: Text<100>,
@@ -34,6 +38,10 @@ impl Model for ProgramDescription {
       pcr_pid = p.pcr_pid;
       has_clock = p.has_clock;
       pcr_limit = p.pcr_limit;
+      pmt_packets = p.pmt_packets;
+      is_on_air = p.is_on_air;
+      pmt_version = p.pmt_version;
+      eit_count = p.eit_count;
       descriptors = p.descriptors;
       service_type = p.service_type;
       provider = p.provider;
@@ -76,6 +84,34 @@ impl ProgramDescription {
         ensures { result ≡ self.now.pcr_limit }
     {
         self.pcr_limit
+    }
+
+    /// Returns the least number of packets of the section of its PMT.
+    pub fn pmt_packets(&self) -> u8
+        ensures { result ≡ self.now.pmt_packets }
+    {
+        self.pmt_packets
+    }
+
+    /// Returns whether its streams are in its PMT, and its service runs.
+    pub fn is_on_air(&self) -> bool
+        ensures { result ≡ self.now.is_on_air }
+    {
+        self.is_on_air
+    }
+
+    /// Returns version_number of its PMT.
+    pub fn pmt_version(&self) -> u8
+        ensures { result ≡ self.now.pmt_version }
+    {
+        self.pmt_version
+    }
+
+    /// Returns the number from which version_number of its sections of the EIT is counted.
+    pub fn eit_count(&self) -> u8
+        ensures { result ≡ self.now.eit_count }
+    {
+        self.eit_count
     }
 
     /// Returns its descriptors in its PMT.

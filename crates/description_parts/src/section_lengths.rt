@@ -1,6 +1,6 @@
 //! The greatest lengths of sections, over all moments.
 
-ghost use Rattle.std.specs.Prelude.{◌≡◌, ◌≤◌, ◌+◌, ◌++◌, [], ◌∷◌, length, map, sum_by, filter};
+ghost use Rattle.std.specs.Prelude.{◌≡◌, ◌≤◌, ◌+◌, ◌++◌, [], ◌∷◌, length, map, max, sum_by, filter};
 ghost use Rattle.arrayvec.specs.ArrayVec.{array_vec_len};
 ghost use Rattle.description_parts.specs.Described.{event_view};
 ghost use Rattle.description_parts.specs.Ranges.{IsInRange};
@@ -11,10 +11,25 @@ use crate::network::Network;
 use crate::private_table::PrivateTable;
 use crate::program::ProgramDescription;
 use crate::stream::StreamDescription;
-use crate::table_kind::{TableKind, has_event};
+use crate::table_kind::{TableKind, is_scheduled};
 use arrayvec::ArrayVec;
 use description_values::PrivateSection;
 use dvb_tables::Event;
+
+// Returns the greatest length of a section whose text takes `length` bytes, with room for a number of packets: at most `most`
+// bytes, and one packet reserves nothing.
+fn room_length(most: usize, packets: u8, length: usize) -> usize
+    ensures value { result ≡ spec.room_length most packets length }
+    ensures bound { result ≤ max length most }
+{
+    if packets == 1 {
+        return length;
+    }
+    usize::max(
+        length,
+        usize::min(most, (184 * packets as usize).saturating_sub(1)),
+    )
+}
 
 // Returns the number of bytes of a stream's descriptors in a PMT.
 fn es_info_length(stream: &StreamDescription) -> usize
@@ -105,7 +120,7 @@ pub(crate) fn service_length(program: &ProgramDescription) -> usize
     10 + program.provider().as_bytes().len() + program.name().as_bytes().len()
 }
 
-fn services_length(programs: &[ProgramDescription]) -> usize
+fn service_bytes(programs: &[ProgramDescription]) -> usize
     requires { length programs.now ≤ 64 }
     ensures value { result ≡ sum_by spec.service_length programs.now }
     ensures bound { result ≤ 13440 }
@@ -117,12 +132,13 @@ fn services_length(programs: &[ProgramDescription]) -> usize
     total
 }
 
-// Returns the length of a section of the SDT with these services.
-fn part_length(services: &[ProgramDescription]) -> u16
+// Returns the number of bytes of a section of the SDT with these services.
+fn sdt_length(services: &[ProgramDescription]) -> usize
     requires { length services.now ≤ 64 }
-    ensures { result ≡ spec.sdt_length services.now }
+    ensures value { result ≡ spec.sdt_length services.now }
+    ensures bound { result ≤ 13455 }
 {
-    15 + services_length(services) as u16
+    15 + service_bytes(services)
 }
 
 // Returns the number of bytes of an event in an EIT section.
@@ -144,7 +160,7 @@ fn longest_event(events: &[Event]) -> usize
     longest
 }
 
-pub(crate) fn nit_length(network: &Network) -> usize
+fn nit_length(network: &Network) -> usize
     ensures value { result ≡ spec.nit_length network.now }
     ensures bound { result ≤ 1190 }
 {
@@ -166,15 +182,22 @@ fn one(length: u16) -> ArrayVec<u16, 128>
     lengths
 }
 
+// Returns the greatest length of a section of a program, with room for a number of packets.
+fn schedule_length(packets: u8, program: &ProgramDescription) -> u16
+    ensures { result ≡ spec.schedule_length packets program.now }
+{
+    room_length(4096, packets, eit_length(program)) as u16
+}
+
 // Returns the lengths of each program's two sections.
-fn eit_lengths(programs: &[ProgramDescription]) -> ArrayVec<u16, 128>
+fn eit_lengths(all: bool, packets: u8, programs: &[ProgramDescription]) -> ArrayVec<u16, 128>
     requires { length programs.now ≤ 64 }
-    ensures { result.items ≡ spec.eit_lengths (filter spec.has_event programs.now) }
+    ensures { result.items ≡ spec.eit_lengths packets (filter (spec.is_scheduled all) programs.now) }
 {
     let mut lengths = ArrayVec::new();
     for program in programs {
-        if has_event(program) {
-            let length = eit_length(program) as u16;
+        if is_scheduled(all, program) {
+            let length = schedule_length(packets, program);
             lengths.push(length);
             lengths.push(length);
         }
@@ -182,28 +205,38 @@ fn eit_lengths(programs: &[ProgramDescription]) -> ArrayVec<u16, 128>
     lengths
 }
 
-// Appends the length of a section of each program that has an event.
-fn push_eit_lengths(lengths: &mut ArrayVec<u16, 128>, programs: &[ProgramDescription])
+// Appends the length of a section of each program.
+fn push_eit_lengths(
+    lengths: &mut ArrayVec<u16, 128>,
+    all: bool,
+    packets: u8,
+    programs: &[ProgramDescription],
+)
     requires { array_vec_len lengths.old + length programs.now ≤ 128 }
-    ensures value { lengths.new.items ≡ lengths.old.items ++ map spec.eit_length (filter spec.has_event programs.now) }
+    ensures value { lengths.new.items ≡ lengths.old.items
+        ++ map (spec.schedule_length packets) (filter (spec.is_scheduled all) programs.now) }
     ensures most { length lengths.new.items ≤ length lengths.old.items + length programs.now }
 {
     for program in programs {
-        if has_event(program) {
-            lengths.push(eit_length(program) as u16);
+        if is_scheduled(all, program) {
+            lengths.push(schedule_length(packets, program));
         }
     }
 }
 
 // Returns the lengths of the sections for the present events, then those of the sections for the following events.
-fn eit_lengths_in_turn(programs: &[ProgramDescription]) -> ArrayVec<u16, 128>
+fn eit_lengths_in_turn(
+    all: bool,
+    packets: u8,
+    programs: &[ProgramDescription],
+) -> ArrayVec<u16, 128>
     requires { length programs.now ≤ 64 }
-    ensures { result.items ≡ map spec.eit_length (filter spec.has_event programs.now)
-        ++ map spec.eit_length (filter spec.has_event programs.now) }
+    ensures { result.items ≡ map (spec.schedule_length packets) (filter (spec.is_scheduled all) programs.now)
+        ++ map (spec.schedule_length packets) (filter (spec.is_scheduled all) programs.now) }
 {
     let mut lengths = ArrayVec::new();
-    push_eit_lengths(&mut lengths, programs);
-    push_eit_lengths(&mut lengths, programs);
+    push_eit_lengths(&mut lengths, all, packets, programs);
+    push_eit_lengths(&mut lengths, all, packets, programs);
     lengths
 }
 
@@ -231,8 +264,8 @@ pub fn packets_of_sections(lengths: &[u16]) -> usize
 }
 
 impl Contents {
-    /// Returns the length of the section of the PAT, in bytes.
-    pub fn pat_length(&self) -> usize
+    // Returns the length of the section of the PAT, in bytes.
+    fn pat_length(&self) -> usize
         ensures value { result ≡ spec.pat_length self.now }
         ensures bound { result ≤ 272 }
     {
@@ -241,7 +274,7 @@ impl Contents {
     }
 
     // A description that is not yet checked may have a PMT longer than any section.
-    pub(crate) fn pmt_length(&self, program: &ProgramDescription) -> usize
+    fn pmt_length(&self, program: &ProgramDescription) -> usize
         ensures value { result ≡ spec.pmt_length self.now program.now }
         ensures bound { result ≤ 408548 }
     {
@@ -251,13 +284,37 @@ impl Contents {
             + tables_length(program.number(), self.private_tables())
     }
 
+    // Returns the greatest length of the PMT of a program.
+    pub(crate) fn map_length(&self, program: &ProgramDescription) -> usize
+        ensures value { result ≡ spec.map_length self.now program.now }
+        ensures bound { result ≤ max (spec.pmt_length self.now program.now) 1024 }
+    {
+        room_length(1024, program.pmt_packets(), self.pmt_length(program))
+    }
+
+    // Returns the greatest length of the NIT.
+    pub(crate) fn network_length(&self, network: &Network) -> usize
+        ensures value { result ≡ spec.network_length self.now network.now }
+        ensures bound { result ≤ 1190 }
+    {
+        room_length(1024, self.rooms().nit, nit_length(network))
+    }
+
+    // Returns the greatest length of a section of the SDT with these services.
+    fn services_length(&self, services: &[ProgramDescription]) -> u16
+        requires { length services.now ≤ 64 }
+        ensures { result ≡ spec.services_length self.now services.now }
+    {
+        room_length(1024, self.rooms().sdt, sdt_length(services)) as u16
+    }
+
     fn map_lengths(&self, place: usize) -> ArrayVec<u16, 128>
         requires { IsInRange self.now }
         ensures { result.items ≡ spec.kind_lengths self.now (TableKind.Pmt place) }
     {
         match self.programs().get(place) {
             None => ArrayVec::new(),
-            Some(program) => one(self.pmt_length(program) as u16),
+            Some(program) => one(self.map_length(program) as u16),
         }
     }
 
@@ -266,7 +323,7 @@ impl Contents {
     {
         match self.network() {
             None => ArrayVec::new(),
-            Some(network) => one(nit_length(network) as u16),
+            Some(network) => one(self.network_length(network) as u16),
         }
     }
 
@@ -279,18 +336,31 @@ impl Contents {
             let Some(services) = self.sdt_part(part) else {
                 return lengths;
             };
-            lengths.push(part_length(services));
+            lengths.push(self.services_length(services));
         }
         lengths
+    }
+
+    // Returns the packets of each section of the EIT; one reserves nothing.
+    fn eit_room(&self) -> u8
+        ensures { result ≡ spec.eit_room self.now }
+    {
+        if self.has_eit() { self.rooms().eit } else { 1 }
+    }
+
+    fn association_lengths(&self) -> ArrayVec<u16, 128>
+        ensures { result.items ≡ spec.kind_lengths self.now TableKind.Pat }
+    {
+        one(room_length(1024, self.rooms().pat, self.pat_length()) as u16)
     }
 
     fn event_lengths(&self) -> ArrayVec<u16, 128>
         ensures { result.items ≡ spec.kind_lengths self.now TableKind.Eit }
     {
         if self.is_transponder() {
-            eit_lengths_in_turn(self.programs())
+            eit_lengths_in_turn(self.has_eit(), self.eit_room(), self.programs())
         } else {
-            eit_lengths(self.programs())
+            eit_lengths(self.has_eit(), self.eit_room(), self.programs())
         }
     }
 
@@ -300,7 +370,7 @@ impl Contents {
         ensures { result.items ≡ spec.kind_lengths self.now kind }
     {
         match kind {
-            TableKind::Pat => one(self.pat_length() as u16),
+            TableKind::Pat => self.association_lengths(),
             TableKind::Pmt(place) => self.map_lengths(place),
             TableKind::Nit => self.network_lengths(),
             TableKind::Sdt => self.sdt_lengths(),

@@ -2,7 +2,7 @@
 
 ghost use Rattle.std.specs.Prelude.{◌≡◌, ◌<◌, ◌≤◌, ◌+◌, ◌++◌};
 ghost use Rattle.std.specs.List.{list_any};
-ghost use Rattle.description_parts.specs.Tables.{only_if, has_event};
+ghost use Rattle.description_parts.specs.Tables.{only_if, has_event, is_scheduled};
 ghost use Rattle.arrayvec.specs.ArrayVec.{array_vec_len};
 
 use crate::contents::Contents;
@@ -39,6 +39,13 @@ fn push_if(kinds: &mut ArrayVec<TableKind, 4>, present: bool, kind: TableKind)
     }
 }
 
+/// Returns whether a program is in an EIT of all programs, or of the programs that have an event.
+pub fn is_scheduled(all: bool, program: &ProgramDescription) -> bool
+    ensures { result ≡ is_scheduled all program.now }
+{
+    all || has_event(program)
+}
+
 /// Returns whether a program has an event.
 pub fn has_event(program: &ProgramDescription) -> bool
     ensures { result ≡ has_event program.now }
@@ -54,7 +61,14 @@ fn has_schedule(programs: &[ProgramDescription]) -> bool
 
 impl Contents {
     ghost use Rattle.description_parts.specs.Tables.{service_tables, table_count, table_kind, table_pid, kind_pid};
-    ghost use Rattle.description_parts.specs.Tables.{table_limit, kind_limit};
+    ghost use Rattle.description_parts.specs.Tables.{table_limit, kind_limit, has_events_table};
+
+    /// Returns whether the description has an EIT.
+    pub fn has_events_table(&self) -> bool
+        ensures { result ≡ has_events_table self.now }
+    {
+        self.has_eit() || has_schedule(self.programs())
+    }
 
     // Returns which of NIT, SDT, EIT and TDT the description has.
     fn service_tables(&self) -> ArrayVec<TableKind, 4>
@@ -63,7 +77,7 @@ impl Contents {
         let mut kinds = ArrayVec::new();
         push_if(&mut kinds, self.network().is_some(), TableKind::Nit);
         push_if(&mut kinds, self.has_sdt(), TableKind::Sdt);
-        push_if(&mut kinds, has_schedule(self.programs()), TableKind::Eit);
+        push_if(&mut kinds, self.has_events_table(), TableKind::Eit);
         push_if(&mut kinds, self.has_tdt(), TableKind::Tdt);
         kinds
     }

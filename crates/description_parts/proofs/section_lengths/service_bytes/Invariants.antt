@@ -1,6 +1,6 @@
 use Rattle.std.proofs.Common.{◌≡◌, ◌≤◌, ◌*◌, sum_by, take}
 use Rattle.description_parts.specs.Tables.{service_length}
-use Rattle.description_parts.proofs.section_lengths.services_length.Given as goal
+use Rattle.description_parts.proofs.section_lengths.service_bytes.Given as goal
 
 abbrev pub invariant-loop-program : goal.invariant-loop-program
 invariant-loop-program l = record {
