@@ -7,7 +7,7 @@ TSVIEW = crates/tsview/out/tsview
 TSREMUX = crates/tsremux/out/tsremux
 
 # Programs beside them that need Python 3.11: for chains on air.
-ON_AIR = examples/on-air/merge-records examples/on-air/frame-records examples/on-air/share-records examples/on-air/declare-encoder examples/on-air/pace-by-clock examples/on-air/tsview-metrics tools/pcr-rate
+ON_AIR = examples/on-air/merge-records examples/on-air/events-to-records examples/on-air/frame-records examples/on-air/share-records examples/on-air/declare-encoder examples/on-air/pace-by-clock examples/on-air/tsview-metrics tools/pcr-rate
 
 PROGRAM ?= tsmux
 PREFIX ?= /usr/local
