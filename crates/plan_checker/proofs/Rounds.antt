@@ -8,8 +8,10 @@ use Rattle.std.proofs.lemmas.List.Sums.{count_by-le-length, length-filter, sum_b
 use Rattle.std.proofs.lemmas.Option.{slice_get_within, unwrap_or-slice_get}
 use Rattle.description_parts.specs.Described.{Described, DescribedProgram, DescribedEvent, DescribedTable}
 use Rattle.description_parts.specs.Ranges.{IsInRange, IsProgram, IsEvent, IsBytes, IsTable}
-use Rattle.description_parts.specs.Tables.{packets_of_section, pmt_length, nit_length, service_length, longest_event, eit_length, eit_lengths, has_event}
+use Rattle.description_parts.specs.Tables.{packets_of_section, pat_length, map_length, most_bytes, most_eit_bytes, network_length, nit_length, pmt_length, room_length}
+use Rattle.description_parts.specs.Tables.{service_length, longest_event, eit_length, eit_lengths, eit_room, is_scheduled, schedule_length, services_length}
 use Rattle.description_parts.specs.Tables.{kind_lengths, sdt_length, sdt_parts, scheduled_programs, table_kind, round_packets}
+use Rattle.description_parts.proofs.RoomLengths.{room_most, room_places}
 use Rattle.description_parts.proofs.SdtParts.{sdt_parts_law}
 use Rattle.description_parts.specs.declared.table_kind.TableKind.{TableKind}
 use Rattle.description_parts.specs.declared.table_kind.TableKind.TheVariants.{Pat, Pmt, Nit, Sdt, Eit, Tdt, Private}
@@ -39,52 +41,60 @@ longest : (es : List DescribedEvent) → All IsEvent es → longest_event es ≤
 longest [] all = omega arith
 longest (e ∷ es) all = let is = All-head IsEvent e es all in omega (arith, is.name.fits, is.text.fits, longest es (All-tail IsEvent e es all))
 
-short_section : (p : DescribedProgram) → IsProgram p → packets_of_section (eit_length p) ≤ 2
-short_section p is = omega (arith, longest p.events is.events)
+short_section : (n : ℕ) (p : DescribedProgram) → n ≤ 23 → IsProgram p → packets_of_section (schedule_length n p) ≤ 25
+short_section n p few is = omega (arith, longest p.events is.events, room_places most_eit_bytes n (eit_length p), few)
 
 -- The sections of the EIT are two for each program, in either order.
-few_firsts : (ps : List DescribedProgram) → All IsProgram ps → sum_by packets_of_section (map eit_length ps) ≤ 2 * length ps
-few_firsts [] all = omega arith
-few_firsts (p ∷ ps) all =
+few_firsts : (n : ℕ) (ps : List DescribedProgram) → n ≤ 23 → All IsProgram ps
+    → sum_by packets_of_section (map (schedule_length n) ps) ≤ 25 * length ps
+few_firsts n [] few all = omega arith
+few_firsts n (p ∷ ps) few all =
     omega (
       arith,
-      short_section p (All-head IsProgram p ps all),
-      few_firsts ps (All-tail IsProgram p ps all),
-      sum_by-cons packets_of_section (eit_length p) (map eit_length ps),
+      short_section n p few (All-head IsProgram p ps all),
+      few_firsts n ps few (All-tail IsProgram p ps all),
+      sum_by-cons packets_of_section (schedule_length n p) (map (schedule_length n) ps),
     )
 
-few_pairs : (ps : List DescribedProgram) → All IsProgram ps → sum_by packets_of_section (eit_lengths ps) ≤ 4 * length ps
-few_pairs [] all = omega arith
-few_pairs (p ∷ ps) all =
+few_pairs : (n : ℕ) (ps : List DescribedProgram) → n ≤ 23 → All IsProgram ps → sum_by packets_of_section (eit_lengths n ps) ≤ 50 * length ps
+few_pairs n [] few all = omega arith
+few_pairs n (p ∷ ps) few all =
     omega (
       arith,
-      short_section p (All-head IsProgram p ps all),
-      few_pairs ps (All-tail IsProgram p ps all),
-      sum_by-cons packets_of_section (eit_length p) (eit_length p ∷ eit_lengths ps),
-      sum_by-cons packets_of_section (eit_length p) (eit_lengths ps),
+      short_section n p few (All-head IsProgram p ps all),
+      few_pairs n ps few (All-tail IsProgram p ps all),
+      sum_by-cons packets_of_section (schedule_length n p) (schedule_length n p ∷ eit_lengths n ps),
+      sum_by-cons packets_of_section (schedule_length n p) (eit_lengths n ps),
     )
 
-few_events : (b : Bool) (ps : List DescribedProgram) → All IsProgram ps →
-    sum_by packets_of_section (if b then map eit_length ps ++ map eit_length ps else eit_lengths ps) ≤ 4 * length ps
-few_events true ps all = omega (arith, few_firsts ps all, sum_by-append packets_of_section (map eit_length ps) (map eit_length ps))
-few_events false ps all = few_pairs ps all
+few_events : (b : Bool) (n : ℕ) (ps : List DescribedProgram) → n ≤ 23 → All IsProgram ps →
+    sum_by packets_of_section (if b then map (schedule_length n) ps ++ map (schedule_length n) ps else eit_lengths n ps) ≤ 50 * length ps
+few_events true n ps few all =
+    omega (arith, few_firsts n ps few all, sum_by-append packets_of_section (map (schedule_length n) ps) (map (schedule_length n) ps))
+few_events false n ps few all = few_pairs n ps few all
+
+room_if : (b : Bool) (n : ℕ) → n ≤ 23 → (if b then n else 1) ≤ 23
+room_if true n few = few
+room_if false n few = omega arith
 
 -- The sections of the SDT have few services each.
-few_of_parts : (pss : List (List DescribedProgram)) → All (All IsProgram) pss →
-    sum_by packets_of_section (map sdt_length pss) ≤ 2 * length pss + 2 * length (flat_map (λ ps. ps) pss)
-few_of_parts [] all = omega arith
-few_of_parts (ps ∷ pss) all =
+few_of_parts : (d : Described) (pss : List (List DescribedProgram)) → d.rooms.sdt ≤ 6 → All (All IsProgram) pss →
+    sum_by packets_of_section (map (services_length d) pss) ≤ 8 * length pss + 2 * length (flat_map (λ ps. ps) pss)
+few_of_parts d [] few all = omega arith
+few_of_parts d (ps ∷ pss) few all =
     omega (
       arith,
       few_services ps (All-head (All IsProgram) ps pss all),
-      few_of_parts pss (All-tail (All IsProgram) ps pss all),
-      sum_by-cons packets_of_section (sdt_length ps) (map sdt_length pss),
+      room_places most_bytes d.rooms.sdt (sdt_length ps),
+      few,
+      few_of_parts d pss few (All-tail (All IsProgram) ps pss all),
+      sum_by-cons packets_of_section (services_length d ps) (map (services_length d) pss),
       length-append ps (flat_map (λ (qs : List DescribedProgram). qs) pss),
     )
 
-few_parts : (d : Described) → IsInRange d → sum_by packets_of_section (kind_lengths d Sdt) ≤ 256
+few_parts : (d : Described) → IsInRange d → sum_by packets_of_section (kind_lengths d Sdt) ≤ 640
 few_parts d r = let parts = sdt_parts_law d r in
-    omega (arith, few_of_parts (sdt_parts d) parts.programs, parts.most, ap (λ (ps : List DescribedProgram). length ps) parts.whole, r.most_programs)
+    omega (arith, few_of_parts d (sdt_parts d) r.rooms.most_sdt parts.programs, parts.most, ap (λ (ps : List DescribedProgram). length ps) parts.whole, r.most_programs)
 
 few_privates : (ss : List (List ℕ)) → All (IsBytes 4096) ss → sum_by packets_of_section (map length ss) ≤ 24 * length ss
 few_privates [] all = omega arith
@@ -96,18 +106,29 @@ few_of_table : (o : Option DescribedTable) → ((t : DescribedTable) → o ≡ S
 few_of_table None is = omega arith
 few_of_table (Some t) is = let table = is t refl in omega (arith, few_privates t.sections table.sections, table.most_sections)
 
+small_room : (packets l : ℕ) → l ≤ 1024 → room_length most_bytes packets l ≤ 1024
+small_room packets l small = room_most most_bytes packets l 1024 small (omega arith)
+
+small_association : (d : Described) → IsInRange d → pat_length d ≤ 1024
+small_association d r = omega (arith, at_most_one d.network, r.most_programs)
+
 few_of_kind : (d : Described) → IsInRange d → (kind : TableKind) → sum_by packets_of_section (kind_lengths d kind) ≤ 20000
-few_of_kind d r Pat = omega (arith, at_most_one d.network, r.most_programs)
+few_of_kind d r Pat =
+    omega (arith, at_most_one d.network, r.most_programs, room_most most_bytes d.rooms.pat (pat_length d) 1024 (small_association d r) (omega arith))
 few_of_kind d r (Pmt p) =
-    omega (arith, few_of_option (pmt_length d) (slice_get d.programs p) (λ x e. found_at (λ q. pmt_length d q ≤ 1024) d.programs p x e r.pmt_lengths))
-few_of_kind d r Nit = omega (arith, few_of_option nit_length d.network (λ x e. All-head (λ n. nit_length n ≤ 1024) x [] (rw e at r.nit_length)))
+    omega (arith, few_of_option (map_length d) (slice_get d.programs p) (λ x e. small_room x.pmt_packets (pmt_length d x)
+    (found_at (λ q. pmt_length d q ≤ 1024) d.programs p x e r.pmt_lengths)))
+few_of_kind d r Nit =
+    omega (arith, few_of_option (network_length d) d.network (λ x e. small_room d.rooms.nit (nit_length x)
+    (All-head (λ n. nit_length n ≤ 1024) x [] (rw e at r.nit_length))))
 few_of_kind d r Sdt = omega (arith, few_parts d r)
 few_of_kind d r Eit =
     omega (
       arith,
-      few_events d.is_transponder (scheduled_programs d) (All-filter has_event IsProgram d.programs r.programs),
-      length-filter has_event d.programs,
-      count_by-le-length has_event d.programs,
+      few_events d.is_transponder (eit_room d) (scheduled_programs d) (room_if d.has_eit d.rooms.eit r.rooms.most_eit)
+      (All-filter (is_scheduled d.has_eit) IsProgram d.programs r.programs),
+      length-filter (is_scheduled d.has_eit) d.programs,
+      count_by-le-length (is_scheduled d.has_eit) d.programs,
       r.most_programs,
     )
 few_of_kind d r Tdt = omega arith

@@ -39,6 +39,9 @@ base = record {
   has_tdt = true;
   is_transponder = false;
   clock_pid = None;
+  has_eit = false;
+  rooms = record { pat = 1; sdt = 1; nit = 1; eit = 2 };
+  versions = record { pat = 0; sdt = 0; nit = 0 };
   network = Some (record { id = 1; name = codes "Net"; descriptors = [] });
   programs = (record {
     number = 1;
@@ -46,6 +49,10 @@ base = record {
     pcr_pid = 257;
     has_clock = true;
     pcr_limit = 40;
+    pmt_packets = 1;
+    is_on_air = true;
+    pmt_version = 0;
+    eit_count = 0;
     descriptors = [];
     service_type = 2;
     provider = [];

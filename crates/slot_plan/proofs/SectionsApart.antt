@@ -9,7 +9,7 @@ use Rattle.own_slots.specs.Period.{own, per_period}
 use Rattle.own_slots.specs.Switch.{joined}
 use Rattle.own_slots.proofs.Counts.{own_before_lt}
 use Rattle.description_parts.specs.Described.{Described}
-use Rattle.description_parts.specs.Tables.{eit_length, eit_place, scheduled_programs, table_kind, section_count, section_lengths}
+use Rattle.description_parts.specs.Tables.{eit_place, eit_room, schedule_length, scheduled_programs, table_kind, section_count, section_lengths}
 use Rattle.description_parts.specs.Tables.{round_packets}
 use Rattle.description_parts.specs.declared.table_kind.TableKind.{TableKind}
 use Rattle.description_parts.specs.declared.table_kind.TableKind.TheVariants.{Pat, Pmt, Nit, Sdt, Eit, Tdt, Private}
@@ -26,7 +26,7 @@ use Rattle.slot_plan.proofs.SectionPlaces.{halves_apart, starts_at}
 
 -- A round of the EIT of a transponder has one section of each program, and then another.
 eit_halves : (d : Described) (t : ℕ) → table_kind d t ≡ Some Eit → d.is_transponder ≡ true →
-    section_lengths d t ≡ map eit_length (scheduled_programs d) ++ map eit_length (scheduled_programs d)
+    section_lengths d t ≡ map (schedule_length (eit_room d)) (scheduled_programs d) ++ map (schedule_length (eit_room d)) (scheduled_programs d)
 eit_halves d t e whole = rw e (rw whole refl)
 
 eit_place_of : (d : Described) (j : ℕ) → d.is_transponder ≡ true → (eit_place d j).0 ≡ j % length (scheduled_programs d)
@@ -34,8 +34,8 @@ eit_place_of d j whole = rw whole refl
 
 -- The sub-table of a section of the EIT is its place in its half of the round.
 eit_sub_table : (d : Described) (t j : ℕ) → table_kind d t ≡ Some Eit → d.is_transponder ≡ true →
-    sub_table d t j ≡ j % length (map eit_length (scheduled_programs d))
-eit_sub_table d t j e whole = rw e (eit_place_of d j whole ∙ ap (λ (n : ℕ). j % n) (sym (length-map (scheduled_programs d) eit_length)))
+    sub_table d t j ≡ j % length (map (schedule_length (eit_room d)) (scheduled_programs d))
+eit_sub_table d t j e whole = rw e (eit_place_of d j whole ∙ ap (λ (n : ℕ). j % n) (sym (length-map (scheduled_programs d) (schedule_length (eit_room d)))))
 
 eit_apart : (d : Described) (t j next i b : ℕ) → table_kind d t ≡ Some Eit → d.is_transponder ≡ true → j < section_count d t → next < section_count d t →
     sub_table d t j ≡ sub_table d t next → i % round_packets d t ≡ last_packet d t j → b % round_packets d t ≡ first_packet d t next → i < b →
@@ -43,7 +43,7 @@ eit_apart : (d : Described) (t j next i b : ℕ) → table_kind d t ≡ Some Eit
 eit_apart d t j next i b e whole lt next_lt same ends begins later =
     let many : places_apart d t ≡ suc (round_packets d t / 2 - most_packets d t) =
     ap (λ (o : Option TableKind). elim o [ None ↦ 1 | Some kind ↦ kind_places d t kind ]) e in
-    rw many (halves_apart (map eit_length (scheduled_programs d)) (section_lengths d t) j next i b (eit_halves d t e whole) lt next_lt
+    rw many (halves_apart (map (schedule_length (eit_room d)) (scheduled_programs d)) (section_lengths d t) j next i b (eit_halves d t e whole) lt next_lt
     (sym (eit_sub_table d t j e whole) ∙ same ∙ eit_sub_table d t next e whole) ends begins later)
 
 -- Between the last place of a section and the first place of the next section of its sub-table are so many places.
