@@ -8,7 +8,7 @@ use Rattle.mux_core.specs.Histories.{History, owned_stream}
 use Rattle.mux_core.specs.MuxStates.{MuxState, Represents, QueueRepresents}
 use Rattle.mux_core.specs.Headline.{UnitsKept, AnyStateLaw}
 use Rattle.mux_core.proofs.KnownRanges.{parameters_known}
-use Rattle.mux_core.proofs.Whole.{headline}
+use Rattle.mux_core.proofs.Whole.{headline_over}
 
 kept_in : (d : Scheduled) (h : History) (capacity k : ℕ) (q : Option Queue) (s : DescribedStream) → QueueRepresents d h capacity k q (Some s) →
     Kept (owned_stream d k s) (h.units k)
@@ -23,4 +23,4 @@ units_kept h m r st = record {
 }
 
 pub any_state : AnyStateLaw
-any_state h m n r promised st = headline m.schedule h.units n r promised (units_kept h m r st)
+any_state h m n r promised st = headline_over m.schedule h.changes h.units n r promised (units_kept h m r st)

@@ -1,5 +1,5 @@
 -- Feeding units and writing slots in any order.
-use Rattle.std.proofs.Common.{◌≡◌, ℕ, suc, ◌+◌, ◌<◌, ◌≤◌, ◌^◌, Bool, false, cond, List, [], ◌∷◌, ◌++◌, Option, Some, None, Result, Ok, Err, refl, sym, ap, ◌∙◌}
+use Rattle.std.proofs.Common.{◌≡◌, ℕ, suc, ◌+◌, ◌<◌, ◌≤◌, ◌^◌, Bool, true, false, cond, nat_lt, List, [], ◌∷◌, ◌++◌, Option, Some, None, Result, Ok, Err, refl, sym, ap, ◌∙◌}
 use Rattle.std.proofs.Common.{subst, arith, append_assoc, append-nil, inl, inr}
 use Rattle.std.specs.Prelude.{slice_get, IfErr}
 use Rattle.std.proofs.Math.Path.{fun_ext}
@@ -12,9 +12,9 @@ use Rattle.unit_queue.specs.Causes.{refusal}
 use Rattle.unit_queue.specs.declared.refusal.FeedError.{FeedError}
 use Rattle.mux_core.specs.Formats.{formatted}
 use Rattle.mux_core.specs.Scheduled.{Scheduled}
-use Rattle.mux_core.specs.Histories.{History, content_at, bytes_of, empty_history, next_slot}
+use Rattle.mux_core.specs.Histories.{Change, History, content_over, bytes_of, empty_history, next_slot}
 use Rattle.mux_core.specs.MuxStates.{MuxState, Represents, Gives, Takes, feed_cause}
-use Rattle.mux_core.specs.Headline.{Headline}
+use Rattle.mux_core.specs.Headline.{HeadlineOver}
 use Rattle.mux_core.specs.Events.{Step, FeedStep, SlotStep, fed_history, step_history, history_after, Adds, StillRepresents, WrittenStays, OrderIsFree}
 use Rattle.mux_core.specs.declared.done.Done.{Done}
 use Rattle.mux_core.proofs.FedUnits.{bytes_kept}
@@ -23,13 +23,13 @@ use Rattle.mux_core.proofs.Accepted.{any_state}
 use Rattle.mux_core.proofs.JobWriting.{output_bytes, output_more}
 
 -- Each slot appends its packet to the bytes of the history.
-bytes_more : (d : Scheduled) (h : History) → bytes_of d (next_slot h) ≡ bytes_of d h ++ packet_of (content_at d h.units h.slots)
+bytes_more : (d : Scheduled) (h : History) → bytes_of d (next_slot h) ≡ bytes_of d h ++ packet_of (content_over d h.changes h.units h.slots)
 unfolding formatted
 bytes_more d h =
     let next : suc h.slots ≡ h.slots + 1 = omega arith in
-    ap (λ (n : ℕ). run_bytes (content_at d h.units) 0 n) next
-    ∙ sym (output_bytes (content_at d h.units) 0 (h.slots + 1)) ∙ output_more false (content_at d h.units) h.slots
-    ∙ ap (λ (l : List ℕ). l ++ packet_of (content_at d h.units h.slots)) (output_bytes (content_at d h.units) 0 h.slots)
+    ap (λ (n : ℕ). run_bytes (content_over d h.changes h.units) 0 n) next
+    ∙ sym (output_bytes (content_over d h.changes h.units) 0 (h.slots + 1)) ∙ output_more false (content_over d h.changes h.units) h.slots
+    ∙ ap (λ (l : List ℕ). l ++ packet_of (content_over d h.changes h.units h.slots)) (output_bytes (content_over d h.changes h.units) 0 h.slots)
 
 adds_none : (d : Scheduled) (h : History) (out : List ℕ) → Adds d h h out out
 adds_none d h out = record { added = []; bytes = sym (append-nil (bytes_of d h)); output = sym (append-nil out) }
@@ -165,12 +165,12 @@ driven_adds h old new steps left out now w none = subst (λ (x : History). Adds 
 
 pub driven_headline : (h : History) (old new : MuxState) (steps left : List Step) (out now : List ℕ) → IsInRange old.schedule.description →
     Promised old.schedule.description old.schedule.schedule → Driven h old new steps left out now → left ≡ [] →
-    Headline old.schedule (history_after old.schedule old.capacity h steps).units (history_after old.schedule old.capacity h steps).slots
+    HeadlineOver old.schedule (history_after old.schedule old.capacity h steps).changes (history_after old.schedule old.capacity h steps).units (history_after old.schedule old.capacity h steps).slots
     (bytes_of old.schedule (history_after old.schedule old.capacity h steps))
 driven_headline h old new steps left out now ranges promised w none =
     let on = driven_represents h old new steps left out now w none in
     let after = history_after old.schedule old.capacity h steps in
-    subst (λ (d : Scheduled). Headline d after.units after.slots (run_bytes (content_at d after.units) 0 after.slots)) on.same_schedule
+    subst (λ (d : Scheduled). HeadlineOver d after.changes after.units after.slots (run_bytes (content_over d after.changes after.units) 0 after.slots)) on.same_schedule
     (any_state after new after.slots (subst (λ (d : Scheduled). IsInRange d.description) (sym on.same_schedule) ranges)
     (subst (λ (d : Scheduled). Promised d.description d.schedule) (sym on.same_schedule) promised) on.represents)
 
@@ -180,7 +180,7 @@ step_stays : (d : Scheduled) (capacity : ℕ) (h : History) (step : Step) →
     (added : List ℕ) × (bytes_of d (step_history d capacity h step) ≡ bytes_of d h ++ added)
 step_stays d capacity h (FeedStep k u) = ([], unit_kept d capacity h k u ∙ sym (append-nil (bytes_of d h)))
 step_stays d capacity h SlotStep = elim (cases_lt h.slots (2 ^ 40)) [
-  | inl lt ↦ (packet_of (content_at d h.units h.slots), ap (bytes_of d) (slot_there d capacity h lt) ∙ bytes_more d h)
+  | inl lt ↦ (packet_of (content_over d h.changes h.units h.slots), ap (bytes_of d) (slot_there d capacity h lt) ∙ bytes_more d h)
   | inr le ↦ ([], ap (bytes_of d) (slot_past d capacity h le) ∙ sym (append-nil (bytes_of d h)))
 ]
 
@@ -192,7 +192,31 @@ written_stays d capacity h (step ∷ rest) =
     let more = written_stays d capacity (step_history d capacity h step) rest in
     (one.0 ++ more.0, more.1 ∙ ap (λ (l : List ℕ). l ++ more.0) one.1 ∙ append_assoc (bytes_of d h) one.0 more.0)
 
+-- Events do not change the texts.
+fed_changes : (h : History) (k : ℕ) (u : AccessUnit) (o : Option FeedError) → (fed_history h k u o).changes ≡ h.changes
+unfolding fed_history
+fed_changes h k u None = refl
+fed_changes h k u (Some cause) = refl
+
+slot_changes : (h : History) (b : Bool) → (cond b (next_slot h) h).changes ≡ h.changes
+slot_changes h true = refl
+slot_changes h false = refl
+
+step_changes : (d : Scheduled) (capacity : ℕ) (h : History) (step : Step) → (step_history d capacity h step).changes ≡ h.changes
+unfolding step_history
+step_changes d capacity h (FeedStep k u) = fed_changes h k u (feed_cause d capacity h k u (slice_get d.description.streams k))
+step_changes d capacity h SlotStep = slot_changes h (nat_lt h.slots (2 ^ 40))
+
+pub changes_after : (d : Scheduled) (capacity : ℕ) (h : History) (steps : List Step) → (history_after d capacity h steps).changes ≡ h.changes
+unfolding history_after
+changes_after d capacity h [] = refl
+changes_after d capacity h (step ∷ rest) = changes_after d capacity (step_history d capacity h step) rest ∙ step_changes d capacity h step
+
 pub order_is_free : OrderIsFree
 order_is_free d capacity other first second same =
-    ap (λ (units : ℕ → List AccessUnit). run_bytes (content_at d units) 0 (history_after d capacity empty_history first).slots) (fun_ext same.units)
-    ∙ ap (λ (n : ℕ). run_bytes (content_at d (history_after d other empty_history second).units) 0 n) same.slots
+    let a = history_after d capacity empty_history first in
+    let b = history_after d other empty_history second in
+    ap (λ (l : List Change). run_bytes (content_over d l a.units) 0 a.slots)
+    (changes_after d capacity empty_history first ∙ sym (changes_after d other empty_history second))
+    ∙ ap (λ (units : ℕ → List AccessUnit). run_bytes (content_over d b.changes units) 0 a.slots) (fun_ext same.units)
+    ∙ ap (λ (n : ℕ). run_bytes (content_over d b.changes b.units) 0 n) same.slots

@@ -18,7 +18,7 @@ use Rattle.unit_queue.specs.Queues.{Queue, QueueHolds, ParametersInRange}
 use Rattle.unit_queue.specs.QueueSteps.{accepted}
 use Rattle.unit_queue.specs.Laws.{CauseLaw, FedLaw, LaterUnitLaw}
 use Rattle.mux_core.specs.Scheduled.{Scheduled}
-use Rattle.mux_core.specs.Histories.{History, owned_stream, parameters_of, stream_in, content_in, content_at, bytes_of, with_unit}
+use Rattle.mux_core.specs.Histories.{History, owned_stream, parameters_of, stream_in, content_in, content_over, bytes_of, with_unit}
 use Rattle.mux_core.specs.MuxStates.{MuxState, Represents, QueueRepresents, Takes, feed_cause, refusal_of}
 use Rattle.mux_core.specs.SlotSteps.{queue_cause, queues_with, fed}
 
@@ -109,7 +109,7 @@ other_kept d h j k t u (Some s) ne =
 
 content_kept : LaterUnitLaw → (d : Scheduled) (h : History) (capacity k t : ℕ) (u : AccessUnit) (slot : Slot) →
     slot_of d.schedule t ≡ slot → feed_cause d capacity h k u (slice_get d.description.streams k) ≡ None → t < h.slots →
-    content_in d (with_unit h k u).units t slot ≡ content_in d h.units t slot
+    content_in d h.changes (with_unit h k u).units t slot ≡ content_in d h.changes h.units t slot
 unfolding content_in
 content_kept law d h capacity k t u (Stream j) is none lt = elim (cases_eq j k) [
   | inl e ↦ subst
@@ -131,8 +131,8 @@ run_same f g s (suc n) same =
 
 pub bytes_kept : LaterUnitLaw → (d : Scheduled) (h : History) (capacity k : ℕ) (u : AccessUnit) →
     feed_cause d capacity h k u (slice_get d.description.streams k) ≡ None → bytes_of d (with_unit h k u) ≡ bytes_of d h
-unfolding content_at
-bytes_kept law d h capacity k u none = run_same (content_at d (with_unit h k u).units) (content_at d h.units) 0 h.slots
+unfolding content_over
+bytes_kept law d h capacity k u none = run_same (content_over d h.changes (with_unit h k u).units) (content_over d h.changes h.units) 0 h.slots
     (λ t lt. content_kept law d h capacity k t u (slot_of d.schedule t) refl none (omega (arith, lt)))
 
 -- The state and the history after a unit
@@ -156,6 +156,7 @@ takes laws h old k u refused new rules st feeds =
       first = first;
       represents = λ none. subst (λ (m : MuxState). Represents (with_unit h k u) m) (sym (feeds.taken none)) (record {
         written = st.written;
+        unchanged = st.unchanged;
         streams = streams_fed laws.fed old.schedule h old.capacity k u old.queues rules (sym first ∙ none) st.streams;
         tables = st.tables;
       });

@@ -81,7 +81,7 @@ carousels_here d k kinds = carousels_at d 0 k kinds ∙ ap (λ (n : ℕ). option
 
 carousel_represents : (d : Scheduled) (t : ℕ) (kind : Option TableKind) → IsInRange d.description → slice_get (table_kinds d.description) t ≡ kind →
     CarouselRepresents d empty_history t (option_map (λ x. first_carousel d.description t) kind) kind
-carousel_represents d t (Some kind) ranges is = first_carousel_holds (table_of d t) ((tables_known sections_law d ranges).places t kind is)
+carousel_represents d t (Some kind) ranges is = first_carousel_holds (table_of d t) ((tables_known sections_law d empty_history ranges refl).places t kind is)
 carousel_represents d t None ranges is = tt
 
 pub represents_first : (d : Scheduled) (capacity : ℕ) → IsInRange d.description →
@@ -94,6 +94,7 @@ pub represents_first : (d : Scheduled) (capacity : ℕ) → IsInRange d.descript
     })
 represents_first d capacity ranges = record {
   written = refl;
+  unchanged = refl;
   streams = λ k. subst (λ (q : Option Queue). QueueRepresents d empty_history capacity k q (slice_get d.description.streams k))
       (sym (queues_at d.description capacity k d.description.streams)) (queue_represents d capacity k (slice_get d.description.streams k));
   tables = λ t. subst (λ (x : Option Carousel). CarouselRepresents d empty_history t x (slice_get (table_kinds d.description) t))

@@ -27,7 +27,7 @@ units_more fed entry j = elim (cases_eq j entry.0) [
 ]
 
 pub history_more : (fed : List (ℕ × AccessUnit)) (entry : ℕ × AccessUnit) → with_unit (job_history fed 0) entry.0 entry.1 ≡ job_history (fed ++ (entry ∷ [])) 0
-history_more fed entry = ap (λ (units : ℕ → List AccessUnit). record { units = units; slots = 0 }) (fun_ext (units_more fed entry))
+history_more fed entry = ap (λ (units : ℕ → List AccessUnit). record { units = units; changes = []; slots = 0 }) (fun_ext (units_more fed entry))
 
 -- The units that are fed already, and the units that are left.
 pub record FedSoFar (old : MuxState) (units : List (ℕ × AccessUnit)) (new : MuxState) (index : ℕ) (left : List (ℕ × AccessUnit)) : Type 0 where

@@ -5,7 +5,7 @@ use Rattle.slot_contents.specs.Contents.{Content, packet_of, run_bytes}
 use Rattle.mux_core.specs.Buffer.{Buffered, IsOutput, Took}
 use Rattle.mux_core.specs.Formats.{formatted}
 use Rattle.mux_core.specs.Scheduled.{Scheduled}
-use Rattle.mux_core.specs.Histories.{History, content_at}
+use Rattle.mux_core.specs.Histories.{History, content_over}
 use Rattle.mux_core.specs.MuxStates.{MuxState, Represents, Gives}
 use Rattle.mux_core.specs.WholeJobs.{run_output}
 use Rattle.mux_core.specs.declared.done.Done.{Done}
@@ -43,19 +43,19 @@ output_more hex content n =
 
 -- The history with n written slots.
 abbrev pub at_slot : History → ℕ → History
-at_slot h n = record { units = h.units; slots = n }
+at_slot h n = record { units = h.units; changes = h.changes; slots = n }
 
 -- The state and the output after n slots.
 pub record SlotsWritten (h : History) (old new : MuxState) (hex : Bool) (n : ℕ) (start now : Option (List ℕ)) (packets : Buffered) : Type 0 where
   pub represents : Represents (at_slot h n) new
   pub same_schedule : new.schedule ≡ old.schedule
-  pub holds : IsOutput start now packets (run_output hex (content_at old.schedule h.units) 0 n)
+  pub holds : IsOutput start now packets (run_output hex (content_over old.schedule h.changes h.units) 0 n)
 
 pub written_none : (h : History) (old : MuxState) (hex : Bool) (start now : Option (List ℕ)) (packets : Buffered) → h.slots ≡ 0 →
     Represents h old → IsOutput start now packets [] → SlotsWritten h old old hex 0 start now packets
 unfolding run_output
 written_none h old hex start now packets none represents holds = record {
-  represents = subst (λ (n : ℕ). Represents (record { units = h.units; slots = n }) old) none represents;
+  represents = subst (λ (n : ℕ). Represents (record { units = h.units; changes = h.changes; slots = n }) old) none represents;
   same_schedule = refl;
   holds = holds;
 }
@@ -63,17 +63,17 @@ written_none h old hex start now packets none represents holds = record {
 -- One more packet extends the output by one slot.
 next_output : (h : History) (old mid new : MuxState) (hex phex : Bool) (n : ℕ) (packet : List ℕ) → mid.schedule ≡ old.schedule → phex ≡ hex →
     Gives (at_slot h n) mid (Ok packet) new →
-    run_output hex (content_at old.schedule h.units) 0 n ++ formatted phex packet ≡ run_output hex (content_at old.schedule h.units) 0 (n + 1)
+    run_output hex (content_over old.schedule h.changes h.units) 0 n ++ formatted phex packet ≡ run_output hex (content_over old.schedule h.changes h.units) 0 (n + 1)
 next_output h old mid new hex phex n packet line same gives =
-    let content = content_at old.schedule h.units in
+    let content = content_over old.schedule h.changes h.units in
     ap (λ (x : Bool). run_output hex content 0 n ++ formatted x packet) same
-    ∙ ap (λ (x : List ℕ). run_output hex content 0 n ++ formatted hex x) (gives.1 ∙ ap (λ (d : Scheduled). packet_of (content_at d h.units n)) line)
+    ∙ ap (λ (x : List ℕ). run_output hex content 0 n ++ formatted hex x) (gives.1 ∙ ap (λ (d : Scheduled). packet_of (content_over d h.changes h.units n)) line)
     ∙ sym (output_more hex content n)
 
 pub written_more : (h : History) (old mid new : MuxState) (hex phex : Bool) (n : ℕ) (start now later : Option (List ℕ)) (packets after : Buffered)
     (packet : List ℕ) →
     SlotsWritten h old mid hex n start now packets → phex ≡ hex → Gives (at_slot h n) mid (Ok packet) new →
-    IsOutput start later after (run_output hex (content_at old.schedule h.units) 0 n ++ formatted phex packet) →
+    IsOutput start later after (run_output hex (content_over old.schedule h.changes h.units) 0 n ++ formatted phex packet) →
     SlotsWritten h old new hex (n + 1) start later after
 written_more h old mid new hex phex n start now later packets after packet w same gives holds =
     let next : suc n ≡ n + 1 = omega arith in
@@ -86,10 +86,10 @@ written_more h old mid new hex phex n start now later packets after packet w sam
 pub written_failed : (h : History) (old mid new : MuxState) (hex phex : Bool) (n slots sent : ℕ) (start now later : Option (List ℕ)) (packets : Buffered)
     (packet : List ℕ) →
     SlotsWritten h old mid hex n start now packets → n < slots → phex ≡ hex → Gives (at_slot h n) mid (Ok packet) new →
-    Took start later sent (run_output hex (content_at old.schedule h.units) 0 n ++ formatted phex packet) →
-    Took start later sent (run_output hex (content_at old.schedule h.units) 0 slots)
+    Took start later sent (run_output hex (content_over old.schedule h.changes h.units) 0 n ++ formatted phex packet) →
+    Took start later sent (run_output hex (content_over old.schedule h.changes h.units) 0 slots)
 written_failed h old mid new hex phex n slots sent start now later packets packet w below same gives took =
-    let content = content_at old.schedule h.units in
+    let content = content_over old.schedule h.changes h.units in
     let count : slots ≡ (n + 1) + (slots - (n + 1)) = omega arith in
     let rest = run_output hex content (0 + (n + 1)) (slots - (n + 1)) in
     let whole : run_output hex content 0 slots ≡ run_output hex content 0 (n + 1) ++ rest =

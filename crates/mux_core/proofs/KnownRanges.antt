@@ -1,6 +1,6 @@
 -- What the ranges of a description say about its streams and tables.
-use Rattle.std.specs.Prelude.{ℕ, ◌<◌, ◌≤◌, Some, length, slice_get, IsTrue}
-use Rattle.std.proofs.Common.{◌≡◌, inl, inr, refl, arith}
+use Rattle.std.specs.Prelude.{ℕ, ◌<◌, ◌≤◌, List, [], Some, length, slice_get, IsTrue}
+use Rattle.std.proofs.Common.{◌≡◌, inl, inr, refl, ap, sym, arith}
 use Rattle.std.proofs.lemmas.Bool.{lt-ltb}
 use Rattle.std.proofs.lemmas.List.Elements.{All-get_or}
 use Rattle.std.proofs.lemmas.Option.{get_or_from_slice_get, slice_get_within}
@@ -13,9 +13,10 @@ use Rattle.description_parts.specs.declared.table_kind.TableKind.{TableKind}
 use Rattle.table_rounds.specs.Laws.{IsSourceOf}
 use Rattle.mux_core.specs.Scheduled.{Scheduled}
 use Rattle.unit_queue.specs.Queues.{ParametersInRange}
-use Rattle.mux_core.specs.Histories.{parameters_of, table_of}
+use Rattle.mux_core.specs.Histories.{Change, History, parameters_of, text_at, table_over}
 use Rattle.mux_core.specs.SlotSteps.{section_bytes}
 use Rattle.description.specs.Pids.{SectionsLaw}
+use Rattle.description.specs.SectionBytes.{table_bytes}
 use Rattle.mux_core.proofs.FedUnits.{ParametersKnown}
 use Rattle.mux_core.proofs.SlotSteps.{TablesKnown}
 
@@ -45,13 +46,15 @@ parameters_fit d s ranges r = record {
 pub parameters_known : (d : Scheduled) → IsInRange d.description → ParametersKnown d
 parameters_known d ranges k s is = parameters_fit d.description s ranges (stream_range d.description k s ranges is)
 
-pub sources_known : (d : Scheduled) (t : ℕ) (kind : TableKind) → slice_get (table_kinds d.description) t ≡ Some kind →
-    IsSourceOf (table_of d t) (section_bytes d.description t)
-sources_known d t kind is j moment lt =
-    rw (lt-ltb t (length (table_kinds d.description)) (slice_get_within (table_kinds d.description) t kind is), lt-ltb j _ lt) refl
+pub sources_known : (d : Scheduled) (h : History) (t : ℕ) (kind : TableKind) → h.changes ≡ [] → slice_get (table_kinds d.description) t ≡ Some kind →
+    IsSourceOf (table_over d h.changes t) h.slots (section_bytes d.description t)
+sources_known d h t kind same is j moment lt =
+    let e : text_at d.description h.changes h.slots ≡ d.description = ap (λ (l : List Change). text_at d.description l h.slots) same in
+    rw (lt-ltb t (length (table_kinds d.description)) (slice_get_within (table_kinds d.description) t kind is), lt-ltb j _ lt)
+    (ap (λ (x : Described). table_bytes x t j moment) (sym e))
 
-pub tables_known : SectionsLaw → (d : Scheduled) → IsInRange d.description → TablesKnown d
-tables_known law d ranges = record {
+pub tables_known : SectionsLaw → (d : Scheduled) (h : History) → IsInRange d.description → h.changes ≡ [] → TablesKnown d h
+tables_known law d h ranges same = record {
   places = λ t kind is. (law d.description t ranges (slice_get_within (table_kinds d.description) t kind is)).2;
-  sources = λ t kind is. sources_known d t kind is;
+  sources = λ t kind is. sources_known d h t kind same is;
 }

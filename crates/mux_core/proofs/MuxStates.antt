@@ -17,7 +17,7 @@ use Rattle.unit_queue.specs.Queues.{Queue}
 use Rattle.unit_queue.proofs.QueueStates.{own_slot_law, other_slot_law, cause_law, fed_law, later_unit_law}
 use Rattle.table_rounds.proofs.CarouselSteps.{own_slot, other_slot}
 use Rattle.mux_core.specs.Scheduled.{Scheduled}
-use Rattle.mux_core.specs.Histories.{History, owned_stream, content_in, content_at, next_slot}
+use Rattle.mux_core.specs.Histories.{History, owned_stream, content_in, content_over, next_slot}
 use Rattle.mux_core.specs.MuxStates.{MuxState, Represents, QueueRepresents, Gives, waiting_of}
 use Rattle.mux_core.specs.SlotSteps.{sends, after, queue_cause, queues_with}
 use Rattle.mux_core.specs.declared.done.Done.{Done}
@@ -32,7 +32,7 @@ pub feed_laws : FeedLaws
 feed_laws = record { cause = cause_law; fed = fed_law; later = later_unit_law }
 
 slot_advances : (h : History) (m : MuxState) → IsInRange m.schedule.description → Represents h m → Advances h m (slot_of m.schedule.schedule m.slots)
-slot_advances h m ranges st = advances laws h m (tables_known sections_law m.schedule ranges) st
+slot_advances h m ranges st = advances laws h m (tables_known sections_law m.schedule h ranges st.unchanged) st
 
 -- A slot does not change the schedule.
 schedule_stays : (m : MuxState) (slot : Slot) → (after m slot).schedule ≡ m.schedule
@@ -53,12 +53,12 @@ capacity_stays m Null = refl
 pub gives : (h : History) (old : MuxState) (packet : List ℕ) (new : MuxState) → IsInRange old.schedule.description → Represents h old → old.slots < 2 ^ 40 →
     packet ≡ packet_of (sends old (slot_of old.schedule.schedule old.slots)) → new ≡ after old (slot_of old.schedule.schedule old.slots) →
     Gives h old (Ok packet) new
-unfolding content_at
+unfolding content_over
 gives h old packet new ranges st below is state =
     let slot = slot_of old.schedule.schedule old.slots in
     let g = slot_advances h old ranges st in (
       subst (λ (n : ℕ). n < 2 ^ 40) st.written below,
-      is ∙ g.packet ∙ ap (λ (n : ℕ). packet_of (content_in old.schedule h.units h.slots (slot_of old.schedule.schedule n))) st.written,
+      is ∙ g.packet ∙ ap (λ (n : ℕ). packet_of (content_in old.schedule h.changes h.units h.slots (slot_of old.schedule.schedule n))) st.written,
       ap (λ (m : MuxState). m.schedule) state ∙ schedule_stays old slot,
       subst (λ (m : MuxState). Represents (next_slot h) m) (sym state) g.represents,
       ap (λ (m : MuxState). m.capacity) state ∙ capacity_stays old slot,

@@ -29,9 +29,9 @@ use Rattle.slot_plan.specs.Promised.{Promised}
 use Rattle.unit_timing.specs.SystemBuffer.{system_tb_fullness, bsys_fullness}
 use Rattle.tstd.specs.Carried.{table_packets}
 use Rattle.mux_core.specs.Scheduled.{Scheduled}
-use Rattle.mux_core.specs.Histories.{pcr_content, content_in, content_at}
+use Rattle.mux_core.specs.Histories.{Change, pcr_content, content_in, content_over}
 use Rattle.mux_core.specs.Headline.{ProgramKept}
-use Rattle.mux_core.proofs.ContentPids.{names, silent, content_pid, is_content_pid}
+use Rattle.mux_core.proofs.ContentPids.{names_over, silent, content_pid, is_content_pid}
 use Rattle.mux_core.proofs.RisingSlots.{part_rises}
 
 -- Clock references
@@ -46,23 +46,23 @@ own_is i Null e = absurd (false≢true e)
 abbrev reference_in : (d : Scheduled) (p : DescribedProgram) → ℕ → Content
 reference_in d p s = PcrContent p.pcr_pid (pcr_at d.description.rate d.description.base0 (188 * s + 10))
 
-clock_at : (d : Scheduled) (units : ℕ → List AccessUnit) (s k : ℕ) (p : DescribedProgram) → slot_pid d.description (Pcr k) ≡ Some p.pcr_pid →
+clock_at : (d : Scheduled) (changes : List Change) (units : ℕ → List AccessUnit) (s k : ℕ) (p : DescribedProgram) → slot_pid d.description (Pcr k) ≡ Some p.pcr_pid →
     slot_of d.schedule s ≡ Pcr k
-    → content_at d units s ≡ reference_in d p s
-unfolding content_at content_in pcr_content
-clock_at d units s k p named e = ap (content_in d units s) e ∙ ap (pcr_content d.description s) named
+    → content_over d changes units s ≡ reference_in d p s
+unfolding content_over content_in pcr_content
+clock_at d changes units s k p named e = ap (content_in d changes units s) e ∙ ap (pcr_content d.description s) named
 
 clock_pid : (d : Scheduled) (p : DescribedProgram) (s : ℕ) → is_of_pid p.pcr_pid (view_of (reference_in d p s)) ≡ true
 unfolding content_pid
 clock_pid d p s = is_content_pid p.pcr_pid (reference_in d p s) ∙ eq-eqb p.pcr_pid p.pcr_pid refl
 
 -- The packets with a program's PCR PID are exactly the packets in the slots that name its clock.
-clock_slots : (d : Scheduled) (units : ℕ → List AccessUnit) (k : ℕ) (p : DescribedProgram) → IsInRange d.description →
+clock_slots : (d : Scheduled) (changes : List Change) (units : ℕ → List AccessUnit) (k : ℕ) (p : DescribedProgram) → IsInRange d.description →
     slot_pid d.description (Pcr k) ≡ Some p.pcr_pid → (s : ℕ)
-    → is_of_pid p.pcr_pid (view_of (content_at d units s)) ≡ owned d.schedule (PcrItem k) s
-clock_slots d units k p r named s = elim (cases_Bool (owned d.schedule (PcrItem k) s)) [
-  | inl y ↦ ap (λ (c : Content). is_of_pid p.pcr_pid (view_of c)) (clock_at d units s k p named (own_is k (slot_of d.schedule s) y)) ∙ clock_pid d p s ∙ sym y
-  | inr n ↦ silent d units s p.pcr_pid (Pcr k) r named (λ e. false≢true (sym n ∙ ap (is_own (PcrItem k)) e ∙ eq-eqb k k refl)) ∙ sym n
+    → is_of_pid p.pcr_pid (view_of (content_over d changes units s)) ≡ owned d.schedule (PcrItem k) s
+clock_slots d changes units k p r named s = elim (cases_Bool (owned d.schedule (PcrItem k) s)) [
+  | inl y ↦ ap (λ (c : Content). is_of_pid p.pcr_pid (view_of c)) (clock_at d changes units s k p named (own_is k (slot_of d.schedule s) y)) ∙ clock_pid d p s ∙ sym y
+  | inr n ↦ silent d changes units s p.pcr_pid (Pcr k) r named (λ e. false≢true (sym n ∙ ap (is_own (PcrItem k)) e ∙ eq-eqb k k refl)) ∙ sym n
 ]
 
 -- The value of each clock reference is the clock at its slot.
@@ -108,20 +108,20 @@ pmt_named d i p is =
 abbrev enters : ℕ → (ℕ → Content) → ℕ → Bool
 enters pmt_pid content s = is_of_pid 0 (view_of (content s)) || is_of_pid pmt_pid (view_of (content s))
 
-system_slot : (d : Scheduled) (units : ℕ → List AccessUnit) (i : ℕ) (p : DescribedProgram) → IsInRange d.description →
+system_slot : (d : Scheduled) (changes : List Change) (units : ℕ → List AccessUnit) (i : ℕ) (p : DescribedProgram) → IsInRange d.description →
     slice_get d.description.programs i ≡ Some p → (s : ℕ)
-    → enters p.pmt_pid (content_at d units) s ≡ true → owned d.schedule (System i) s ≡ true
-system_slot d units i p r is s e = elim (cases_Bool (is_of_pid 0 (view_of (content_at d units s)))) [
+    → enters p.pmt_pid (content_over d changes units) s ≡ true → owned d.schedule (System i) s ≡ true
+system_slot d changes units i p r is s e = elim (cases_Bool (is_of_pid 0 (view_of (content_over d changes units s)))) [
   | inl pat ↦
       let same : slot_of d.schedule s ≡ Table 0 =
-      slots_apart d.description (slot_of d.schedule s) (Table 0) 0 r (names d units s 0 (omega arith) pat) (pat_named d) in
+      slots_apart d.description (slot_of d.schedule s) (Table 0) 0 r (names_over d changes units s 0 (omega arith) pat) (pat_named d) in
       ap (is_own (System i)) same
   | inr no_pat ↦
-      let pmt : is_of_pid p.pmt_pid (view_of (content_at d units s)) ≡ true =
-      sym (ap (λ (b : Bool). b || is_of_pid p.pmt_pid (view_of (content_at d units s))) no_pat) ∙ e in
+      let pmt : is_of_pid p.pmt_pid (view_of (content_over d changes units s)) ≡ true =
+      sym (ap (λ (b : Bool). b || is_of_pid p.pmt_pid (view_of (content_over d changes units s))) no_pat) ∙ e in
       let same : slot_of d.schedule s ≡ Table (i + 1) =
       slots_apart d.description (slot_of d.schedule s) (Table (i + 1)) p.pmt_pid r
-      (names d units s p.pmt_pid (slots_below d.description (Table (i + 1)) p.pmt_pid r (pmt_named d i p is)) pmt) (pmt_named d i p is) in
+      (names_over d changes units s p.pmt_pid (slots_below d.description (Table (i + 1)) p.pmt_pid r (pmt_named d i p is)) pmt) (pmt_named d i p is) in
       ap (is_own (System i)) same ∙ of_second (i + 1)
 ]
   where
@@ -131,10 +131,10 @@ system_slot d units i p r is s e = elim (cases_Bool (is_of_pid 0 (view_of (conte
       | inr k ↦ let same : (n == n) ≡ true = eq-eqb n n refl in rw (k, same) refl
     ]
 
-pub program_kept : (d : Scheduled) (units : ℕ → List AccessUnit) (slots i : ℕ) (p : DescribedProgram) → IsInRange d.description →
-    Promised d.description d.schedule → Fits (content_at d units)
-    → slice_get d.description.programs i ≡ Some p → ProgramKept d p slots (run_bytes (content_at d units) 0 slots)
-program_kept d units slots i p r promised fits is = record {
+pub program_kept : (d : Scheduled) (changes : List Change) (units : ℕ → List AccessUnit) (slots i : ℕ) (p : DescribedProgram) → IsInRange d.description →
+    Promised d.description d.schedule → Fits (content_over d changes units)
+    → slice_get d.description.programs i ≡ Some p → ProgramKept d p slots (run_bytes (content_over d changes units) 0 slots)
+program_kept d changes units slots i p r promised fits is = record {
   clocks = ap (map (λ (e : Entry). e.packet)) listed
       ∙ clock_says d p content 0 slots clock
       ∙ sym (ap (map (λ (e : Entry). pcr_view p.pcr_pid (pcr_at d.description.rate d.description.base0 (188 * e.index + 10)))) listed);
@@ -145,7 +145,7 @@ program_kept d units slots i p r promised fits is = record {
 }
   where
     content : ℕ → Content
-    content = content_at d units
+    content = content_over d changes units
 
     within : i < length d.description.programs
     within = slice_get_within d.description.programs i p is
@@ -160,12 +160,12 @@ program_kept d units slots i p r promised fits is = record {
     named = clock_named d.description i p r is
 
     clock : (t : ℕ) → is_of_pid p.pcr_pid (view_of (content t)) ≡ true → content t ≡ reference_in d p t
-    clock t y = clock_at d units t k p named (own_is k (slot_of d.schedule t) (sym (clock_slots d units k p r named t) ∙ y))
+    clock t y = clock_at d changes units t k p named (own_is k (slot_of d.schedule t) (sym (clock_slots d changes units k p r named t) ∙ y))
 
     times : map (λ e. 188 * e.index + 10) (pid_list p.pcr_pid (run_bytes content 0 slots)) ≡ map (λ s. 188 * s + 10)
         (own_slots (owned d.schedule (PcrItem k)) 0 slots)
     times = indices_at_ten (pid_list p.pcr_pid (run_bytes content 0 slots))
-        ∙ ap (map (λ (s : ℕ). 188 * s + 10)) (run_indices p.pcr_pid slots content (owned d.schedule (PcrItem k)) fits (clock_slots d units k p r named))
+        ∙ ap (map (λ (s : ℕ). 188 * s + 10)) (run_indices p.pcr_pid slots content (owned d.schedule (PcrItem k)) fits (clock_slots d changes units k p r named))
 
     part : List ℕ
     part = own_slots (enters p.pmt_pid content) 0 slots
@@ -174,4 +174,4 @@ program_kept d units slots i p r promised fits is = record {
     entering = run_two 0 p.pmt_pid slots content (enters p.pmt_pid content) fits (λ t. refl)
 
     rises : Rises (owned d.schedule (System i)) 0 part
-    rises = part_rises (owned d.schedule (System i)) (enters p.pmt_pid content) (system_slot d units i p r is) 0 slots
+    rises = part_rises (owned d.schedule (System i)) (enters p.pmt_pid content) (system_slot d changes units i p r is) 0 slots

@@ -1,5 +1,5 @@
 -- One slot: the state gives the packet of the history, and the next state represents the history with one more slot.
-use Rattle.std.specs.Prelude.{ℕ, true, false, List, Option, Some, None, slice_get, option_map}
+use Rattle.std.specs.Prelude.{ℕ, true, false, List, [], Option, Some, None, slice_get, option_map}
 use Rattle.std.proofs.Common.{◌≡◌, ◌≢◌, inl, inr, refl, sym, ◌∙◌, ap, subst}
 use Rattle.std.proofs.lemmas.Bool.{eq-eqb, ne_eqb, cases_eq}
 use Rattle.std.proofs.lemmas.Option.{slice_get_within}
@@ -19,7 +19,7 @@ use Rattle.unit_queue.specs.Laws.{StreamSlotLaw, OtherStreamSlotLaw}
 use Rattle.table_rounds.specs.Carousels.{Carousel, carousel_after}
 use Rattle.table_rounds.specs.Laws.{HasPlaces, IsSourceOf, TableSlotLaw, OtherTableSlotLaw}
 use Rattle.mux_core.specs.Scheduled.{Scheduled}
-use Rattle.mux_core.specs.Histories.{History, owned_stream, table_of, stream_in, table_in, content_in, next_slot}
+use Rattle.mux_core.specs.Histories.{History, owned_stream, table_over, stream_in, table_in, content_in, next_slot}
 use Rattle.mux_core.specs.MuxStates.{MuxState, Represents, QueueRepresents, CarouselRepresents}
 use Rattle.mux_core.specs.SlotSteps.{queue_sends, queues_after, carousel_sends, carousels_after, section_bytes, sends, after}
 
@@ -90,34 +90,34 @@ abbrev tables_represent : Scheduled → History → List Carousel → Type 0
 tables_represent d h carousels = (t : ℕ) → CarouselRepresents d h t (slice_get carousels t) (slice_get (table_kinds d.description) t)
 
 -- Each table has its places, and its sections are its source.
-pub record TablesKnown (d : Scheduled) : Type 0 where
-  pub places : (t : ℕ) (kind : TableKind) → slice_get (table_kinds d.description) t ≡ Some kind → HasPlaces (table_of d t)
-  pub sources : (t : ℕ) (kind : TableKind) → slice_get (table_kinds d.description) t ≡ Some kind → IsSourceOf (table_of d t) (section_bytes d.description t)
+pub record TablesKnown (d : Scheduled) (h : History) : Type 0 where
+  pub places : (t : ℕ) (kind : TableKind) → slice_get (table_kinds d.description) t ≡ Some kind → HasPlaces (table_over d h.changes t)
+  pub sources : (t : ℕ) (kind : TableKind) → slice_get (table_kinds d.description) t ≡ Some kind → IsSourceOf (table_over d h.changes t) h.slots (section_bytes d.description t)
 
 table_other : OtherTableSlotLaw → (d : Scheduled) (h : History) (t : ℕ) (carousel : Option Carousel) (kind : Option TableKind) →
     owned d.schedule (TableItem t) h.slots ≡ false → CarouselRepresents d h t carousel kind → CarouselRepresents d (next_slot h) t carousel kind
-table_other law d h t (Some carousel) (Some kind) idle st = law (table_of d t) h.slots carousel idle st
+table_other law d h t (Some carousel) (Some kind) idle st = law (table_over d h.changes t) h.slots carousel idle st
 table_other law d h t (Some carousel) None idle st = st
 table_other law d h t None (Some kind) idle st = st
 table_other law d h t None None idle st = st
 
-table_own : TableSlotLaw → (d : Scheduled) (h : History) (t : ℕ) (carousel : Option Carousel) (kind : Option TableKind) → TablesKnown d →
+table_own : TableSlotLaw → (d : Scheduled) (h : History) (t : ℕ) (carousel : Option Carousel) (kind : Option TableKind) → TablesKnown d h →
     slice_get (table_kinds d.description) t ≡ kind →
     owned d.schedule (TableItem t) h.slots ≡ true → CarouselRepresents d h t carousel kind →
     CarouselRepresents d (next_slot h) t (option_map (carousel_after (section_bytes d.description t) h.slots) carousel) kind
 table_own law d h t (Some carousel) (Some kind) known is own st =
-    (law (table_of d t) h.slots (section_bytes d.description t) carousel (known.places t kind is) (known.sources t kind is) own st).holds
+    (law (table_over d h.changes t) h.slots (section_bytes d.description t) carousel (known.places t kind is) (known.sources t kind is) own st).holds
 table_own law d h t (Some carousel) None known is own st = st
 table_own law d h t None (Some kind) known is own st = st
 table_own law d h t None None known is own st = st
 
-table_sends : TableSlotLaw → (d : Scheduled) (h : History) (t : ℕ) (carousel : Option Carousel) (kind : Option TableKind) → TablesKnown d →
+table_sends : TableSlotLaw → (d : Scheduled) (h : History) (t : ℕ) (carousel : Option Carousel) (kind : Option TableKind) → TablesKnown d h →
     slice_get (table_kinds d.description) t ≡ kind →
     owned d.schedule (TableItem t) h.slots ≡ true → CarouselRepresents d h t carousel kind →
-    packet_of (carousel_sends (section_bytes d.description t) h.slots carousel) ≡ packet_of (table_in d h.slots t kind)
+    packet_of (carousel_sends (section_bytes d.description t) h.slots carousel) ≡ packet_of (table_in d h.changes h.slots t kind)
 unfolding carousel_sends table_in
 table_sends law d h t (Some carousel) (Some kind) known is own st =
-    (law (table_of d t) h.slots (section_bytes d.description t) carousel (known.places t kind is) (known.sources t kind is) own st).packet
+    (law (table_over d h.changes t) h.slots (section_bytes d.description t) carousel (known.places t kind is) (known.sources t kind is) own st).packet
 table_sends law d h t (Some carousel) None known is own st = absurd st
 table_sends law d h t None (Some kind) known is own st = absurd st
 table_sends law d h t None None known is own st = refl
@@ -135,7 +135,7 @@ unfolding carousels_after
 carousel_other source slot j t carousels None ne = refl
 carousel_other source slot j t carousels (Some carousel) ne = slice_get-set_other carousels t j (carousel_after source slot carousel) ne
 
-tables_on : TableSlotLaw → OtherTableSlotLaw → (d : Scheduled) (h : History) (t : ℕ) (carousels : List Carousel) → TablesKnown d →
+tables_on : TableSlotLaw → OtherTableSlotLaw → (d : Scheduled) (h : History) (t : ℕ) (carousels : List Carousel) → TablesKnown d h →
     slot_of d.schedule h.slots ≡ Table t → tables_represent d h carousels →
     tables_represent d (next_slot h) (carousels_after (section_bytes d.description t) h.slots carousels t (slice_get carousels t))
 tables_on own_law other_law d h t carousels known is st j = elim (cases_eq j t) [
@@ -160,7 +160,7 @@ tables_idle law d h carousels idle st t = table_other law d h t (slice_get carou
 
 -- The state writes the packet of a slot, and then represents the next history.
 pub record Advances (h : History) (m : MuxState) (slot : Slot) : Type 0 where
-  pub packet : packet_of (sends m slot) ≡ packet_of (content_in m.schedule h.units h.slots slot)
+  pub packet : packet_of (sends m slot) ≡ packet_of (content_in m.schedule h.changes h.units h.slots slot)
   pub represents : Represents (next_slot h) (after m slot)
 
 -- The laws of queues and tables that a slot uses.
@@ -173,47 +173,51 @@ pub record Laws : Type 0 where
 abbrev mux_state : Scheduled → List Queue → List Carousel → ℕ → ℕ → MuxState
 mux_state d queues carousels capacity slots = record { schedule = d; queues = queues; carousels = carousels; capacity = capacity; slots = slots }
 
-slot_advances : Laws → (h : History) (d : Scheduled) (queues : List Queue) (carousels : List Carousel) (capacity : ℕ) (slot : Slot) → TablesKnown d →
-    slot_of d.schedule h.slots ≡ slot → streams_represent d h capacity queues → tables_represent d h carousels →
+slot_advances : Laws → (h : History) (d : Scheduled) (queues : List Queue) (carousels : List Carousel) (capacity : ℕ) (slot : Slot) → TablesKnown d h →
+    slot_of d.schedule h.slots ≡ slot → h.changes ≡ [] → streams_represent d h capacity queues → tables_represent d h carousels →
     Advances h (mux_state d queues carousels capacity h.slots) slot
 unfolding sends after content_in
-slot_advances laws h d queues carousels capacity (Stream k) known is streams tables = record {
+slot_advances laws h d queues carousels capacity (Stream k) known is same streams tables = record {
   packet = stream_sends laws.own_stream d h capacity k (slice_get queues k) (slice_get d.description.streams k)
       (ap (is_own (StreamItem k)) is ∙ eq-eqb k k refl) (streams k);
   represents = record {
     written = refl;
+    unchanged = same;
     streams = streams_on laws.own_stream laws.other_stream d h capacity k queues is streams;
     tables = tables_idle laws.other_table d h carousels (λ t. ap (is_own (TableItem t)) is) tables;
   };
 }
-slot_advances laws h d queues carousels capacity (Pcr p) known is streams tables = record {
+slot_advances laws h d queues carousels capacity (Pcr p) known is same streams tables = record {
   packet = refl;
   represents = record {
     written = refl;
+    unchanged = same;
     streams = streams_idle laws.other_stream d h capacity queues (λ k. ap (is_own (StreamItem k)) is) streams;
     tables = tables_idle laws.other_table d h carousels (λ t. ap (is_own (TableItem t)) is) tables;
   };
 }
-slot_advances laws h d queues carousels capacity (Table t) known is streams tables = record {
+slot_advances laws h d queues carousels capacity (Table t) known is same streams tables = record {
   packet = table_sends laws.own_table d h t (slice_get carousels t) (slice_get (table_kinds d.description) t) known refl
       (ap (is_own (TableItem t)) is ∙ eq-eqb t t refl) (tables t);
   represents = record {
     written = refl;
+    unchanged = same;
     streams = streams_idle laws.other_stream d h capacity queues (λ k. ap (is_own (StreamItem k)) is) streams;
     tables = tables_on laws.own_table laws.other_table d h t carousels known is tables;
   };
 }
-slot_advances laws h d queues carousels capacity Null known is streams tables = record {
+slot_advances laws h d queues carousels capacity Null known is same streams tables = record {
   packet = refl;
   represents = record {
     written = refl;
+    unchanged = same;
     streams = streams_idle laws.other_stream d h capacity queues (λ k. ap (is_own (StreamItem k)) is) streams;
     tables = tables_idle laws.other_table d h carousels (λ t. ap (is_own (TableItem t)) is) tables;
   };
 }
 
 -- The next slot of a multiplexer advances it.
-pub advances : Laws → (h : History) (m : MuxState) → TablesKnown m.schedule → Represents h m → Advances h m (slot_of m.schedule.schedule m.slots)
+pub advances : Laws → (h : History) (m : MuxState) → TablesKnown m.schedule h → Represents h m → Advances h m (slot_of m.schedule.schedule m.slots)
 advances laws h m known st =
     subst (λ (n : ℕ). Advances h (mux_state m.schedule m.queues m.carousels m.capacity n) (slot_of m.schedule.schedule n)) (sym st.written)
-    (slot_advances laws h m.schedule m.queues m.carousels m.capacity (slot_of m.schedule.schedule h.slots) known refl st.streams st.tables)
+    (slot_advances laws h m.schedule m.queues m.carousels m.capacity (slot_of m.schedule.schedule h.slots) known refl st.unchanged st.streams st.tables)

@@ -1,6 +1,6 @@
 -- The promises of the finished bytes of a run, at every moment and for runs of any length: every accepted unit is on its PID, in order and in time, and no
 -- buffer of the decoder model (ISO/IEC 13818-1, 2.4.2) ever overflows.
-use Rattle.std.specs.Prelude.{◌≡◌, ◌⊎◌, ℕ, ◌+◌, ◌*◌, ◌%◌, ◌<◌, ◌≤◌, true, false, List, length, map, take, slice_get, Some, None, All}
+use Rattle.std.specs.Prelude.{◌≡◌, ◌⊎◌, ℕ, ◌+◌, ◌*◌, ◌%◌, ◌<◌, ◌≤◌, true, false, List, [], length, map, take, slice_get, Some, None, All}
 use Rattle.clock27.specs.Recurrence.{Recur}
 use Rattle.clock27.specs.Reference.{Reference, pcr_at}
 use Rattle.pes_packet.specs.AccessUnits.{AccessUnit}
@@ -35,7 +35,7 @@ use Rattle.tstd.specs.Carried.{carries, timed_pes_packets, packets_on, table_pac
 use Rattle.tstd.specs.Measured.{late_of}
 use Rattle.mux_core.specs.Scheduled.{Scheduled}
 use Rattle.mux_core.specs.FramesKept.{FramesKept}
-use Rattle.mux_core.specs.Histories.{History, parameters_of, owned_stream, table_of, content_at}
+use Rattle.mux_core.specs.Histories.{Change, History, parameters_of, owned_stream, table_over, content_over}
 use Rattle.mux_core.specs.MuxStates.{MuxState, Represents}
 use Rattle.description_parts.specs.Ranges.{IsInRange}
 use Rattle.slot_plan.specs.Promised.{Promised}
@@ -99,13 +99,13 @@ pub record ProgramKept (d : Scheduled) (p : DescribedProgram) (slots : ℕ) (byt
   pub system_transport : (x : ℕ) → system_tb_fullness d.description.rate x (table_packets p.pmt_pid bytes) ≤ 512
   pub system_buffer : (x : ℕ) → bsys_fullness d.description.rate x (table_packets p.pmt_pid bytes) ≤ 1536
 
--- the promises for table number t
-pub record TableKept (d : Scheduled) (t slots : ℕ) (bytes : List ℕ) : Type 0 where
-  -- its sections, each with the contents of the moment of its round, with consecutive counters
-  pub sections : TableCarried (table_of d t) slots bytes
+-- the promises for table number t, over these changes of its texts
+pub record TableKeptOver (d : Scheduled) (changes : List Change) (t slots : ℕ) (bytes : List ℕ) : Type 0 where
+  -- its sections, each with the contents of the moment of its round by the texts in force where it begins, with consecutive counters
+  pub sections : TableCarried (table_over d changes t) slots bytes
   -- in each slot that is the first place of a section, a packet begins that section
   pub begins : (j s : ℕ) → j < section_count d.description t → s < slots → section_starts d.description d.schedule t j s ≡ true →
-      Begins (table_of d t) j s bytes
+      Begins (table_over d changes t) j s bytes
   -- these slots recur within the table's limit, from the begin to the end of the run
   pub sections_recur : (j : ℕ) → j < section_count d.description t →
       Recur d.description.rate (table_limit d.description t) 0 (map (λ s. 188 * s) (own_slots (section_starts d.description d.schedule t j) 0 slots))
@@ -113,6 +113,10 @@ pub record TableKept (d : Scheduled) (t slots : ℕ) (bytes : List ℕ) : Type 0
   -- a transponder's sections of service information are 25 ms apart: from the slot in which one ends to the slot in which the next of its
   -- sub-table begins
   pub sections_apart : is_spaced d.description t ≡ true → SectionsApart d.description t (owned d.schedule (Table t))
+
+-- the same without a change
+abbrev pub TableKept : Scheduled → ℕ → ℕ → List ℕ → Type 0
+TableKept d t slots bytes = TableKeptOver d [] t slots bytes
 
 -- 188 bytes are a packet, by the standard's table of fields (ISO/IEC 13818-1, 2.4.3.2)
 abbrev pub IsTransportPacket : List ℕ → Type 0
@@ -138,8 +142,8 @@ pub record IsClockAlone (d : Described) (packet : PacketView) : Type 0 where
   pub reference : Reference
   pub alone : packet ≡ pcr_view packet.header.pid reference
 
--- the promises for the whole output
-pub record Headline (d : Scheduled) (units : ℕ → List AccessUnit) (slots : ℕ) (bytes : List ℕ) : Type 0 where
+-- the promises for the whole output, over these changes of its texts
+pub record HeadlineOver (d : Scheduled) (changes : List Change) (units : ℕ → List AccessUnit) (slots : ℕ) (bytes : List ℕ) : Type 0 where
   -- 188 bytes a slot
   pub size : length bytes ≡ 188 * slots
   -- each 188 bytes are a packet
@@ -152,7 +156,11 @@ pub record Headline (d : Scheduled) (units : ℕ → List AccessUnit) (slots : �
   pub access : All (λ e. IsAccessAtStart e.packet) (entries_of bytes)
   pub streams : (k : ℕ) (s : DescribedStream) → slice_get d.description.streams k ≡ Some s → StreamKept d k s (units k) slots bytes
   pub programs : (i : ℕ) (p : DescribedProgram) → slice_get d.description.programs i ≡ Some p → ProgramKept d p slots bytes
-  pub tables : (t : ℕ) → t < table_count d.description → TableKept d t slots bytes
+  pub tables : (t : ℕ) → t < table_count d.description → TableKeptOver d changes t slots bytes
+
+-- the same without a change
+abbrev pub Headline : Scheduled → (ℕ → List AccessUnit) → ℕ → List ℕ → Type 0
+Headline d units slots bytes = HeadlineOver d [] units slots bytes
 
 -- the numbers of each stream are in their ranges, and its units are within its declaration
 pub record UnitsKept (d : Scheduled) (units : ℕ → List AccessUnit) : Type 0 where
@@ -161,10 +169,10 @@ pub record UnitsKept (d : Scheduled) (units : ℕ → List AccessUnit) : Type 0 
 
 -- the promises of a run: its schedule keeps the conditions, and its units were accepted
 abbrev pub HeadlineLaw : Type 0
-HeadlineLaw = (d : Scheduled) (units : ℕ → List AccessUnit) (slots : ℕ) → IsInRange d.description → Promised d.description d.schedule → UnitsKept d units →
-    Headline d units slots (run_bytes (content_at d units) 0 slots)
+HeadlineLaw = (d : Scheduled) (changes : List Change) (units : ℕ → List AccessUnit) (slots : ℕ) → IsInRange d.description →
+    Promised d.description d.schedule → UnitsKept d units → HeadlineOver d changes units slots (run_bytes (content_over d changes units) 0 slots)
 
 -- the same promises for the history that a multiplexer represents, as far as its bytes go
 abbrev pub AnyStateLaw : Type 0
 AnyStateLaw = (h : History) (m : MuxState) (n : ℕ) → IsInRange m.schedule.description → Promised m.schedule.description m.schedule.schedule → Represents h m →
-    Headline m.schedule h.units n (run_bytes (content_at m.schedule h.units) 0 n)
+    HeadlineOver m.schedule h.changes h.units n (run_bytes (content_over m.schedule h.changes h.units) 0 n)

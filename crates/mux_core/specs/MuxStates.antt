@@ -1,5 +1,5 @@
 -- The state of a multiplexer, and the history that it represents.
-use Rattle.std.specs.Prelude.{◌≡◌, ◌≤◌, ◌<◌, ◌^◌, ℕ, List, Option, Some, None, slice_get, length, option_map, Result, Ok, Err, ⊤}
+use Rattle.std.specs.Prelude.{◌≡◌, ◌≤◌, ◌<◌, ◌^◌, ℕ, List, [], Option, Some, None, slice_get, length, option_map, Result, Ok, Err, ⊤}
 use Rattle.pes_packet.specs.AccessUnits.{AccessUnit}
 use Rattle.slot_contents.specs.Contents.{packet_of}
 use Rattle.description_parts.specs.Described.{DescribedStream}
@@ -12,7 +12,7 @@ use Rattle.unit_queue.specs.Causes.{unit_cause}
 use Rattle.unit_queue.specs.Queues.{Queue, QueueHolds}
 use Rattle.table_rounds.specs.Carousels.{Carousel, CarouselHolds}
 use Rattle.mux_core.specs.Scheduled.{Scheduled}
-use Rattle.mux_core.specs.Histories.{History, owned_stream, table_of, content_at, bytes_of, next_slot, with_unit}
+use Rattle.mux_core.specs.Histories.{History, owned_stream, table_over, content_over, bytes_of, next_slot, with_unit}
 use Rattle.mux_core.specs.declared.done.Done.{Done}
 
 -- the schedule, a queue for each stream, the carousel of each table, the capacity of a queue in units, and the number of slots written
@@ -32,7 +32,7 @@ QueueRepresents d h capacity k None None = ⊤
 
 -- the carousel of a table represents the table's own slots so far
 abbrev pub CarouselRepresents : Scheduled → History → ℕ → Option Carousel → Option TableKind → Type 0
-CarouselRepresents d h t (Some carousel) (Some kind) = CarouselHolds (table_of d t) h.slots carousel
+CarouselRepresents d h t (Some carousel) (Some kind) = CarouselHolds (table_over d h.changes t) h.slots carousel
 CarouselRepresents d h t (Some carousel) None = ⊥
 CarouselRepresents d h t None (Some kind) = ⊥
 CarouselRepresents d h t None None = ⊤
@@ -40,13 +40,14 @@ CarouselRepresents d h t None None = ⊤
 -- a multiplexer represents a history
 pub record Represents (h : History) (m : MuxState) : Type 0 where
   pub written : m.slots ≡ h.slots
+  pub unchanged : h.changes ≡ []
   pub streams : (k : ℕ) → QueueRepresents m.schedule h m.capacity k (slice_get m.queues k) (slice_get m.schedule.description.streams k)
   pub tables : (t : ℕ) → CarouselRepresents m.schedule h t (slice_get m.carousels t) (slice_get (table_kinds m.schedule.description) t)
 
 -- the next 188 bytes of the history, and the history with one more slot; nothing after 2^40 slots
 abbrev pub Gives : History → MuxState → Result (List ℕ) Done → MuxState → Type 0
 Gives h old (Ok packet) new =
-    (h.slots < 2 ^ 40) × (packet ≡ packet_of (content_at old.schedule h.units h.slots)) × (new.schedule ≡ old.schedule) × Represents (next_slot h) new ×
+    (h.slots < 2 ^ 40) × (packet ≡ packet_of (content_over old.schedule h.changes h.units h.slots)) × (new.schedule ≡ old.schedule) × Represents (next_slot h) new ×
     (new.capacity ≡ old.capacity)
 Gives h old (Err e) new = (2 ^ 40 ≤ h.slots) × (new ≡ old)
 

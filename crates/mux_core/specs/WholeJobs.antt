@@ -11,7 +11,7 @@ use Rattle.plan_checker.specs.Served.{Served}
 use Rattle.switch_checker.specs.Followed.{Followed}
 use Rattle.unit_queue.specs.declared.refusal.FeedError.{FeedError}
 use Rattle.mux_core.specs.Scheduled.{Scheduled}
-use Rattle.mux_core.specs.Histories.{History, content_at}
+use Rattle.mux_core.specs.Histories.{History, content_over}
 use Rattle.mux_core.specs.MuxStates.{MuxState, Represents, feed_cause}
 use Rattle.mux_core.specs.NewMux.{is_periods}
 use Rattle.mux_core.specs.Buffer.{byte_count, Took}
@@ -42,7 +42,7 @@ capacity_for units = min (max 1 (max_stream_units units)) 1048576
 
 -- the history with all these units accepted and `slots` slots written
 abbrev pub job_history : List (ℕ × AccessUnit) → ℕ → History
-job_history units slots = record { units = λ k. units_of k units; slots = slots }
+job_history units slots = record { units = λ k. units_of k units; changes = []; slots = slots }
 
 -- ---- why nothing is written
 
@@ -115,7 +115,7 @@ run_output hex content s (suc n) = formatted hex (packet_of (content s)) ++ run_
 
 -- the output of a history
 abbrev pub output_of : Bool → Scheduled → History → List ℕ
-output_of hex d h = run_output hex (content_at d h.units) 0 h.slots
+output_of hex d h = run_output hex (content_over d h.changes h.units) 0 h.slots
 
 -- the number of output bytes for a slot
 abbrev pub slot_size : Bool → ℕ

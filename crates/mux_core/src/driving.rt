@@ -4,7 +4,7 @@ ghost use Rattle.std.specs.Prelude.{◌≡◌, ◌≤◌, ◌+◌, IfErr, OnOk, 
 ghost use Rattle.std.specs.Vec.{vec_len, vec_capacity};
 ghost use Rattle.mux_core.specs.Histories.{History, bytes_of};
 ghost use Rattle.mux_core.specs.MuxStates.{Represents};
-ghost use Rattle.mux_core.specs.Headline.{Headline};
+ghost use Rattle.mux_core.specs.Headline.{HeadlineOver};
 ghost use Rattle.mux_core.specs.Events.{shown, FeedStep, SlotStep, step_history, history_after, Adds, StillRepresents};
 
 use crate::multiplexer::Mux;
@@ -34,7 +34,8 @@ pub fn drive<A: Allocator>(
         (Adds mux.old.schedule h (history_after mux.old.schedule mux.old.capacity h (map shown events.items))
         out.old.items out.new.items) }
     ensures headline { (h : History) → Represents h mux.old →
-        OnOk result (Headline mux.old.schedule
+        OnOk result (HeadlineOver mux.old.schedule
+        (history_after mux.old.schedule mux.old.capacity h (map shown events.items)).changes
         (history_after mux.old.schedule mux.old.capacity h (map shown events.items)).units
         (history_after mux.old.schedule mux.old.capacity h (map shown events.items)).slots
         (bytes_of mux.old.schedule (history_after mux.old.schedule mux.old.capacity h (map shown events.items)))) }

@@ -6,7 +6,7 @@ ghost use Rattle.slot_plan.specs.Schedule.{slot_of};
 ghost use Rattle.unit_queue.specs.Causes.{refusal};
 ghost use Rattle.mux_core.specs.Histories.{History, bytes_of, next_slot};
 ghost use Rattle.mux_core.specs.MuxStates.{Represents, Gives, Takes, waiting_of};
-ghost use Rattle.mux_core.specs.Headline.{Headline};
+ghost use Rattle.mux_core.specs.Headline.{HeadlineOver};
 ghost use Rattle.mux_core.specs.SlotSteps.{sends, after, queue_cause, queues_with};
 ghost use Rattle.description_parts.specs.Ranges.{IsInRange};
 ghost use Rattle.slot_plan.specs.Promised.{Promised};
@@ -77,7 +77,8 @@ impl<A: Allocator> Mux<A> {
     pub fn next_packet(&mut self) -> Result<[u8; 188], Done>
         ensures next { (h : History) → Represents h self.old → Gives h self.old result self.new }
         ensures headline { (h : History) → Represents h self.old →
-            OnOk result (Headline self.old.schedule h.units (suc h.slots) (bytes_of self.old.schedule (next_slot h))) }
+            OnOk result (HeadlineOver self.old.schedule h.changes h.units (suc h.slots)
+            (bytes_of self.old.schedule (next_slot h))) }
     {
         let mut packet = [0; 188];
         match self.write_next(&mut packet) {
@@ -92,7 +93,8 @@ impl<A: Allocator> Mux<A> {
         ensures next { (h : History) → Represents h self.old → OnOk result (Gives h self.old (Ok packet.new) self.new) }
         ensures done { (h : History) → Represents h self.old → IfErr result (λ done. Gives h self.old (Err done) self.new) }
         ensures headline { (h : History) → Represents h self.old →
-            OnOk result (Headline self.old.schedule h.units (suc h.slots) (bytes_of self.old.schedule (next_slot h))) }
+            OnOk result (HeadlineOver self.old.schedule h.changes h.units (suc h.slots)
+            (bytes_of self.old.schedule (next_slot h))) }
         ensures same { OnErr result (packet.new ≡ packet.old) }
     {
         if self.slots >= MAX_SLOTS {

@@ -5,7 +5,7 @@ ghost use Rattle.counted_io.specs.Device.{Failed};
 ghost use Rattle.pes_packet.specs.Units.{units_of};
 ghost use Rattle.mux_core.specs.Headline.{Headline};
 ghost use Rattle.mux_core.specs.MeasuredRuns.{MeasuresWell};
-ghost use Rattle.mux_core.specs.Histories.{History, content_at, bytes_of, empty_history};
+ghost use Rattle.mux_core.specs.Histories.{History, content_over, bytes_of, empty_history};
 ghost use Rattle.mux_core.specs.MuxStates.{Represents};
 ghost use Rattle.mux_core.specs.Buffer.{waiting_of, IsOutput, Took};
 ghost use Rattle.mux_core.specs.WholeJobs.{plan_schedule, switch_schedule, job_history, slots_cause};
@@ -230,7 +230,7 @@ fn write_all<A: Allocator, B: Allocator, W: Sink>(
     requires empty { waiting_of packets ≡ [] }
     requires none_sent { packets.sent ≡ 0 }
     ensures answers { (h : History) → Represents h mux.old → h.slots ≡ 0 →
-        WritesAll (run_output packets.hex (content_at mux.old.schedule h.units) 0 slots)
+        WritesAll (run_output packets.hex (content_over mux.old.schedule h.changes h.units) 0 slots)
         (W.contents to.old) (W.contents to.new) result }
     ensures fault { NamesWriter result (W.fault_count to.old) (W.fault_count to.new) }
 {
@@ -273,11 +273,11 @@ fn write_slots<A: Allocator, B: Allocator, W: Sink>(
     ensures ok { (h : History) (start : Option (List ℕ)) → Represents h mux.old → h.slots ≡ 0 →
         IsOutput start (W.contents to.old) packets.old [] →
         OnOk result (IsOutput start (W.contents to.new) packets.new
-        (run_output packets.old.hex (content_at mux.old.schedule h.units) 0 slots)) }
+        (run_output packets.old.hex (content_over mux.old.schedule h.changes h.units) 0 slots)) }
     ensures err { (h : History) (start : Option (List ℕ)) → Represents h mux.old → h.slots ≡ 0 →
         IsOutput start (W.contents to.old) packets.old [] →
         IfErr result (λ fault. Took start (W.contents to.new) fault.sent
-        (run_output packets.old.hex (content_at mux.old.schedule h.units) 0 slots)) }
+        (run_output packets.old.hex (content_over mux.old.schedule h.changes h.units) 0 slots)) }
     ensures clean { OnOk result (W.fault_count to.new ≡ W.fault_count to.old) }
     ensures fault { OnErr result (Failed (W.fault_count to.old) (W.fault_count to.new)) }
 {

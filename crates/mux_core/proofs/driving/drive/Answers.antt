@@ -1,6 +1,6 @@
 use Rattle.std.proofs.Common.{◌≡◌, ◌∷◌, [], ℕ, List, length, map, sym, ap, ◌∙◌, subst, arith, rules}
 use Rattle.mux_core.specs.Histories.{bytes_of}
-use Rattle.mux_core.specs.Headline.{Headline}
+use Rattle.mux_core.specs.Headline.{HeadlineOver}
 use Rattle.mux_core.specs.declared.driving.Event.{Event}
 use Rattle.mux_core.specs.Events.{Step, FeedStep, SlotStep, shown, history_after, Adds, StillRepresents}
 use Rattle.mux_core.proofs.EventSteps.{Driven, driven_none, driven_more, driven_unit, driven_represents, driven_adds, driven_headline}
@@ -78,7 +78,8 @@ returns-clause-written g c = λ h st.
 pub returns-clause-headline : goal.returns-clause-headline
 returns-clause-headline g c = λ h st.
     let none : c.events.left.items ≡ [] = search rules in
-    subst (λ (l : List (Event g.row.A.Denot)). Headline c.args.mux.now.schedule
+    subst (λ (l : List (Event g.row.A.Denot)). HeadlineOver c.args.mux.now.schedule
+    (history_after c.args.mux.now.schedule c.args.mux.now.capacity h (map (shown {A = g.row.A.Denot}) l)).changes
     (history_after c.args.mux.now.schedule c.args.mux.now.capacity h (map (shown {A = g.row.A.Denot}) l)).units
     (history_after c.args.mux.now.schedule c.args.mux.now.capacity h (map (shown {A = g.row.A.Denot}) l)).slots
     (bytes_of c.args.mux.now.schedule (history_after c.args.mux.now.schedule c.args.mux.now.capacity h (map (shown {A = g.row.A.Denot}) l))))
