@@ -147,12 +147,12 @@ texts_all P text j (l ∷ ls) h =
     All-cons P (text j) (sections_from text (suc j) ls) (subst (λ (n : ℕ). P (text n)) here (h 0 (omega arith)))
     (texts_all P text (suc j) ls (λ i lt. let same : j + suc i ≡ suc j + i = omega arith in subst (λ (n : ℕ). P (text n)) same (h (suc i) (omega (arith, lt)))))
 
-pub rounds_all : (P : List ℕ → Type 0) (table : Table) (slots : List ℕ) → ((j moment : ℕ) → j < length table.lengths → P (table.bytes j moment)) →
+pub rounds_all : (P : List ℕ → Type 0) (table : Table) (slots : List ℕ) → ((s j moment : ℕ) → j < length table.lengths → P (table.bytes s j moment)) →
     All P (flat_map (round_sections table) slots)
 rounds_all P table [] h = All-nil P
 rounds_all P table (s ∷ slots) h =
     subst (All P) (sym (flat_map-cons (round_sections table) s slots))
     (All-append P (round_sections table s) (flat_map (round_sections table) slots)
-    (texts_all P (λ j. table.bytes j (moment_of table s)) 0 table.lengths
-    (λ i lt. let same : i ≡ 0 + i = omega arith in subst (λ (n : ℕ). P (table.bytes n (moment_of table s))) same (h i (moment_of table s) lt)))
+    (texts_all P (λ j. table.bytes s j (moment_of table s)) 0 table.lengths
+    (λ i lt. let same : i ≡ 0 + i = omega arith in subst (λ (n : ℕ). P (table.bytes s n (moment_of table s))) same (h s i (moment_of table s) lt)))
     (rounds_all P table slots h))

@@ -52,7 +52,7 @@ table_clean d units n t r kept few lt =
     let alone = one_table d units t r kept lt in
     let whole : All IsWhole (sections_of_rounds (table_of d t) n) =
     rounds_all IsWhole (table_of d t) (own_slots (starts (table_of d t).own (round_places (table_of d t).lengths) 0) 0 n)
-    (λ j moment within. section_whole d.description t j moment r lt within) in
+    (λ s j moment within. section_whole d.description t j moment r lt within) in
     sections_are_clean (table_pid d.description t) n (content_at d units) (sections_of_rounds (table_of d t) n) (is_run d units n r kept few) alone.no_null
     (tables_carry (table_of d t) n (content_at d units) alone (has_places d t r lt) (has_room d t r)) whole
 

@@ -223,10 +223,10 @@ named_are_maps d units n pid since r kept few e = by_all d.description pid since
     slots = own_slots (starts (table_of d 0).own (round_places (table_of d 0).lengths) 0) 0 n
 
     given : All IsRecognized (sections_of_rounds (table_of d 0) n)
-    given = rounds_all IsRecognized (table_of d 0) slots (λ j moment lt. section_distinguishable d.description 0 j moment r there reported lt)
+    given = rounds_all IsRecognized (table_of d 0) slots (λ s j moment lt. section_distinguishable d.description 0 j moment r there reported lt)
 
     texts_name : All (λ text. Names d.description (IsSection text)) (sections_of_rounds (table_of d 0) n)
-    texts_name = rounds_all (λ text. Names d.description (IsSection text)) (table_of d 0) slots (λ j moment lt. text_names d.description j moment r)
+    texts_name = rounds_all (λ text. Names d.description (IsSection text)) (table_of d 0) slots (λ s j moment lt. text_names d.description j moment r)
 
     back : map (with_pid_at 0) (each_found section_found n (sendings section_packets (sections_of_rounds (table_of d 0) n) (packets_on 0 bytes))) ≡ map
         (with_pid_at 0) (found_on 0 bytes)

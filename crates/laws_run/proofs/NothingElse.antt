@@ -21,7 +21,7 @@ use Rattle.table_rounds.specs.Tables.{payloads_before, part_at}
 use Rattle.table_rounds.specs.Parts.{part_content}
 use Rattle.laws_run.specs.PidLaws.{IsOfPid}
 use Rattle.mux_core.specs.Scheduled.{Scheduled}
-use Rattle.mux_core.specs.Histories.{owned_stream, table_of, stream_in, pcr_content, table_in, content_in, content_at}
+use Rattle.mux_core.specs.Histories.{owned_stream, table_of, stream_in, pcr_content, table_in, content_in, content_at, content_over}
 use Rattle.laws_run.specs.GivenBack.{IsSentOn, IsOfSent}
 
 -- PIDs that carry neither a stream nor a table
@@ -46,7 +46,7 @@ clock_silent d pid slot None = refl
 clock_silent d pid slot (Some other) = refl
 
 table_silent : (d : Scheduled) (pid slot t : ℕ) (o : Option TableKind) → slice_get (table_kinds d.description) t ≡ o →
-    IsSilent d.description pid → payload_in pid slot (table_in d slot t o) ≡ []
+    IsSilent d.description pid → payload_in pid slot (table_in d [] slot t o) ≡ []
 unfolding table_in part_content
 table_silent d pid slot t None e none = refl
 table_silent d pid slot t (Some kind) e none = by (part_at (table_of d t) slot)
@@ -56,7 +56,7 @@ table_silent d pid slot t (Some kind) e none = by (part_at (table_of d t) slot)
     by (Some part) = let no = none.tables t (slice_get_within (table_kinds d.description) t kind e) in rw no refl
 
 slot_silent : (d : Scheduled) (units : ℕ → List AccessUnit) (pid slot : ℕ) (item : Slot) → IsSilent d.description pid →
-    payload_in pid slot (content_in d units slot item) ≡ []
+    payload_in pid slot (content_in d [] units slot item) ≡ []
 unfolding content_in
 slot_silent d units pid slot (Stream k) none = stream_silent d units pid slot k (slice_get d.description.streams k) refl none
 slot_silent d units pid slot (Pcr i) none = clock_silent d.description pid slot (slot_pid d.description (Pcr i))
@@ -64,7 +64,7 @@ slot_silent d units pid slot (Table t) none = table_silent d pid slot t (slice_g
 slot_silent d units pid slot Null none = refl
 
 pub all_silent : (d : Scheduled) (units : ℕ → List AccessUnit) (pid slot : ℕ) → IsSilent d.description pid → payload_in pid slot (content_at d units slot) ≡ []
-unfolding content_at
+unfolding content_over
 all_silent d units pid slot none = slot_silent d units pid slot (slot_of d.schedule slot) none
 
 -- The two kinds of PIDs: with a stream or a table, and with neither

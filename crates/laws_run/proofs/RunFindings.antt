@@ -1,5 +1,5 @@
 -- A demultiplexer gives back from the finished bytes of a run what was sent.
-use Rattle.std.proofs.Common.{◌≡◌, ◌⊎◌, ℕ, ◌-◌, ◌^◌, ◌<◌, ◌==◌, false, IsTrue, List, [], ◌∷◌, length, map, Some, slice_get, ap, ◌∙◌, arith, All, inl, inr}
+use Rattle.std.proofs.Common.{refl, ◌≡◌, ◌⊎◌, ℕ, ◌-◌, ◌^◌, ◌<◌, ◌==◌, false, IsTrue, List, [], ◌∷◌, length, map, Some, slice_get, ap, ◌∙◌, arith, All, inl, inr}
 use Rattle.std.proofs.lemmas.List.Elements.{All-nil, All-cons, All-head, All-tail}
 use Rattle.own_slots.specs.Slots.{own_slots}
 use Rattle.own_slots.specs.Rounds.{starts}
@@ -71,7 +71,7 @@ pub has_places : (d : Scheduled) (t : ℕ) → IsInRange d.description → t < t
 has_places d t r lt = (sections_law d.description t r lt).2
 
 pub has_room : (d : Scheduled) (t : ℕ) → IsInRange d.description → HasRoom (table_of d t)
-has_room d t r j moment within = table_bytes_fit d.description t j moment r within
+has_room d t r = record { steady = λ s other j moment. refl; fits = λ s j moment within. table_bytes_fit d.description t j moment r within }
 
 -- The findings of each stream and each table
 
@@ -90,7 +90,7 @@ table_back d units n t r kept few lt reported =
     let alone = one_table d units t r kept lt in
     let given : All IsRecognized (sections_of_rounds (table_of d t) n) =
     rounds_all IsRecognized (table_of d t) (own_slots (starts (table_of d t).own (round_places (table_of d t).lengths) 0) 0 n)
-    (λ j moment within. section_distinguishable d.description t j moment r lt reported within) in
+    (λ s j moment within. section_distinguishable d.description t j moment r lt reported within) in
     tables_come_back (table_of d t) n (content_at d units) (is_run d units n r kept few) alone (has_places d t r lt) (has_room d t r) given
     ∙ ap (λ (sent : List (Sending (List ℕ))). map (with_pid_at (table_pid d.description t)) (each_found section_found n sent))
     (sections_are_placed (table_of d t) n (content_at d units) alone)

@@ -91,10 +91,10 @@ made_begins d units n t k r kept few is made =
 
     given : All IsRecognized texts
     given = rounds_all IsRecognized table rounds
-        (λ j moment lt. section_distinguishable d.description t j moment r there (made_distinguishable d.description t k is made) lt)
+        (λ s j moment lt. section_distinguishable d.description t j moment r there (made_distinguishable d.description t k is made) lt)
 
     ids : All (HasId (table_id_of k)) texts
-    ids = rounds_all (HasId (table_id_of k)) table rounds (λ j moment lt. text_id d.description t j moment k is made lt)
+    ids = rounds_all (HasId (table_id_of k)) table rounds (λ s j moment lt. text_id d.description t j moment k is made lt)
 
 -- A slot where a section of the table begins has a packet with the start indicator.
 pub begins_there : (table : Table) (j s n : ℕ) (content : ℕ → Content) → Fits content → Begins table j s (run_bytes content 0 n) →

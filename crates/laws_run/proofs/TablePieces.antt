@@ -18,12 +18,12 @@ use Rattle.own_slots.proofs.Counts.{own_before_own, own_before_other}
 use Rattle.ts_packet.specs.Beginnings.{start_by}
 use Rattle.slot_contents.specs.Contents.{Payload, Piece, put}
 use Rattle.table_rounds.specs.Parts.{places_of, filled, part_of}
-use Rattle.table_rounds.specs.Tables.{Table, SectionPlace, round_places, place_in, round_before, moment_of, part_at}
+use Rattle.table_rounds.specs.Tables.{Table, SectionPlace, round_places, place_in, place_at, round_before, begin_before, moment_of, moment_before, part_at}
 use Rattle.table_rounds.specs.Payloads.{table_payloads}
 use Rattle.table_rounds.proofs.Places.{place_inside, place_after}
 use Rattle.unit_queue.specs.Payloads.{marked, piece_in}
 use Rattle.laws_run.specs.Sections.{section_packets, section_pieces, filled_section}
-use Rattle.laws_run.specs.Rounds.{sections_from, round_sections, sections_of_rounds, RoundsAreSections}
+use Rattle.laws_run.specs.Rounds.{sections_from, round_sections, sections_of_rounds, HasRoom, RoundsAreSections}
 
 -- The places of a round
 
@@ -180,7 +180,7 @@ all_same table n k =
 
 -- The payloads that remain of the round of slot b, from place i on
 abbrev to_come : Table → ℕ → ℕ → List Piece
-to_come table b i = places_pieces (λ j. table.bytes j (moment_of table b)) 0 table.lengths i (round_places table.lengths - i)
+to_come table b i = places_pieces (λ j. table.bytes b j (moment_of table b)) 0 table.lengths i (round_places table.lengths - i)
 
 -- The payloads that remain: none between rounds
 unfoldable left : Table → ℕ → ℕ → List Piece
@@ -211,7 +211,7 @@ left_next table b m some =
 
 -- The place of an own slot is the first place that remains.
 next_place : (table : Table) (b m : ℕ) (o : Option Piece) → 0 < round_places table.lengths →
-    o ≡ place_part (λ j. table.bytes j (moment_of table b)) (place_in 0 table.lengths (m % round_places table.lengths)) →
+    o ≡ place_part (λ j. table.bytes b j (moment_of table b)) (place_in 0 table.lengths (m % round_places table.lengths)) →
     listed o ++ left table b ((m + 1) % round_places table.lengths) ≡ to_come table b (m % round_places table.lengths)
 unfolding places_pieces
 next_place table b m o some is =
@@ -221,15 +221,18 @@ next_place table b m o some is =
     rw (is, left_next table b m some, more) refl
 
 -- The part of an own slot belongs to the latest round.
-part_is : (table : Table) (n : ℕ) → part_at table n
-    ≡ place_part (λ j. table.bytes j (moment_of table (round_before table.own (round_places table.lengths) (suc n))))
+part_is : (table : Table) (n : ℕ) → HasRoom table → part_at table n
+    ≡ place_part (λ j. table.bytes (round_before table.own (round_places table.lengths) (suc n)) j
+    (moment_of table (round_before table.own (round_places table.lengths) (suc n))))
     (place_in 0 table.lengths (own_before table.own n % round_places table.lengths))
-part_is table n = refl
+part_is table n room = ap (λ (l : List ℕ). part_of l (place_at table n).part)
+    (room.steady (begin_before table (suc n)) (round_before table.own (round_places table.lengths) (suc n)) (place_at table n).section
+    (moment_before table (suc n)))
 
-own_sent : (table : Table) (n : ℕ) → 0 < round_places table.lengths → ((b : ℕ) → to_come table b 0 ≡ flat_map section_pieces (round_sections table b)) →
+own_sent : (table : Table) (n : ℕ) → HasRoom table → 0 < round_places table.lengths → ((b : ℕ) → to_come table b 0 ≡ flat_map section_pieces (round_sections table b)) →
     table.own n ≡ true → sent table n ++ left_at table n ≡ all_of table n → sent table (suc n) ++ left_at table (suc n) ≡ all_of table (suc n)
 unfolding left round_before
-own_sent table n some whole mine before =
+own_sent table n room some whole mine before =
     let k : ℕ = round_places table.lengths in
     let m : ℕ = own_before table.own n in
     let b : ℕ = round_before table.own k (suc n) in
@@ -237,7 +240,7 @@ own_sent table n some whole mine before =
     let step : sent table (suc n) ++ left_at table (suc n) ≡ sent table n ++ to_come table b (m % k) =
     ap₂ (λ (xs : List Piece) (i : ℕ). xs ++ left table b (i % k)) (sent_more table n mine) count
     ∙ append_assoc (sent table n) (listed (part_at table n)) (left table b ((m + 1) % k))
-    ∙ ap (λ (xs : List Piece). sent table n ++ xs) (next_place table b m (part_at table n) some (part_is table n)) in
+    ∙ ap (λ (xs : List Piece). sent table n ++ xs) (next_place table b m (part_at table n) some (part_is table n room)) in
     elim (cases_Bool (m % k == 0)) [
       | inl first ↦
           let zero_place : m % k ≡ 0 = eqb-true (m % k) 0 first in
@@ -256,19 +259,19 @@ own_sent table n some whole mine before =
     ]
 
 -- The payloads sent and the payloads that remain make up the rounds that have begun.
-all_sent : (table : Table) (n : ℕ) → 0 < round_places table.lengths →
+all_sent : (table : Table) (n : ℕ) → HasRoom table → 0 < round_places table.lengths →
     ((b : ℕ) → to_come table b 0 ≡ flat_map section_pieces (round_sections table b)) → sent table n ++ left_at table n ≡ all_of table n
 unfolding left round_before own_before own_slots
-all_sent table zero some whole =
+all_sent table zero room some whole =
     let z : 0 % round_places table.lengths ≡ 0 = mod-eq_of_lt some in rw z refl
-all_sent table (suc n) some whole = elim (cases_Bool (table.own n)) [
+all_sent table (suc n) room some whole = elim (cases_Bool (table.own n)) [
   | inr other ↦
       let same : begins table n ≡ false = rw other refl in
       let count : own_before table.own (suc n) ≡ own_before table.own n = own_before_other table.own n other in
       let round : round_before table.own (round_places table.lengths) (suc n) ≡ round_before table.own (round_places table.lengths) n = rw other refl in
       ap₂ (λ (xs ys : List Piece). xs ++ ys) (sent_same table n other) (ap₂ (λ (b m : ℕ). left table b (m % round_places table.lengths)) round count)
-      ∙ all_sent table n some whole ∙ sym (all_same table n same)
-  | inl mine ↦ own_sent table n some whole mine (all_sent table n some whole)
+      ∙ all_sent table n room some whole ∙ sym (all_same table n same)
+  | inl mine ↦ own_sent table n room some whole mine (all_sent table n room some whole)
 ]
 
 sent_length : (ps : List Payload) → length (map piece_in ps) ≡ length ps
@@ -279,9 +282,9 @@ pub rounds_are_sections : RoundsAreSections
 rounds_are_sections table n some room =
     let whole : (b : ℕ) → to_come table b 0 ≡ flat_map section_pieces (round_sections table b) =
     λ b. let all : round_places table.lengths - 0 ≡ round_places table.lengths = omega arith in
-    ap (places_pieces (λ j. table.bytes j (moment_of table b)) 0 table.lengths 0) all
-    ∙ round_is_sections (λ j. table.bytes j (moment_of table b)) 0 table.lengths
+    ap (places_pieces (λ j. table.bytes b j (moment_of table b)) 0 table.lengths 0) all
+    ∙ round_is_sections (λ j. table.bytes b j (moment_of table b)) 0 table.lengths
     (λ i less. let z : i ≡ 0 + i =
-    omega arith in subst (λ (j : ℕ). length (table.bytes j (moment_of table b)) ≤ slice_index_or table.lengths i 0) z (room i (moment_of table b) less)) in
+    omega arith in subst (λ (j : ℕ). length (table.bytes b j (moment_of table b)) ≤ slice_index_or table.lengths i 0) z (room.fits b i (moment_of table b) less)) in
     sym (take-append_seam (sent table n) (left_at table n))
-    ∙ ap₂ (λ (m : ℕ) (xs : List Piece). take m xs) (sent_length (table_payloads table n)) (all_sent table n some whole)
+    ∙ ap₂ (λ (m : ℕ) (xs : List Piece). take m xs) (sent_length (table_payloads table n)) (all_sent table n room some whole)

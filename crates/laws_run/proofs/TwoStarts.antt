@@ -224,7 +224,7 @@ table_reported P d t slots bytes r lt some kept two each =
     let l = table_again d t slots bytes some kept two in
     let w = whole_of (pieces_on (table_pid d.description t) bytes) (length (table_payloads table slots)) l.before l.piece (sections_of_rounds table slots)
     (table_cut d t slots bytes r lt kept) l.is l.start in
-    let all : All P (sections_of_rounds (table_of d t) slots) = rounds_all P table (own_slots (starts table.own (round_places table.lengths) 0) 0 slots) each in
+    let all : All P (sections_of_rounds (table_of d t) slots) = rounds_all P table (own_slots (starts table.own (round_places table.lengths) 0) 0 slots) (λ s. each) in
     record { section = w.section; is = at_place P (sections_of_rounds table slots) 0 w.section all w.first; whole = w.whole }
 
 pub table_sent : (d : Scheduled) (t slots : ℕ) (bytes : List ℕ) → IsInRange d.description → t < table_count d.description → 0 < section_count d.description t →

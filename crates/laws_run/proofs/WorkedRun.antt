@@ -27,7 +27,7 @@ use Rattle.description_parts.specs.Described.{DescribedStream}
 use Rattle.slot_plan.specs.Conditions.{IsServing}
 use Rattle.slot_plan.specs.Promised.{PlanLaw}
 use Rattle.slot_plan.specs.SlotPids.{slot_pid}
-use Rattle.mux_core.specs.Histories.{owned_stream, stream_in, pcr_content, table_in, content_in, content_at, bytes_of}
+use Rattle.mux_core.specs.Histories.{owned_stream, stream_in, pcr_content, table_in, content_in, content_over, bytes_of}
 use Rattle.mux_core.specs.Headline.{Headline, UnitsKept}
 use Rattle.mux_core.specs.MuxStates.{feed_cause}
 use Rattle.mux_core.specs.WholeJobs.{max_stream_units, job_history, capacity_for, or_cause, unit_refused, first_refused}
@@ -73,7 +73,7 @@ kept = record { parameters = parameters_known worked worked_in_range; kept = kep
 -- The bytes of the run
 
 bytes : bytes_of worked (job_history worked_units 6) ≡ worked_bytes
-unfolding run_bytes packet_of content_at content_in slot_pid table_in stream_in pcr_content part_content part_of place_in round_before payloads_before place_at
+unfolding run_bytes packet_of content_over content_in slot_pid table_in stream_in pcr_content part_content part_of place_in round_before payloads_before place_at
     first_slot first_own_slot own_before packet_header_bytes reference_bytes flags_of parts_bytes adaptation_bytes packet_bytes stuffing_field field_of
     payload_packet pcr_packet null_packet pes_start_bytes packet_length stamp_bytes pts_header pts_dts_header header_with pes_header_bytes pes_packet_bytes
     after_bit after_bits bits_of after_byte after_bytes check_word check_word_bytes start_bytes long_header_bytes front_bytes header_bytes with_crc

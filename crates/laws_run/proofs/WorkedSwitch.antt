@@ -22,7 +22,7 @@ use Rattle.slot_plan.specs.SwitchConditions.{IsSwitchable}
 use Rattle.slot_plan.specs.Promised.{SwitchLaw}
 use Rattle.mux_core.specs.DecodedRuns.{IsDue}
 use Rattle.mux_core.specs.FramesKept.{CutsUnits}
-use Rattle.mux_core.specs.Histories.{owned_stream, stream_in, content_in, content_at}
+use Rattle.mux_core.specs.Histories.{owned_stream, stream_in, content_in, content_at, content_over}
 use Rattle.mux_core.specs.Headline.{Headline, UnitsKept}
 use Rattle.mux_core.specs.MuxStates.{feed_cause}
 use Rattle.mux_core.specs.WholeJobs.{max_stream_units, capacity_for, or_cause, unit_refused, first_refused}
@@ -111,12 +111,12 @@ cut = record { same = refl; declared = all; followed = next }
 -- ---- what is sent
 
 video_sent : map (content_at worked_switch (λ k. units_of k all_units)) (2 ∷ 8 ∷ []) ≡ video_contents
-unfolding content_at content_in stream_in place_at first_slot first_own_slot own_before pes_start_bytes packet_length stamp_bytes pts_header pts_dts_header
+unfolding content_over content_in stream_in place_at first_slot first_own_slot own_before pes_start_bytes packet_length stamp_bytes pts_header pts_dts_header
     header_with pes_header_bytes pes_packet_bytes
 video_sent = refl
 
 sound_sent : map (content_at worked_switch (λ k. units_of k all_units)) (3 ∷ 6 ∷ []) ≡ sound_contents
-unfolding content_at content_in stream_in place_at first_slot first_own_slot own_before pes_start_bytes packet_length stamp_bytes pts_header pts_dts_header
+unfolding content_over content_in stream_in place_at first_slot first_own_slot own_before pes_start_bytes packet_length stamp_bytes pts_header pts_dts_header
     header_with pes_header_bytes pes_packet_bytes
 sound_sent = refl
 

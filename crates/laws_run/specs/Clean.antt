@@ -66,7 +66,7 @@ abbrev pub CleanLaw : Type 0
 CleanLaw = (d : Scheduled) (units : ℕ → List AccessUnit) (n : ℕ) → IsInRange d.description → UnitsKept d units → n < 2 ^ 64 - 1 →
     IsClean d (run_bytes (content_at d units) 0 n)
 
--- this holds for the history that a multiplexer has, in each number of its slots
+-- this holds for the units that a multiplexer has accepted, without a change of its texts, in each number of its slots
 abbrev pub AnyStateCleanLaw : Type 0
 AnyStateCleanLaw = (h : History) (m : MuxState) (n : ℕ) → IsInRange m.schedule.description → Represents h m → n ≤ 2 ^ 40 →
     IsClean m.schedule (run_bytes (content_at m.schedule h.units) 0 n)

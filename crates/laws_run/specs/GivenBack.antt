@@ -56,7 +56,7 @@ abbrev pub GivenBackLaw : Type 0
 GivenBackLaw = (d : Scheduled) (units : ℕ → List AccessUnit) (n : ℕ) → IsInRange d.description → UnitsKept d units → n < 2 ^ 64 - 1 →
     GivenBack d units n (run_bytes (content_at d units) 0 n)
 
--- this holds for the history that a multiplexer has, in each number of its slots
+-- this holds for the units that a multiplexer has accepted, without a change of its texts, in each number of its slots
 abbrev pub AnyStateLaw : Type 0
 AnyStateLaw = (h : History) (m : MuxState) (n : ℕ) → IsInRange m.schedule.description → Represents h m → n ≤ 2 ^ 40 →
     GivenBack m.schedule h.units n (run_bytes (content_at m.schedule h.units) 0 n)

@@ -30,7 +30,7 @@ abbrev pub SoundLaw : Type 0
 SoundLaw = (d : Scheduled) (units : ℕ → List AccessUnit) (n : ℕ) → IsInRange d.description → UnitsKept d units → n < 2 ^ 64 - 1 →
     IsSound (run_bytes (content_at d units) 0 n)
 
--- this holds for the history that a multiplexer has
+-- this holds for the units that a multiplexer has accepted, without a change of its texts
 abbrev pub AnyStateSoundLaw : Type 0
 AnyStateSoundLaw = (h : History) (m : MuxState) (n : ℕ) → IsInRange m.schedule.description → Represents h m → n ≤ 2 ^ 40 →
     IsSound (run_bytes (content_at m.schedule h.units) 0 n)
@@ -68,7 +68,7 @@ abbrev pub InTimeLaw : Type 0
 InTimeLaw = (d : Scheduled) (units : ℕ → List AccessUnit) (n limit : ℕ) → IsInRange d.description → Promised d.description d.schedule → UnitsKept d units →
     IsWide d.description limit → n < 2 ^ 64 - 1 → IsInTime d limit (run_bytes (content_at d units) 0 n)
 
--- this holds for the history that a multiplexer has
+-- this holds for the units that a multiplexer has accepted, without a change of its texts
 abbrev pub AnyStateInTimeLaw : Type 0
 AnyStateInTimeLaw = (h : History) (m : MuxState) (n limit : ℕ) → IsInRange m.schedule.description → Promised m.schedule.description m.schedule.schedule →
     Represents h m →

@@ -27,7 +27,7 @@ abbrev pub ReportedLaw : Type 0
 ReportedLaw = (d : Scheduled) (units : ℕ → List AccessUnit) (n limit : ℕ) → IsInRange d.description → Promised d.description d.schedule → UnitsKept d units →
     IsWide d.description limit → n < 2 ^ 64 - 1 → IsReported d limit (run_bytes (content_at d units) 0 n)
 
--- this holds for the history that a multiplexer has
+-- this holds for the units that a multiplexer has accepted, without a change of its texts
 abbrev pub AnyStateReportedLaw : Type 0
 AnyStateReportedLaw = (h : History) (m : MuxState) (n limit : ℕ) → IsInRange m.schedule.description → Promised m.schedule.description m.schedule.schedule →
     Represents h m →

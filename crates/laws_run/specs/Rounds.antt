@@ -25,15 +25,16 @@ sections_from section j (l ∷ lengths) = section j ∷ sections_from section (s
 
 -- the sections of a round that begins in slot s, as they are at the begin of that slot
 abbrev pub round_sections : Table → ℕ → List (List ℕ)
-round_sections table s = sections_from (λ j. table.bytes j (moment_of table s)) 0 table.lengths
+round_sections table s = sections_from (λ j. table.bytes s j (moment_of table s)) 0 table.lengths
 
 -- the sections of all rounds that begin in the first n slots
 abbrev pub sections_of_rounds : Table → ℕ → List (List ℕ)
 sections_of_rounds table n = flat_map (round_sections table) (own_slots (starts table.own (round_places table.lengths) 0) 0 n)
 
--- no section is ever longer than its places were made for
-abbrev pub HasRoom : Table → Type 0
-HasRoom table = (j moment : ℕ) → j < length table.lengths → length (table.bytes j moment) ≤ slice_index_or table.lengths j 0
+-- the texts do not change from slot to slot, and no section is ever longer than its places were made for
+pub record HasRoom (table : Table) : Type 0 where
+  pub steady : (s other j moment : ℕ) → table.bytes s j moment ≡ table.bytes other j moment
+  pub fits : (s j moment : ℕ) → j < length table.lengths → length (table.bytes s j moment) ≤ slice_index_or table.lengths j 0
 
 -- the payloads of a table in its own slots are the first payloads of these sections
 abbrev pub RoundsAreSections : Type 0

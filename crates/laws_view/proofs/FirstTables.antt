@@ -201,13 +201,13 @@ table_found P d units n t r kept few h lt reported two other each =
     let table : Table = table_of d t in
     let slots : List ℕ = own_slots (starts table.own (round_places table.lengths) 0) 0 n in
     let given : All IsRecognized (sections_of_rounds table n) =
-    rounds_all IsRecognized table slots (λ j moment within. section_distinguishable d.description t j moment r lt reported within) in
+    rounds_all IsRecognized table slots (λ s j moment within. section_distinguishable d.description t j moment r lt reported within) in
     let back = tables_come_back table n (content_at d units) (is_run d units n r kept few) (one_table d units t r kept lt) (has_places d t r lt)
     (has_room d t r) given in
     let sent = table_sent d t n bytes r lt (sections_law d.description t r lt).0 (h.tables t lt) two in
     let many : length (pieces_on pid bytes) ≡ length (packets_on pid bytes) = length-map (pid_list pid bytes) _ ∙ sym (length-map (pid_list pid bytes) _) in
     found_by P n pid bytes (sections_of_rounds table n) (packets_on pid bytes) other (omega (arith, few, h.size))
-    (subst (λ (m : ℕ). FirstSent (sections_of_rounds table n) m) many sent) (rounds_all P table slots each) back
+    (subst (λ (m : ℕ). FirstSent (sections_of_rounds table n) m) many sent) (rounds_all P table slots (λ s. each)) back
 
 -- The PAT
 

@@ -281,7 +281,7 @@ module _ (d : Scheduled) (units : ℕ → List AccessUnit) (slots : ℕ) (ranges
         let lt : t < table_count d.description = slice_get_within (table_kinds d.description) t k is in
         let ids : All (HasId (table_id_of k)) (sections_of_rounds table slots) =
         rounds_all (HasId (table_id_of k)) table (own_slots (starts table.own (round_places table.lengths) 0) 0 slots)
-        (λ j moment within. text_id d.description t j moment k is made within) in
+        (λ s j moment within. text_id d.description t j moment k is made within) in
         subst AllHome (sym (sym (as_reported (table_pid d.description t) bytes no_null few_packets)
         ∙ (given_back d units slots ranges kept few).tables t lt (made_distinguishable d.description t k is made)))
         (all_sent (table_pid d.description t) (table_id_of k) slots (sections_of_rounds table slots) (section_slots table slots) ids h)

@@ -157,7 +157,7 @@ module _ (d : Scheduled) (units : ℕ → List AccessUnit) (slots : ℕ) (ranges
       let table : Table = table_of d t in
       let ids : All (HasId (table_id_of k)) (sections_of_rounds table slots) =
       rounds_all (HasId (table_id_of k)) table (own_slots (starts table.own (round_places table.lengths) 0) 0 slots)
-      (λ j moment within. text_id d.description t j moment k is made within) in
+      (λ s j moment within. text_id d.description t j moment k is made within) in
       by_reported (table_pid d.description t) table_id (table_findings d slots t)
       (sym (as_reported (table_pid d.description t) bytes no_null few_packets) ∙ back.tables t lt (made_distinguishable d.description t k is made))
       (others_none (table_pid d.description t) (table_id_of k) table_id slots (sections_of_rounds table slots) (section_slots table slots) e ids)

@@ -180,20 +180,20 @@ parts_in_time d units n limit t k r promised kept few is parts le m parted =
 
     given : All IsRecognized texts
     given = rounds_all IsRecognized table rounds
-        (λ j moment lt. section_distinguishable d.description t j moment r there (made_distinguishable d.description t k is (made k parts)) lt)
+        (λ s j moment lt. section_distinguishable d.description t j moment r there (made_distinguishable d.description t k is (made k parts)) lt)
 
     Good : ℕ → Type 0
     Good part = (j : ℕ) × ((j < section_count d.description t) × (kind_part d.description k j ≡ part))
 
     are : All (IsText rate limit pid table_id some m parted Good) texts
-    are = rounds_all (IsText rate limit pid table_id some m parted Good) table rounds (λ j moment lt. record {
+    are = rounds_all (IsText rate limit pid table_id some m parted Good) table rounds (λ s j moment lt. record {
       table_is = text_id d.description t j moment k is (made k parts) lt;
       good = (j, (lt, sym (of_part d.description t j moment k is parts lt).whole));
     })
 
     plain : All (IsPlain table_id) texts
     plain = rounds_all (IsPlain table_id) table rounds
-        (λ j moment lt. let h = of_part d.description t j moment k is parts lt in h.first ∙ sym h.whole)
+        (λ s j moment lt. let h = of_part d.description t j moment k is parts lt in h.first ∙ sym h.whole)
 
     kept_table : TableKept d t n bytes
     kept_table = (headline d units n r promised kept).tables t there
