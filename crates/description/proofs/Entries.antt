@@ -9,8 +9,8 @@ use Rattle.std.proofs.lemmas.List.Elements.{filter-append, All-head, All-tail, C
 use Rattle.psi_tables.specs.ProgramMap.{StreamView}
 use Rattle.description_parts.specs.Described.{DescribedStream, DescribedEntry, DescribedTable}
 use Rattle.description_parts.specs.Tables.{is_shared_with, entry_if_of, entry_in}
-use Rattle.description.specs.SectionBytes.{pmt_stream, pmt_streams, pmt_shared, table_stream, pmt_table, pmt_tables}
-use Rattle.description.specs.Entries.{SharedLaw, EntryLaw, OwnLaw}
+use Rattle.description.specs.SectionBytes.{pmt_entries, pmt_stream, pmt_streams, pmt_shared, table_stream, pmt_table, pmt_tables}
+use Rattle.description.specs.Entries.{SharedLaw, EntryLaw, OwnLaw, OffAirLaw}
 
 cons_has : {X : Type 0} (x : X) (xs : List X) (y : X) → Contains xs y → Contains (x ∷ xs) y
 cons_has x xs y (k, lt, e) = (suc k, omega (arith, lt), e)
@@ -40,10 +40,19 @@ table_there n (x ∷ xs) zero t e at is of =
     first_has (pmt_table n x) (pmt_tables n xs) (table_stream t.pid e) (ap (pmt_table n) same ∙ entry_there n t e is of)
 table_there n (x ∷ xs) (suc k) t e at is of = later_has (pmt_table n x) (pmt_tables n xs) (table_stream t.pid e) (table_there n xs k t e at is of)
 
+-- The streams of a PMT are these, while its program is on air.
+if_on_air : {X : Type 0} (b : Bool) (xs : List X) (y : X) → b ≡ true → Contains xs y → Contains (if b then xs else []) y
+if_on_air true xs y is has = has
+if_on_air false xs y is has = absurd (cc)
+
+pub off_air : OffAirLaw
+off_air d p is = ap (λ (b : Bool). if b then pmt_entries d p.number else []) is
+
 pub entries : EntryLaw
-entries d p k t e at is of =
-    Contains-append_right (pmt_streams p.number d.streams ++ pmt_shared p.number d.streams) (pmt_tables p.number d.tables) (table_stream t.pid e)
-    (table_there p.number d.tables k t e at is of)
+entries d p k t e on at is of =
+    if_on_air p.is_on_air (pmt_entries d p.number) (table_stream t.pid e) on
+    (Contains-append_right (pmt_streams p.number d.streams ++ pmt_shared p.number d.streams) (pmt_tables p.number d.tables) (table_stream t.pid e)
+    (table_there p.number d.tables k t e at is of))
 
 -- The streams that a program shares
 any_there : (n : ℕ) (ns : List ℕ) (k : ℕ) → k < length ns → slice_index_or ns k n ≡ n → list_any (λ m. m == n) ns ≡ true
@@ -78,10 +87,11 @@ shared_there n (x ∷ xs) zero s at is =
 shared_there n (x ∷ xs) (suc k) s at is = cond_has (is_shared_with n x) x (filter (is_shared_with n) xs) (pmt_stream s) (shared_there n xs k s at is)
 
 pub shared : SharedLaw
-shared d p k s at (j, lt, is) =
+shared d p k s on at (j, lt, is) =
     let named = any_there p.number s.shared_with j lt is in
-    Contains-append_left (pmt_streams p.number d.streams ++ pmt_shared p.number d.streams) (pmt_tables p.number d.tables) (pmt_stream s)
-    (Contains-append_right (pmt_streams p.number d.streams) (pmt_shared p.number d.streams) (pmt_stream s) (shared_there p.number d.streams k s at named))
+    if_on_air p.is_on_air (pmt_entries d p.number) (pmt_stream s) on
+    (Contains-append_left (pmt_streams p.number d.streams ++ pmt_shared p.number d.streams) (pmt_tables p.number d.tables) (pmt_stream s)
+    (Contains-append_right (pmt_streams p.number d.streams) (pmt_shared p.number d.streams) (pmt_stream s) (shared_there p.number d.streams k s at named)))
 
 not_there : (n : ℕ) (t : DescribedTable) → t.entry ≡ None → pmt_table n t ≡ None
 not_there n t is = ap (λ (o : Option DescribedEntry). option_map (table_stream t.pid) (option_and_then (entry_if_of n) o)) is
@@ -106,7 +116,8 @@ none_shared n (s ∷ ss) h =
     ∙ none_shared n ss (All-tail (λ x. x.shared_with ≡ []) s ss h)
 
 pub own : OwnLaw
-own d p streams tables =
+own d p on streams tables =
     let no_shared : pmt_shared p.number d.streams ≡ [] = ap (map pmt_stream) (none_shared p.number d.streams streams) in
     let no_tables = none_there p.number d.tables tables in
-    rw (no_tables, no_shared) (append-nil (pmt_streams p.number d.streams ++ []) ∙ append-nil (pmt_streams p.number d.streams))
+    ap (λ (b : Bool). if b then pmt_entries d p.number else []) on
+    ∙ rw (no_tables, no_shared) (append-nil (pmt_streams p.number d.streams ++ []) ∙ append-nil (pmt_streams p.number d.streams))

@@ -9,3 +9,8 @@ pub mod Allowed
 pub mod SectionCounts
 pub mod Entries
 pub mod Services
+pub mod ScheduledPlaces
+pub mod Renumbered
+pub mod Versions
+pub mod SameTables
+pub mod Counted

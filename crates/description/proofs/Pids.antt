@@ -10,7 +10,7 @@ use Rattle.std.specs.List.{list_any}
 use Rattle.description_parts.specs.Described.{Described, DescribedProgram, DescribedStream, DescribedTable}
 use Rattle.description_parts.specs.Ranges.{IsInRange, IsProgram, IsStream, IsTable, named_pids}
 use Rattle.description_parts.specs.Tables.{shares_clock, clock_holder}
-use Rattle.description_parts.specs.Tables.{numbers_from, only_if, has_event, service_tables, table_kinds, table_count, table_kind, kind_pid, table_pid}
+use Rattle.description_parts.specs.Tables.{numbers_from, only_if, has_events_table, service_tables, table_kinds, table_count, table_kind, kind_pid, table_pid}
 use Rattle.description_parts.specs.declared.table_kind.TableKind.{TableKind}
 use Rattle.description_parts.specs.declared.table_kind.TableKind.TheVariants.{Pat, Pmt, Nit, Sdt, Eit, Tdt, Private}
 use Rattle.description.specs.Pids.{references_pid, all_pids, PidsApartLaw, PidsBelowLaw, PidPositionsLaw, StreamRangeLaw, ProgramRangeLaw}
@@ -48,7 +48,7 @@ unfolding fixed
 service_times d x =
     let n = only_if (is_some d.network) Nit in
     let s = only_if d.has_sdt Sdt in
-    let e = only_if (list_any has_event d.programs) Eit in
+    let e = only_if (has_events_table d) Eit in
     let t = only_if d.has_tdt Tdt in
     let f = kind_pid d in
     let parts : map f (service_tables d) ≡ map f n ++ map f s ++ map f e ++ map f t =
@@ -62,7 +62,7 @@ service_times d x =
       times-append x (map f n) (map f s),
       one_if d x (is_some d.network) Nit,
       one_if d x d.has_sdt Sdt,
-      one_if d x (list_any has_event d.programs) Eit,
+      one_if d x (has_events_table d) Eit,
       one_if d x d.has_tdt Tdt,
       times-append x (0 ∷ []) (0x10 ∷ 0x11 ∷ 0x12 ∷ 0x14 ∷ []),
       times-append x (0x10 ∷ []) (0x11 ∷ 0x12 ∷ 0x14 ∷ []),

@@ -1,8 +1,8 @@
 -- No section is longer than its greatest length.
 use Rattle.std.proofs.Common.{◌≡◌, ℕ, suc, zero, ◌+◌, ◌-◌, ◌*◌, ◌/◌, ◌%◌, ◌<◌, ◌≤◌, ◌==◌, max, Bool, true, false, cond, List, [], ◌∷◌, ◌++◌, length, map, filter}
 use Rattle.std.proofs.Common.{find, flat_map, get_or, slice_get, sum_by, option_map, Option, None, Some, refl, ap, arith, length-append, All, if◌then◌else◌}
-use Rattle.std.proofs.Common.{◌∙◌, inl, inr, mod-eq_of_lt}
-use Rattle.std.proofs.Math.Nat.{mod-eq-sub-mod}
+use Rattle.std.proofs.Common.{◌∙◌, inl, inr, sym, subst, mod-eq_of_lt}
+use Rattle.std.proofs.Math.Nat.{le_trans, mod-eq-sub-mod}
 use Rattle.std.proofs.lemmas.Bool.{cases_lt}
 use Rattle.std.proofs.lemmas.List.{length-map, get_or_append_left, get_or-append_right}
 use Rattle.std.proofs.lemmas.List.Elements.{All-head, All-tail, All-filter}
@@ -28,16 +28,18 @@ use Rattle.dvb_tables.specs.declared.running_status.RunningStatus.TheVariants.{R
 use Rattle.dvb_tables.proofs.BodyLengths.{nit_body_length, sdt_body_length, eit_body_length}
 use Rattle.description_parts.specs.Described.{Described, DescribedNetwork, DescribedProgram, DescribedStream, DescribedEvent, DescribedEntry, DescribedTable}
 use Rattle.description_parts.specs.Ranges.{IsInRange, IsProgram, IsStream, IsEvent}
-use Rattle.description_parts.specs.Tables.{has_event, pat_length, pmt_length, nit_length, sdt_parts, sdt_length, eit_place, eit_length, eit_lengths, es_info_length, entry_length}
+use Rattle.description_parts.specs.Tables.{is_scheduled, room_length, most_bytes, most_eit_bytes, pat_length, pmt_length, map_length, nit_length, network_length, sdt_parts, sdt_length}
+use Rattle.description_parts.specs.Tables.{services_length as part_length, eit_place, eit_room, eit_length, eit_lengths, schedule_length, es_info_length, entry_length}
 use Rattle.description_parts.specs.Tables.{is_shared_with, shared_length, entry_in, listed_length, service_length, event_length, longest_event, kind_lengths}
 use Rattle.description_parts.specs.Tables.{section_lengths, scheduled_programs, table_kind, greatest_length}
-use Rattle.description.specs.SectionBytes.{network_entries, pat_entry, pat_says, pmt_stream, is_of_program, pmt_streams, pmt_shared, table_stream, pmt_table}
+use Rattle.description.specs.SectionBytes.{network_entries, pat_entry, pat_says, entries_length, pmt_entries, pmt_stream, is_of_program, pmt_streams, pmt_shared, table_stream, pmt_table}
 use Rattle.description.specs.SectionBytes.{pmt_tables, pmt_says, network_stream, nit_says, service_says, sdt_says, sdt_bytes, event_says, is_present_event}
 use Rattle.description.specs.SectionBytes.{is_following_event, eit_says, eit_bytes, tdt_bytes, kind_bytes, table_bytes}
+use Rattle.description_parts.proofs.RoomLengths.{room_least}
 use Rattle.description_parts.specs.declared.table_kind.TableKind.{TableKind}
 use Rattle.description_parts.specs.declared.table_kind.TableKind.TheVariants as kind
 use Rattle.description.proofs.LoopLengths.{stream_descriptors-length, transport_streams_bytes-one, network_name_descriptor-length, service_descriptor-length}
-use Rattle.description.proofs.LoopLengths.{length_service_bytes, length_event_bytes}
+use Rattle.description.proofs.LoopLengths.{length_service_bytes, length_event_bytes, no_stream_bytes}
 use Rattle.description.proofs.Pids.{at_place}
 use Rattle.description.proofs.SectionCounts.{eit_count}
 
@@ -103,29 +105,38 @@ unfolding streams_bytes
 tables_length n [] = refl
 tables_length n (t ∷ ts) = omega (arith, one_table t.pid (entry_in n t) (pmt_tables n ts), tables_length n ts, sum_by-cons (listed_length n) t ts)
 
-entries_length : (xs ys : List StreamView) → length (streams_bytes (xs ++ ys)) ≡ length (streams_bytes xs) + length (streams_bytes ys)
+both_length : (xs ys : List StreamView) → length (streams_bytes (xs ++ ys)) ≡ length (streams_bytes xs) + length (streams_bytes ys)
 unfolding streams_bytes
-entries_length [] ys = omega arith
-entries_length (x ∷ xs) ys =
+both_length [] ys = omega arith
+both_length (x ∷ xs) ys =
     omega (
       arith,
       length-append (stream_bytes x) (flat_map stream_bytes (xs ++ ys)),
       length-append (stream_bytes x) (flat_map stream_bytes xs),
-      entries_length xs ys,
+      both_length xs ys,
     )
 
-pmt_fits : (d : Described) (p : DescribedProgram) → All IsStream d.streams → length (section_bytes (pmt_section (pmt_says d p))) ≡ pmt_length d p
+entries_fit : (on_air : Bool) (d : Described) (n : ℕ) → All IsStream d.streams
+    → length (streams_bytes (if on_air then pmt_entries d n else [])) ≤ entries_length d n
+entries_fit true d n h =
+    omega (
+      arith,
+      both_length (pmt_streams n d.streams ++ pmt_shared n d.streams) (pmt_tables n d.tables),
+      both_length (pmt_streams n d.streams) (pmt_shared n d.streams),
+      streams_length (is_of_program n) d.streams h,
+      streams_length (is_shared_with n) d.streams h,
+      tables_length n d.tables,
+    )
+entries_fit false d n h = omega (arith, no_stream_bytes)
+
+pmt_fits : (d : Described) (p : DescribedProgram) → All IsStream d.streams → length (section_bytes (pmt_section (pmt_says d p))) ≤ pmt_length d p
 unfolding pmt_section pmt_header
 pmt_fits d p h =
     omega (
       arith,
       long_section_length 2 false (pmt_says d p).header (pmt_body (pmt_says d p)),
       length_pmt_body (pmt_says d p),
-      entries_length (pmt_streams p.number d.streams ++ pmt_shared p.number d.streams) (pmt_tables p.number d.tables),
-      entries_length (pmt_streams p.number d.streams) (pmt_shared p.number d.streams),
-      streams_length (is_of_program p.number) d.streams h,
-      streams_length (is_shared_with p.number) d.streams h,
-      tables_length p.number d.tables,
+      entries_fit p.is_on_air d p.number h,
     )
 
 nit_fits : (d : Described) (n : DescribedNetwork) → length (section_bytes (nit_section (nit_says d n))) ≡ nit_length n
@@ -139,16 +150,16 @@ nit_fits d n =
       network_name_descriptor-length n.name,
     )
 
-pub services_length : (ps : List DescribedProgram) → length (services_bytes (map service_says ps)) ≡ sum_by service_length ps
+pub services_size : (has_eit : Bool) (ps : List DescribedProgram) → length (services_bytes (map (service_says has_eit) ps)) ≡ sum_by service_length ps
 unfolding services_bytes
-services_length [] = refl
-services_length (p ∷ ps) =
+services_size has_eit [] = refl
+services_size has_eit (p ∷ ps) =
     omega (
       arith,
-      length-append (service_bytes (service_says p)) (flat_map service_bytes (map service_says ps)),
-      length_service_bytes (service_says p),
+      length-append (service_bytes (service_says has_eit p)) (flat_map service_bytes (map (service_says has_eit) ps)),
+      length_service_bytes (service_says has_eit p),
       service_descriptor-length p.service_type p.provider p.name,
-      services_length ps,
+      services_size has_eit ps,
       sum_by-cons service_length p ps,
     )
 
@@ -160,7 +171,7 @@ sdt_fits d part number last =
       arith,
       long_section_length 0x42 true (sdt_says d part number last).header (sdt_body (sdt_says d part number last)),
       sdt_body_length (sdt_says d part number last),
-      services_length part,
+      services_size d.has_eit part,
     )
 
 -- The length of an event's entry
@@ -206,38 +217,47 @@ eit_fits d moment p number h =
       either_fits moment p (number == 0) h,
     )
 
+-- A section has its room, and a table with one section
+within_room : (n most packets l : ℕ) → n ≤ l → n ≤ room_length most packets l
+within_room n most packets l le = le_trans le (room_least most packets l)
+
+first_most : (n l section : ℕ) → l ≤ n → section < 1 → l ≤ get_or (n ∷ []) section 0
+first_most n l zero le h = le
+first_most n l (suc k) le h = absurd (omega (arith, h))
+
 -- The section at a place of the EIT is of the program at its place, in either order.
-in_pairs : (ps : List DescribedProgram) (j : ℕ) (p : DescribedProgram) → slice_get ps (j / 2) ≡ Some p → get_or (eit_lengths ps) j 0 ≡ eit_length p
-in_pairs [] j p h = absurd (cc)
-in_pairs (q ∷ qs) zero p h = let same : q ≡ p = cc in ap eit_length same
-in_pairs (q ∷ qs) (suc zero) p h = let same : q ≡ p = cc in ap eit_length same
-in_pairs (q ∷ qs) (suc (suc k)) p h =
+in_pairs : (n : ℕ) (ps : List DescribedProgram) (j : ℕ) (p : DescribedProgram) → slice_get ps (j / 2) ≡ Some p
+    → get_or (eit_lengths n ps) j 0 ≡ schedule_length n p
+in_pairs n [] j p h = absurd (cc)
+in_pairs n (q ∷ qs) zero p h = let same : q ≡ p = cc in ap (schedule_length n) same
+in_pairs n (q ∷ qs) (suc zero) p h = let same : q ≡ p = cc in ap (schedule_length n) same
+in_pairs n (q ∷ qs) (suc (suc k)) p h =
     let is : suc (suc k) / 2 ≡ suc (k / 2) = omega arith in
-    in_pairs qs k p (rw is at h)
+    in_pairs n qs k p (rw is at h)
 
-one_each : (ps : List DescribedProgram) (j : ℕ) (p : DescribedProgram) → slice_get ps j ≡ Some p → get_or (map eit_length ps) j 0 ≡ eit_length p
-one_each [] j p h = absurd (cc)
-one_each (q ∷ qs) zero p h = let same : q ≡ p = cc in ap eit_length same
-one_each (q ∷ qs) (suc j) p h = one_each qs j p h
+one_each : (f : DescribedProgram → ℕ) (ps : List DescribedProgram) (j : ℕ) (p : DescribedProgram) → slice_get ps j ≡ Some p → get_or (map f ps) j 0 ≡ f p
+one_each f [] j p h = absurd (cc)
+one_each f (q ∷ qs) zero p h = let same : q ≡ p = cc in ap f same
+one_each f (q ∷ qs) (suc j) p h = one_each f qs j p h
 
-in_turn : (ps : List DescribedProgram) (j : ℕ) (p : DescribedProgram) → slice_get ps (j % length ps) ≡ Some p → j < 2 * length ps →
-    get_or (map eit_length ps ++ map eit_length ps) j 0 ≡ eit_length p
-in_turn ps j p h within = elim (cases_lt j (length ps)) [
+in_turn : (f : DescribedProgram → ℕ) (ps : List DescribedProgram) (j : ℕ) (p : DescribedProgram) → slice_get ps (j % length ps) ≡ Some p → j < 2 * length ps →
+    get_or (map f ps ++ map f ps) j 0 ≡ f p
+in_turn f ps j p h within = elim (cases_lt j (length ps)) [
   | inl first ↦
       let at : j % length ps ≡ j = mod-eq_of_lt first in
-      get_or_append_left (map eit_length ps) (map eit_length ps) 0 j (omega (arith, first, length-map ps eit_length)) ∙ one_each ps j p (rw at at h)
+      get_or_append_left (map f ps) (map f ps) 0 j (omega (arith, first, length-map ps f)) ∙ one_each f ps j p (rw at at h)
   | inr past ↦
       let at : j % length ps ≡ j - length ps = mod-eq-sub-mod past ∙ mod-eq_of_lt (omega (arith, past, within)) in
-      get_or-append_right (map eit_length ps) (map eit_length ps) (length ps) j 0 (length-map ps eit_length) past ∙ one_each ps (j - length ps) p (rw at at h)
+      get_or-append_right (map f ps) (map f ps) (length ps) j 0 (length-map ps f) past ∙ one_each f ps (j - length ps) p (rw at at h)
 ]
 
 abbrev place_in : Bool → ℕ → ℕ → ℕ × ℕ
 place_in b n j = if b then (j % n, j / n) else (j / 2, j % 2)
 
-eit_at : (b : Bool) (ps : List DescribedProgram) (j : ℕ) (p : DescribedProgram) → slice_get ps (place_in b (length ps) j).0 ≡ Some p → j < 2 * length ps →
-    get_or (if b then map eit_length ps ++ map eit_length ps else eit_lengths ps) j 0 ≡ eit_length p
-eit_at true ps j p h within = in_turn ps j p h within
-eit_at false ps j p h within = in_pairs ps j p h
+eit_at : (b : Bool) (n : ℕ) (ps : List DescribedProgram) (j : ℕ) (p : DescribedProgram) → slice_get ps (place_in b (length ps) j).0 ≡ Some p → j < 2 * length ps →
+    get_or (if b then map (schedule_length n) ps ++ map (schedule_length n) ps else eit_lengths n ps) j 0 ≡ schedule_length n p
+eit_at true n ps j p h within = in_turn (schedule_length n) ps j p h within
+eit_at false n ps j p h within = in_pairs n ps j p h
 
 event_section_fits : (d : Described) (section moment number place : ℕ) (o : Option DescribedProgram) → (eit_place d section).0 ≡ place →
     slice_get (scheduled_programs d) place ≡ o → All IsProgram d.programs → section < length (kind_lengths d kind.Eit)
@@ -245,10 +265,11 @@ event_section_fits : (d : Described) (section moment number place : ℕ) (o : Op
 event_section_fits d section moment number place None at is h within = omega arith
 event_section_fits d section moment number place (Some p) at is h within =
     let found : slice_get (scheduled_programs d) (eit_place d section).0 ≡ Some p = ap (slice_get (scheduled_programs d)) at ∙ is in
-    let long = eit_at d.is_transponder (scheduled_programs d) section p found (omega (arith, within, eit_count d)) in
-    let scheduled = All-filter has_event IsProgram d.programs h in
+    let long = eit_at d.is_transponder (eit_room d) (scheduled_programs d) section p found (omega (arith, within, eit_count d)) in
+    let scheduled = All-filter (is_scheduled d.has_eit) IsProgram d.programs h in
     let one : IsProgram p = at_place IsProgram (scheduled_programs d) place p scheduled is in
-    omega (arith, long, eit_fits d moment p number one.events)
+    let fits = within_room (length (eit_bytes d moment p number)) most_eit_bytes (eit_room d) (eit_length p) (eit_fits d moment p number one.events) in
+    subst (λ (n : ℕ). length (eit_bytes d moment p number) ≤ n) (sym long) fits
 
 tdt_fits : (moment : ℕ) → length (tdt_bytes moment) ≡ 8
 unfolding tdt_section section_bytes with_crc header_bytes front_bytes start_bytes
@@ -259,30 +280,31 @@ private_fits [] j = omega arith
 private_fits (s ∷ ss) zero = omega arith
 private_fits (s ∷ ss) (suc j) = private_fits ss j
 
--- A table with one section
-first_of : (n section : ℕ) → section < 1 → get_or (n ∷ []) section 0 ≡ n
-first_of n zero h = refl
-first_of n (suc k) h = absurd (omega arith)
-
 map_section_fits : (d : Described) (o : Option DescribedProgram) (section : ℕ) → All IsStream d.streams →
-    section < length (map (pmt_length d) (option_to_list o))
+    section < length (map (map_length d) (option_to_list o))
     → length (elim o as (λ _. List ℕ) [ None ↦ [] | Some program ↦ section_bytes (pmt_section (pmt_says d program)) ]) ≤ get_or
-    (map (pmt_length d) (option_to_list o)) section 0
+    (map (map_length d) (option_to_list o)) section 0
 map_section_fits d None section h within = omega arith
-map_section_fits d (Some p) section h within = omega (arith, pmt_fits d p h, first_of (pmt_length d p) section within)
+map_section_fits d (Some p) section h within =
+    let size = length (section_bytes (pmt_section (pmt_says d p))) in
+    first_most (map_length d p) size section (within_room size most_bytes p.pmt_packets (pmt_length d p) (pmt_fits d p h)) within
 
-network_section_fits : (d : Described) (o : Option DescribedNetwork) (section : ℕ) → section < length (map nit_length (option_to_list o))
+network_section_fits : (d : Described) (o : Option DescribedNetwork) (section : ℕ) → section < length (map (network_length d) (option_to_list o))
     → length (elim o as (λ _. List ℕ) [ None ↦ [] | Some network ↦ section_bytes (nit_section (nit_says d network)) ]) ≤ get_or
-    (map nit_length (option_to_list o)) section 0
+    (map (network_length d) (option_to_list o)) section 0
 network_section_fits d None section within = omega arith
-network_section_fits d (Some n) section within = omega (arith, nit_fits d n, first_of (nit_length n) section within)
+network_section_fits d (Some n) section within =
+    let size = length (section_bytes (nit_section (nit_says d n))) in
+    first_most (network_length d n) size section (within_room size most_bytes d.rooms.nit (nit_length n) (omega (arith, nit_fits d n))) within
 
 part_fits : (d : Described) (parts : List (List DescribedProgram)) (number last section : ℕ)
     → length
     (elim (slice_get parts section) as (λ _. List ℕ) [ None ↦ [] | Some part ↦ section_bytes (sdt_section (sdt_says d part number last)) ])
-    ≤ get_or (map sdt_length parts) section 0
+    ≤ get_or (map (part_length d) parts) section 0
 part_fits d [] number last section = omega arith
-part_fits d (part ∷ parts) number last zero = omega (arith, sdt_fits d part number last)
+part_fits d (part ∷ parts) number last zero =
+    within_room (length (section_bytes (sdt_section (sdt_says d part number last)))) most_bytes d.rooms.sdt (sdt_length part)
+    (omega (arith, sdt_fits d part number last))
 part_fits d (part ∷ parts) number last (suc section) = part_fits d parts number last section
 
 services_section_fits : (d : Described) (b : Bool) (section : ℕ) → length (if b then sdt_bytes d section else []) ≤ get_or (kind_lengths d kind.Sdt) section 0
@@ -297,14 +319,17 @@ private_section_fits (Some t) section = private_fits t.sections section
 
 kind_fits : (d : Described) (k : TableKind) (section moment : ℕ) → IsInRange d → section < length (kind_lengths d k)
     → length (kind_bytes d k section moment) ≤ get_or (kind_lengths d k) section 0
-kind_fits d kind.Pat section moment h within = omega (arith, pat_fits d, first_of (pat_length d) section within)
+kind_fits d kind.Pat section moment h within =
+    let size = length (section_bytes (pat_section (pat_says d))) in
+    first_most (room_length most_bytes d.rooms.pat (pat_length d)) size section
+    (within_room size most_bytes d.rooms.pat (pat_length d) (omega (arith, pat_fits d))) within
 kind_fits d (kind.Pmt p) section moment h within = map_section_fits d (slice_get d.programs p) section h.streams within
 kind_fits d kind.Nit section moment h within = network_section_fits d d.network section within
 kind_fits d kind.Sdt section moment h within = services_section_fits d d.has_sdt section
 kind_fits d kind.Eit section moment h within =
     event_section_fits d section moment (eit_place d section).1 (eit_place d section).0 (slice_get (scheduled_programs d) (eit_place d section).0) refl refl
     h.programs within
-kind_fits d kind.Tdt section moment h within = omega (arith, tdt_fits moment, first_of 8 section within)
+kind_fits d kind.Tdt section moment h within = first_most 8 (length (tdt_bytes moment)) section (omega (arith, tdt_fits moment)) within
 kind_fits d (kind.Private i) section moment h within = private_section_fits (slice_get d.tables i) section
 
 any_fits : (d : Described) (o : Option TableKind) (section moment : ℕ) → IsInRange d

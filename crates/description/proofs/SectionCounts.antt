@@ -1,5 +1,5 @@
 -- Each table has at least one section, and at most 128.
-use Rattle.std.proofs.Common.{◌≡◌, ℕ, zero, suc, ◌+◌, ◌*◌, ◌<◌, ◌≤◌, Bool, true, false, List, [], ◌∷◌, ◌++◌, length, map, filter, slice_get, sum_by, Option}
+use Rattle.std.proofs.Common.{◌≡◌, ℕ, zero, suc, ◌+◌, ◌*◌, ◌<◌, ◌≤◌, ◌||◌, Bool, true, false, List, [], ◌∷◌, ◌++◌, length, map, filter, slice_get, sum_by, Option}
 use Rattle.std.proofs.Common.{if◌then◌else◌, None, Some, is_some, refl, ap, sym, subst, ◌∙◌, arith, All, zero-add}
 use Rattle.std.proofs.lemmas.List.{length-map, length-append}
 use Rattle.std.proofs.lemmas.List.Sums.{sum_by-cons, length-filter, count_by-le-length}
@@ -7,8 +7,8 @@ use Rattle.std.proofs.lemmas.List.Elements.{All-nil, All-cons, All-append}
 use Rattle.std.specs.List.{list_any}
 use Rattle.description_parts.specs.Described.{Described, DescribedProgram, DescribedTable}
 use Rattle.description_parts.specs.Ranges.{IsInRange, IsTable}
-use Rattle.description_parts.specs.Tables.{numbers_from, only_if, has_event, scheduled_programs, service_tables, table_kinds, table_count, table_kind}
-use Rattle.description_parts.specs.Tables.{sdt_parts, sdt_length, kind_lengths, eit_length, eit_lengths, packets_of_section, section_lengths, section_count}
+use Rattle.description_parts.specs.Tables.{numbers_from, only_if, has_event, is_scheduled, scheduled_programs, has_events_table, service_tables, table_kinds, table_count, table_kind}
+use Rattle.description_parts.specs.Tables.{sdt_parts, services_length, kind_lengths, eit_room, schedule_length, eit_lengths, packets_of_section, section_lengths, section_count}
 use Rattle.description_parts.specs.declared.table_kind.TableKind.{TableKind}
 use Rattle.description_parts.specs.declared.table_kind.TableKind.TheVariants.{Pat, Pmt, Nit, Sdt, Eit, Tdt, Private}
 use Rattle.description_parts.proofs.SdtParts.{sdt_parts_law}
@@ -36,17 +36,17 @@ one_if d true k h = All-cons (Some128 d) k [] (h refl) (All-nil (Some128 d))
 one_if d false k h = All-nil (Some128 d)
 
 -- The EIT has two sections for each program with events, in either order.
-pairs_count : (ps : List DescribedProgram) → length (eit_lengths ps) ≡ 2 * length ps
-pairs_count [] = refl
-pairs_count (p ∷ ps) = omega (arith, pairs_count ps)
+pairs_count : (n : ℕ) (ps : List DescribedProgram) → length (eit_lengths n ps) ≡ 2 * length ps
+pairs_count n [] = refl
+pairs_count n (p ∷ ps) = omega (arith, pairs_count n ps)
 
-order_count : (b : Bool) (ps : List DescribedProgram)
-    → length (if b then map eit_length ps ++ map eit_length ps else eit_lengths ps) ≡ 2 * length ps
-order_count true ps = omega (arith, length-append (map eit_length ps) (map eit_length ps), length-map ps eit_length)
-order_count false ps = pairs_count ps
+order_count : (b : Bool) (n : ℕ) (ps : List DescribedProgram)
+    → length (if b then map (schedule_length n) ps ++ map (schedule_length n) ps else eit_lengths n ps) ≡ 2 * length ps
+order_count true n ps = omega (arith, length-append (map (schedule_length n) ps) (map (schedule_length n) ps), length-map ps (schedule_length n))
+order_count false n ps = pairs_count n ps
 
 pub eit_count : (d : Described) → length (kind_lengths d Eit) ≡ 2 * length (scheduled_programs d)
-eit_count d = order_count d.is_transponder (scheduled_programs d)
+eit_count d = order_count d.is_transponder (eit_room d) (scheduled_programs d)
 
 filtered_step : (p : DescribedProgram) (ps : List DescribedProgram) (b : Bool) → has_event p ≡ b → list_any has_event (p ∷ ps) ≡ true
     → (list_any has_event ps ≡ true → 0 < length (filter has_event ps)) → 0 < length (filter has_event (p ∷ ps))
@@ -58,6 +58,11 @@ filtered_step p ps false n e later =
 some_filtered : (ps : List DescribedProgram) → list_any has_event ps ≡ true → 0 < length (filter has_event ps)
 some_filtered [] e = absurd (cc)
 some_filtered (p ∷ ps) e = filtered_step p ps (has_event p) refl e (some_filtered ps)
+
+some_scheduled : (all : Bool) (ps : List DescribedProgram) → 1 ≤ length ps → (all || list_any has_event ps) ≡ true → 0 < length (filter (is_scheduled all) ps)
+some_scheduled true [] some e = absurd (omega (arith, some))
+some_scheduled true (p ∷ ps) some e = omega arith
+some_scheduled false ps some e = some_filtered ps e
 
 network_count : (d : Described) (o : Option _) → d.network ≡ o → is_some d.network ≡ true → Some128 d Nit
 network_count d None e y = absurd (cc)
@@ -75,7 +80,7 @@ kinds_good d r =
     (All-append (Some128 d) nit sdt
     (one_if d (is_some d.network) Nit (network_count d d.network refl))
     (one_if d d.has_sdt Sdt (λ y. services)))
-    (one_if d (list_any has_event d.programs) Eit events))
+    (one_if d (has_events_table d) Eit events))
     (one_if d d.has_tdt Tdt (λ y. of_one d Tdt refl)))
     (numbered d Private 0 d.tables (λ i t e. private (0 + i) t (ap (slice_get d.tables) (zero-add i) ∙ e) (at_place IsTable d.tables i t r.tables e))))
   where
@@ -86,7 +91,7 @@ kinds_good d r =
     sdt = only_if d.has_sdt Sdt
 
     eit : List TableKind
-    eit = only_if (list_any has_event d.programs) Eit
+    eit = only_if (has_events_table d) Eit
 
     tdt : List TableKind
     tdt = only_if d.has_tdt Tdt
@@ -94,16 +99,22 @@ kinds_good d r =
     services : Some128 d Sdt
     services =
         let parts = sdt_parts_law d r in
-        let all : length (kind_lengths d Sdt) ≡ length (sdt_parts d) = length-map (sdt_parts d) sdt_length in
+        let all : length (kind_lengths d Sdt) ≡ length (sdt_parts d) = length-map (sdt_parts d) (services_length d) in
         record { some = omega (arith, all, parts.some); most = omega (arith, all, parts.most, r.most_programs) }
 
-    events : list_any has_event d.programs ≡ true → Some128 d Eit
+    events : has_events_table d ≡ true → Some128 d Eit
     events y =
         let all = eit_count d in
         record {
-          some = omega (arith, all, some_filtered d.programs y);
+          some = omega (arith, all, some_scheduled d.has_eit d.programs r.some_programs y);
           most =
-              omega (arith, all, length-filter has_event d.programs, count_by-le-length has_event d.programs, r.most_programs);
+              omega (
+                arith,
+                all,
+                length-filter (is_scheduled d.has_eit) d.programs,
+                count_by-le-length (is_scheduled d.has_eit) d.programs,
+                r.most_programs,
+              );
         }
 
     private : (i : ℕ) (t : DescribedTable) → slice_get d.tables i ≡ Some t → IsTable t → Some128 d (Private i)

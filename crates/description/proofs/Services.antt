@@ -1,6 +1,7 @@
 -- The sections of the SDT are read as the description's services.
 use Rattle.std.proofs.Common.{◌≡◌, ℕ, zero, suc, ◌+◌, ◌-◌, ◌^◌, ◌<◌, ◌≤◌, Bool, true, false, List, [], ◌∷◌, ◌++◌, length, map, flat_map, sum_by, get_or, slice_get, Option, Some, All, if◌then◌else◌}
 use Rattle.std.proofs.Common.{None, Ok, IsTrue, refl, ap, sym, subst, ◌∙◌, arith, append-nil}
+use Rattle.std.proofs.Math.Nat.{le_trans}
 use Rattle.std.proofs.lemmas.List.{length-map, map-append}
 use Rattle.std.proofs.lemmas.List.Elements.{All-map, All-get_or}
 use Rattle.std.proofs.lemmas.Option.{slice_get_within}
@@ -17,18 +18,19 @@ use Rattle.dvb_tables.proofs.TablesWritten.{sdt_written}
 use Rattle.description_parts.specs.Described.{Described, DescribedProgram}
 use Rattle.description_parts.specs.Ranges.{IsInRange, IsProgram, longest_section}
 use Rattle.description_parts.specs.SdtParts.{AreSdtParts}
-use Rattle.description_parts.specs.Tables.{sdt_parts, sdt_length}
+use Rattle.description_parts.specs.Tables.{most_bytes, sdt_parts, sdt_length, services_length}
 use Rattle.description_parts.specs.declared.table_kind.TableKind.TheVariants.{Sdt}
+use Rattle.description_parts.proofs.RoomLengths.{room_least}
 use Rattle.description_parts.proofs.SdtParts.{sdt_parts_law}
 use Rattle.description.specs.SectionBytes.{kind_bytes, sdt_bytes, sdt_says, service_says}
 use Rattle.description.specs.Services.{AreSdt, ListServices, ServicesLaw}
 use Rattle.description.proofs.LoopLengths.{service_descriptor-length}
 use Rattle.description.proofs.Pids.{at_place, get_map}
-use Rattle.description.proofs.SectionBounds.{services_length}
+use Rattle.description.proofs.SectionBounds.{services_size}
 
 -- A section that can be written is read as the same table.
-service_fits : (p : DescribedProgram) → IsProgram p → ServiceFits (service_says p)
-service_fits p is = record {
+service_fits : (has_eit : Bool) (p : DescribedProgram) → IsProgram p → ServiceFits (service_says has_eit p)
+service_fits has_eit p is = record {
   service_id = omega (arith, is.most_number);
   descriptors = omega (arith, service_descriptor-length p.service_type p.provider p.name, is.provider.fits, is.name.fits);
 }
@@ -38,13 +40,13 @@ part_fits : (d : Described) (part : List DescribedProgram) (number last : ℕ) �
 part_fits d part number last r all le n l = record {
   header = record {
     table_id_extension = omega (arith, r.transport_stream_id);
-    version_number = omega arith;
+    version_number = omega (arith, r.versions.sdt);
     section_number = omega (arith, n);
     last_section_number = omega (arith, l);
   };
   original_network_id = omega (arith, r.original_network_id);
-  services = All-map ServiceFits service_says part (λ k p lt. service_fits (get_or part k p) (all k p lt));
-  section_length = omega (arith, sdt_body_length (sdt_says d part number last), services_length part, le);
+  services = All-map ServiceFits (service_says d.has_eit) part (λ k p lt. service_fits d.has_eit (get_or part k p) (all k p lt));
+  section_length = omega (arith, sdt_body_length (sdt_says d part number last), services_size d.has_eit part, le);
 }
 
 read_again : (t : SdtView) → SdtFits t → AreSdt (section_bytes (sdt_section t)) t
@@ -81,10 +83,11 @@ says_part d last n (part ∷ parts) (suc j) t e =
     subst (λ (k : ℕ). IsPart d last k (slice_get parts j) t) on (says_part d last (n + 1) parts j t e)
 
 listed : (d : Described) (last n : ℕ) (parts : List (List DescribedProgram))
-    → flat_map (λ t. t.services) (says d last n parts) ≡ map service_says (flat_map (λ part. part) parts)
+    → flat_map (λ t. t.services) (says d last n parts) ≡ map (service_says d.has_eit) (flat_map (λ part. part) parts)
 listed d last n [] = refl
 listed d last n (part ∷ parts) =
-    ap (λ xs. map service_says part ++ xs) (listed d last (n + 1) parts) ∙ sym (map-append service_says part (flat_map (λ ps. ps) parts))
+    ap (λ xs. map (service_says d.has_eit) part ++ xs) (listed d last (n + 1) parts)
+    ∙ sym (map-append (service_says d.has_eit) part (flat_map (λ ps. ps) parts))
 
 abbrev part_bytes : Described → ℕ → ℕ → Option (List DescribedProgram) → List ℕ
 part_bytes d j last o = elim o as (λ _. List ℕ) [ None ↦ [] | Some part ↦ section_bytes (sdt_section (sdt_says d part j last)) ]
@@ -103,8 +106,9 @@ read_at d moment j t r parts there p =
     let number : sdt_says d p.part j (last_of d) ≡ t = ap (λ (k : ℕ). sdt_says d p.part k (last_of d)) (sym on) ∙ p.is in
     let within = slice_get_within (sdt_parts d) j p.part p.at in
     let all = at_place (All IsProgram) (sdt_parts d) j p.part parts.programs p.at in
-    let le = at_place (λ l. l ≤ longest_section) (map sdt_length (sdt_parts d)) j (sdt_length p.part) (r.sdt_lengths there)
-    (get_map sdt_length (sdt_parts d) j p.part p.at) in
+    let room = at_place (λ l. l ≤ longest_section) (map (services_length d) (sdt_parts d)) j (services_length d p.part) (r.sdt_lengths there)
+    (get_map (services_length d) (sdt_parts d) j p.part p.at) in
+    let le = le_trans (room_least most_bytes d.rooms.sdt (sdt_length p.part)) room in
     let fits = part_fits d p.part j (last_of d) r all le (omega (arith, within, parts.most, r.most_programs)) (omega (arith, parts.most, r.most_programs)) in
     let bytes : sdt_bytes d j ≡ section_bytes (sdt_section t) =
     ap (part_bytes d j (last_of d)) p.at ∙ ap (λ (v : SdtView). section_bytes (sdt_section v)) number in
@@ -112,14 +116,14 @@ read_at d moment j t r parts there p =
 
 listing : (d : Described) (moment : ℕ) → IsInRange d → AreSdtParts d.is_transponder d.programs (sdt_parts d) → d.has_sdt ≡ true → ListServices d moment (says d (last_of d) 0 (sdt_parts d))
 listing d moment r parts there = record {
-  all = length_says d (last_of d) 0 (sdt_parts d) ∙ sym (length-map (sdt_parts d) sdt_length);
+  all = length_says d (last_of d) 0 (sdt_parts d) ∙ sym (length-map (sdt_parts d) (services_length d));
   read = λ j t e. read_at d moment j t r parts there (says_part d (last_of d) 0 (sdt_parts d) j t e);
   numbered = λ j t e. let p = says_part d (last_of d) 0 (sdt_parts d) j t e in
       let on : 0 + j ≡ j = omega arith in ap (λ (v : SdtView). v.header.section_number) (sym p.is) ∙ on;
   last = λ j t e. let p = says_part d (last_of d) 0 (sdt_parts d) j t e in
       let is : t.header.last_section_number ≡ last_of d = ap (λ (v : SdtView). v.header.last_section_number) (sym p.is) in
       omega (arith, is, parts.some, length_says d (last_of d) 0 (sdt_parts d));
-  services = listed d (last_of d) 0 (sdt_parts d) ∙ ap (map service_says) parts.whole;
+  services = listed d (last_of d) 0 (sdt_parts d) ∙ ap (map (service_says d.has_eit)) parts.whole;
 }
 
 pub services_law : ServicesLaw

@@ -1,5 +1,7 @@
 pub mod Reading
 pub mod SectionBytes
+pub mod SubTables
+pub mod Versions
 pub mod Pids
 pub mod Entries
 pub mod Services

@@ -1,7 +1,7 @@
--- What each section of each table says at a moment, and its bytes (ISO/IEC 13818-1, 2.4.4; EN 300 468, 5.2). Version 0,
--- except in the EIT; section 0 of 0, except in the SDT and the EIT.
+-- What each section of each table says at a moment, and its bytes (ISO/IEC 13818-1, 2.4.4; EN 300 468, 5.2): under a
+-- version_number, and under that which the description has; section 0 of 0, except in the SDT and the EIT.
 use Rattle.std.specs.Prelude.{ℕ, ◌+◌, ◌-◌, ◌%◌, ◌==◌, ◌&&◌, nat_le, nat_lt, Bool, true, false, List, [], ◌∷◌, ◌++◌, map, filter, find, Option, None, Some}
-use Rattle.std.specs.Prelude.{length, option_map, slice_get, slice_index_or, if◌then◌else◌}
+use Rattle.std.specs.Prelude.{length, option_map, slice_get, slice_index_or, sum_by, if◌then◌else◌}
 use Rattle.std.specs.List.{count_by, filter_map}
 use Rattle.std.specs.Option.{option_to_list}
 use Rattle.psi_tables.specs.Encoding.{section_bytes}
@@ -22,18 +22,18 @@ use Rattle.dvb_tables.specs.TimeAndDate.{tdt_section}
 use Rattle.dvb_tables.specs.declared.running_status.RunningStatus.{RunningStatus}
 use Rattle.dvb_tables.specs.declared.running_status.RunningStatus.TheVariants.{Running, NotRunning}
 use Rattle.description_parts.specs.Described.{Described, DescribedNetwork, DescribedProgram, DescribedStream, DescribedEvent, DescribedEntry, DescribedTable}
-use Rattle.description_parts.specs.Tables.{has_event, scheduled_programs, sdt_parts, eit_place, table_kind, is_shared_with, entry_in}
+use Rattle.description_parts.specs.Tables.{is_scheduled, scheduled_programs, sdt_parts, eit_place, table_kind, is_shared_with, entry_in, entry_length, shared_length, listed_length}
 use Rattle.description_parts.specs.declared.table_kind.TableKind.{TableKind}
 use Rattle.description_parts.specs.declared.table_kind.TableKind.TheVariants as kind
 
--- the header of a section of a table, by its number and the number of the table's last section, version 0
-abbrev pub part_header : ℕ → ℕ → ℕ → LongHeader
-part_header extension number last =
-    record { table_id_extension = extension; version_number = 0; current_next = true; section_number = number; last_section_number = last }
+-- the header of a section of a table, by its version, its number and the number of the table's last section
+abbrev pub part_header : ℕ → ℕ → ℕ → ℕ → LongHeader
+part_header extension version number last =
+    record { table_id_extension = extension; version_number = version; current_next = true; section_number = number; last_section_number = last }
 
 -- the header of a table that is one section
-abbrev pub single_header : ℕ → LongHeader
-single_header extension = part_header extension 0 0
+abbrev pub single_header : ℕ → ℕ → LongHeader
+single_header extension version = part_header extension version 0 0
 
 -- PAT: program 0 names the NIT's PID if there is a network, then the programs
 abbrev pub network_entries : Described → List PatEntry
@@ -42,8 +42,11 @@ network_entries d = map (λ n. record { program_number = 0; pid = 0x10 }) (optio
 abbrev pub pat_entry : DescribedProgram → PatEntry
 pat_entry p = record { program_number = p.number; pid = p.pmt_pid }
 
+abbrev pub pat_of : Described → ℕ → PatView
+pat_of d version = record { header = single_header d.transport_stream_id version; programs = network_entries d ++ map pat_entry d.programs }
+
 abbrev pub pat_says : Described → PatView
-pat_says d = record { header = single_header d.transport_stream_id; programs = network_entries d ++ map pat_entry d.programs }
+pat_says d = pat_of d d.versions.pat
 
 -- PMT: each stream of the program with its component tag, its language and its own descriptors
 abbrev pub tag_bytes : Option ℕ → List ℕ
@@ -80,48 +83,75 @@ pmt_table number t = option_map (table_stream t.pid) (entry_in number t)
 abbrev pub pmt_tables : ℕ → List DescribedTable → List StreamView
 pmt_tables number tables = filter_map (pmt_table number) tables
 
-abbrev pub pmt_says : Described → DescribedProgram → PmtView
-pmt_says d p = record {
-  header = single_header p.number;
+abbrev pub pmt_entries : Described → ℕ → List StreamView
+pmt_entries d number = (pmt_streams number d.streams ++ pmt_shared number d.streams) ++ pmt_tables number d.tables
+
+-- their bytes
+abbrev pub entries_length : Described → ℕ → ℕ
+entries_length d number =
+    sum_by (entry_length number) d.streams + sum_by (shared_length number) d.streams + sum_by (listed_length number) d.tables
+
+-- a program that is off air names none of them
+abbrev pub entries_of : Described → DescribedProgram → List StreamView
+entries_of d p = if p.is_on_air then pmt_entries d p.number else []
+
+abbrev pub pmt_of : Described → DescribedProgram → ℕ → PmtView
+pmt_of d p version = record {
+  header = single_header p.number version;
   pcr_pid = p.pcr_pid;
   program_info = p.descriptors;
-  streams = (pmt_streams p.number d.streams ++ pmt_shared p.number d.streams) ++ pmt_tables p.number d.tables;
+  streams = entries_of d p;
 }
+
+abbrev pub pmt_says : Described → DescribedProgram → PmtView
+pmt_says d p = pmt_of d p p.pmt_version
 
 -- NIT: the name, and this transport stream with the network's descriptors
 abbrev pub network_stream : Described → DescribedNetwork → TransportStreamView
 network_stream d n = record { transport_stream_id = d.transport_stream_id; original_network_id = d.original_network_id; descriptors = n.descriptors }
 
-abbrev pub nit_says : Described → DescribedNetwork → NitView
-nit_says d n = record {
-  header = single_header n.id;
+abbrev pub nit_of : Described → DescribedNetwork → ℕ → NitView
+nit_of d n version = record {
+  header = single_header n.id version;
   network_descriptors = network_name_descriptor n.name;
   transport_streams = network_stream d n ∷ [];
 }
 
--- SDT: each program's service, running; present and following events are carried if there are events. The programs of a
--- part are the services of one section
-abbrev pub service_says : DescribedProgram → ServiceView
-service_says p = record {
+abbrev pub nit_says : Described → DescribedNetwork → NitView
+nit_says d n = nit_of d n d.versions.nit
+
+-- SDT: each program's service, running if the program is on air; present and following events are carried if the EIT has
+-- the program's sections. The programs of a part are the services of one section
+abbrev pub status_of : Bool → RunningStatus
+status_of is_on_air = if is_on_air then Running else NotRunning
+
+abbrev pub service_says : Bool → DescribedProgram → ServiceView
+service_says has_eit p = record {
   service_id = p.number;
   eit_schedule = false;
-  eit_present_following = has_event p;
-  running_status = Running;
+  eit_present_following = is_scheduled has_eit p;
+  running_status = status_of p.is_on_air;
   free_ca_mode = false;
   descriptors = service_descriptor p.service_type p.provider p.name;
 }
 
-abbrev pub sdt_says : Described → List DescribedProgram → ℕ → ℕ → SdtView
-sdt_says d part number last = record {
-  header = part_header d.transport_stream_id number last;
+abbrev pub sdt_of : Described → List DescribedProgram → ℕ → ℕ → ℕ → SdtView
+sdt_of d part version number last = record {
+  header = part_header d.transport_stream_id version number last;
   original_network_id = d.original_network_id;
-  services = map service_says part;
+  services = map (service_says d.has_eit) part;
 }
 
--- the bytes of the section of a number
+abbrev pub sdt_says : Described → List DescribedProgram → ℕ → ℕ → SdtView
+sdt_says d part number last = sdt_of d part d.versions.sdt number last
+
+-- the bytes of the section of a number under a version
+abbrev pub sdt_part_bytes : Described → ℕ → ℕ → List ℕ
+sdt_part_bytes d version section =
+    elim (slice_get (sdt_parts d) section) [ None ↦ [] | Some part ↦ section_bytes (sdt_section (sdt_of d part version section (length (sdt_parts d) - 1))) ]
+
 abbrev pub sdt_bytes : Described → ℕ → List ℕ
-sdt_bytes d section =
-    elim (slice_get (sdt_parts d) section) [ None ↦ [] | Some part ↦ section_bytes (sdt_section (sdt_says d part section (length (sdt_parts d) - 1))) ]
+sdt_bytes d section = sdt_part_bytes d d.versions.sdt section
 
 -- EIT: the event that is on at a moment, and the first that begins later
 abbrev pub is_present_event : ℕ → DescribedEvent → Bool
@@ -141,15 +171,19 @@ event_says status e = record {
   descriptors = short_event_descriptor e.language e.name e.text;
 }
 
--- how many events have begun and how many have ended, modulo 32: it changes with what the sections say
+-- the program's number, and how many events have begun and how many have ended, modulo 32: it changes with what the
+-- sections say
 abbrev pub has_begun : ℕ → DescribedEvent → Bool
 has_begun moment e = nat_le e.start moment
 
 abbrev pub has_ended : ℕ → DescribedEvent → Bool
 has_ended moment e = nat_le (e.start + e.duration) moment
 
+abbrev pub counted_events : ℕ → DescribedProgram → ℕ
+counted_events moment p = count_by (has_begun moment) p.events + count_by (has_ended moment) p.events
+
 abbrev pub eit_version : ℕ → DescribedProgram → ℕ
-eit_version moment p = (count_by (has_begun moment) p.events + count_by (has_ended moment) p.events) % 32
+eit_version moment p = (p.eit_count + counted_events moment p) % 32
 
 -- section 0 of 1 has the present event, running; section 1 of 1 the following one, not running
 abbrev pub section_events : ℕ → DescribedProgram → ℕ → List EventView
@@ -157,22 +191,18 @@ section_events moment p number =
     if number == 0 then map (event_says Running) (option_to_list (find (is_present_event moment) p.events))
     else map (event_says NotRunning) (option_to_list (find (is_following_event moment) p.events))
 
-abbrev pub eit_says : Described → ℕ → DescribedProgram → ℕ → EitView
-eit_says d moment p number = record {
-  header = record {
-    table_id_extension = p.number;
-    version_number = eit_version moment p;
-    current_next = true;
-    section_number = number;
-    last_section_number =
-        1;
-  };
+abbrev pub eit_of : Described → ℕ → DescribedProgram → ℕ → ℕ → EitView
+eit_of d moment p version number = record {
+  header = part_header p.number version number 1;
   transport_stream_id = d.transport_stream_id;
   original_network_id = d.original_network_id;
   segment_last_section_number = 1;
   last_table_id = 0x4E;
   events = section_events moment p number;
 }
+
+abbrev pub eit_says : Described → ℕ → DescribedProgram → ℕ → EitView
+eit_says d moment p number = eit_of d moment p (eit_version moment p) number
 
 abbrev pub eit_bytes : Described → ℕ → DescribedProgram → ℕ → List ℕ
 eit_bytes d moment p number = section_bytes (eit_section (eit_says d moment p number))
@@ -181,7 +211,7 @@ eit_bytes d moment p number = section_bytes (eit_section (eit_says d moment p nu
 abbrev pub tdt_bytes : ℕ → List ℕ
 tdt_bytes moment = section_bytes (tdt_section (record { utc_time = utc_time_bytes moment }))
 
--- the bytes of a section of a table at a moment; of the EIT two sections for each program that has events
+-- the bytes of a section of a table at a moment; of the EIT two sections for each program in it
 abbrev pub kind_bytes : Described → TableKind → ℕ → ℕ → List ℕ
 kind_bytes d kind.Pat section moment = section_bytes (pat_section (pat_says d))
 kind_bytes d (kind.Pmt p) section moment = elim (slice_get d.programs p) [ None ↦ [] | Some program ↦ section_bytes (pmt_section (pmt_says d program)) ]

@@ -20,7 +20,7 @@ pub record ListServices (d : Described) (moment : ℕ) (sections : List SdtView)
   pub read : (j : ℕ) (t : SdtView) → slice_get sections j ≡ Some t → AreSdt (kind_bytes d Sdt j moment) t
   pub numbered : (j : ℕ) (t : SdtView) → slice_get sections j ≡ Some t → t.header.section_number ≡ j
   pub last : (j : ℕ) (t : SdtView) → slice_get sections j ≡ Some t → t.header.last_section_number + 1 ≡ length sections
-  pub services : flat_map (λ t. t.services) sections ≡ map service_says d.programs
+  pub services : flat_map (λ t. t.services) sections ≡ map (service_says d.has_eit) d.programs
 
 abbrev pub ServicesLaw : Type 0
 ServicesLaw = (d : Described) (moment : ℕ) → IsInRange d → IsTrue d.has_sdt → (sections : List SdtView) × ListServices d moment sections

@@ -4,7 +4,8 @@ ghost use Rattle.std.specs.Prelude.{◌≡◌, ◌^◌, ◌<◌, option_map};
 
 use clock27::Rate;
 use description_parts::{
-    Contents, Network, PrivateTable, ProgramDescription, StreamDescription, TableKind,
+    Contents, Network, PrivateTable, ProgramDescription, Rooms, StreamDescription, TableKind,
+    Versions,
 };
 use std::marker::Model;
 
@@ -109,6 +110,27 @@ impl Description {
         ensures { result ≡ self.now.has_sdt }
     {
         self.contents.has_sdt()
+    }
+
+    /// Returns whether each program has two sections in the EIT, also without an event.
+    pub fn has_eit(&self) -> bool
+        ensures { result ≡ self.now.has_eit }
+    {
+        self.contents.has_eit()
+    }
+
+    /// Returns the packets that it reserves for sections.
+    pub fn rooms(&self) -> Rooms
+        ensures { result ≡ self.now.rooms }
+    {
+        self.contents.rooms()
+    }
+
+    /// Returns the versions of PAT, SDT and NIT.
+    pub fn versions(&self) -> Versions
+        ensures { result ≡ self.now.versions }
+    {
+        self.contents.versions()
     }
 
     /// Returns whether there is a time and date table.

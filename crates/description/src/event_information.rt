@@ -6,7 +6,8 @@ ghost use Rattle.std.specs.List.{count_by};
 ghost use Rattle.std.specs.Option.{option_to_list};
 ghost use Rattle.dvb_tables.specs.Descriptors.{short_event_descriptor};
 ghost use Rattle.dvb_tables.specs.EventEntries.{event_view as entry_view};
-ghost use Rattle.dvb_tables.specs.EventInformation.{event_loop_of};
+ghost use Rattle.psi_tables.specs.Encoding.{section_bytes};
+ghost use Rattle.dvb_tables.specs.EventInformation.{event_loop_of, eit_section};
 ghost use Rattle.description_parts.specs.Described.{event_view};
 ghost use Rattle.description.specs.SectionBytes as spec;
 
@@ -57,14 +58,14 @@ fn ended(events: &[Event], moment: u64) -> usize
     count
 }
 
-// Returns the version of both sections at a moment.
-fn version(program: &ProgramDescription, moment: u64) -> u8
+/// Returns the version of both sections of a program at a moment.
+pub(crate) fn version(program: &ProgramDescription, moment: u64) -> u8
     ensures value { result ≡ spec.eit_version moment program.now }
     ensures five_bits { result < 32 }
 {
     let begun = begun(program.events(), moment) % 32;
     let ended = ended(program.events(), moment) % 32;
-    ((begun + ended) % 32) as u8
+    ((program.eit_count() as usize + begun + ended) % 32) as u8
 }
 
 fn event_at(events: &[Event], place: usize) -> Option<&Event>
@@ -152,7 +153,7 @@ fn loop_of(event: Option<&Event>, running_status: RunningStatus) -> EventLoop
     }
 }
 
-fn section_events(program: &ProgramDescription, number: usize, moment: u64) -> EventLoop
+fn section_events(program: &ProgramDescription, number: u8, moment: u64) -> EventLoop
     ensures { event_loop_of result ≡ spec.section_events moment program.now number }
 {
     if number == 0 {
@@ -169,22 +170,23 @@ fn section_events(program: &ProgramDescription, number: usize, moment: u64) -> E
 }
 
 impl Description {
-    /// Writes section 0 or 1 of a program's event information table.
+    /// Writes section 0 or 1 of a program's event information table under a version.
     pub(crate) fn write_eit(
         &self,
         program: &ProgramDescription,
-        number: usize,
+        version: u8,
+        number: u8,
         moment: u64,
         out: &mut ArrayVec<u8, 4096>,
     )
-        requires { number < 2 }
-        ensures { out.new.items ≡ spec.eit_bytes self.now moment program.now number }
+        requires { version < 32 }
+        ensures { out.new.items ≡ section_bytes (eit_section (spec.eit_of self.now moment program.now version number)) }
     {
         let header = LongHeader {
             table_id_extension: program.number(),
-            version_number: version(program, moment),
+            version_number: version,
             current_next: true,
-            section_number: number as u8,
+            section_number: number,
             last_section_number: 1,
         };
         let section = EitPf {

@@ -18,8 +18,10 @@ mod program_association;
 mod program_map;
 mod section_bytes;
 mod service_description;
+pub mod sub_table;
 
 // Laws for every description.
 pub mod laws;
 
 pub use description::Description;
+pub use sub_table::SubTable;

@@ -1,6 +1,6 @@
 //! The network information section of a description (EN 300 468, 5.2.1).
 
-ghost use Rattle.std.specs.Prelude.{◌≡◌, ◌≤◌, ◌+◌, [], ◌∷◌, length};
+ghost use Rattle.std.specs.Prelude.{◌≡◌, ◌<◌, ◌≤◌, ◌+◌, [], ◌∷◌, length};
 ghost use Rattle.psi_tables.specs.Encoding.{section_bytes};
 ghost use Rattle.psi_tables.specs.declared.writing.TheConstants.{GREATEST_TABLE_LENGTH};
 ghost use Rattle.dvb_tables.specs.Descriptors.{network_name_descriptor};
@@ -53,16 +53,17 @@ impl Description {
         })
     }
 
-    /// Writes the network information section.
-    pub(crate) fn write_nit(&self, network: &Network, out: &mut ArrayVec<u8, 4096>)
+    /// Writes the network information section under a version.
+    pub(crate) fn write_nit(&self, network: &Network, version: u8, out: &mut ArrayVec<u8, 4096>)
         requires ranges { IsNetwork network.now }
         requires fits { nit_length network.now ≤ longest_section }
-        ensures { out.new.items ≡ section_bytes (nit_section (spec.nit_says self.now network.now)) }
+        requires version { version < 32 }
+        ensures { out.new.items ≡ section_bytes (nit_section (spec.nit_of self.now network.now version)) }
     {
         let name = name_descriptor(network);
         let entries = self.network_streams(network);
         write_section(
-            network.id,
+            LongHeader::single(network.id, version),
             name.as_slice(),
             entries.transport_streams(),
             out,
@@ -72,21 +73,22 @@ impl Description {
 
 #[tactic(auto, using(dvb_tables::proofs::BodyLengths::nit_body_length))]
 fn write_section<'a>(
-    network_id: u16,
+    header: LongHeader,
     network_descriptors: &'a [u8],
     transport_streams: TransportStreams<'a>,
     out: &mut ArrayVec<u8, 4096>,
 )
-    requires { 13 + length network_descriptors.now
+    requires version { header.version_number < 32 }
+    requires room { 13 + length network_descriptors.now
         + length (transport_streams_bytes (transport_streams_of transport_streams)) ≤ GREATEST_TABLE_LENGTH }
     ensures { out.new.items ≡ section_bytes (nit_section (record {
-      header = spec.single_header network_id;
+      header = header;
       network_descriptors = network_descriptors.now;
       transport_streams = transport_streams_of transport_streams.entry;
     })) }
 {
     let section = Nit {
-        header: LongHeader::single(network_id, 0),
+        header,
         network_descriptors,
         transport_streams,
     };

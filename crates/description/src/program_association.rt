@@ -65,13 +65,14 @@ impl Description {
         entries
     }
 
-    /// Writes the program association section.
-    pub(crate) fn write_pat(&self, out: &mut ArrayVec<u8, 4096>)
-        ensures { out.new.items ≡ section_bytes (pat_section (spec.pat_says self.now)) }
+    /// Writes the program association section under a version.
+    pub(crate) fn write_pat(&self, version: u8, out: &mut ArrayVec<u8, 4096>)
+        requires { version < 32 }
+        ensures { out.new.items ≡ section_bytes (pat_section (spec.pat_of self.now version)) }
     {
         let entries = self.association_entries();
         let section = Pat {
-            header: LongHeader::single(self.transport_stream_id(), 0),
+            header: LongHeader::single(self.transport_stream_id(), version),
             programs: entries.programs(),
         };
         match section.write_to(out) {

@@ -164,17 +164,46 @@ fn push_tables(entries: &mut StreamLoop, number: u16, tables: &[PrivateTable])
 }
 
 impl Description {
-    /// Writes the program map section of a program.
-    pub(crate) fn write_pmt(&self, program: &ProgramDescription, out: &mut ArrayVec<u8, 4096>)
+    fn entries_on_air(&self, number: u16) -> StreamLoop
+        requires { spec.entries_length self.now number ≤ 1012 }
+        ensures value { stream_loop_of result ≡ spec.pmt_entries self.now number }
+        ensures length { length (streams_bytes (stream_loop_of result)) ≡ spec.entries_length self.now number }
+    {
+        let mut entries = program_streams(number, self.streams());
+        push_shared(&mut entries, number, self.streams());
+        push_tables(&mut entries, number, self.private_tables());
+        entries
+    }
+
+    // Returns what the map of a program names: nothing if the program is off air.
+    fn map_entries(&self, program: &ProgramDescription) -> StreamLoop
+        requires { spec.entries_length self.now program.now.number ≤ 1012 }
+        ensures value { stream_loop_of result ≡ spec.entries_of self.now program.now }
+        ensures length { length (streams_bytes (stream_loop_of result))
+            ≤ spec.entries_length self.now program.now.number }
+    {
+        if program.is_on_air() {
+            self.entries_on_air(program.number())
+        } else {
+            StreamLoop::new()
+        }
+    }
+
+    /// Writes the program map section of a program under a version.
+    pub(crate) fn write_pmt(
+        &self,
+        program: &ProgramDescription,
+        version: u8,
+        out: &mut ArrayVec<u8, 4096>,
+    )
         requires ranges { IsProgram program.now }
         requires fits { pmt_length self.now program.now ≤ longest_section }
-        ensures { out.new.items ≡ section_bytes (pmt_section (spec.pmt_says self.now program.now)) }
+        requires version { version < 32 }
+        ensures { out.new.items ≡ section_bytes (pmt_section (spec.pmt_of self.now program.now version)) }
     {
-        let mut entries = program_streams(program.number(), self.streams());
-        push_shared(&mut entries, program.number(), self.streams());
-        push_tables(&mut entries, program.number(), self.private_tables());
+        let entries = self.map_entries(program);
         write_section(
-            program.number(),
+            LongHeader::single(program.number(), version),
             program.pcr_pid(),
             program.descriptors().as_bytes(),
             entries.streams(),
@@ -185,23 +214,24 @@ impl Description {
 
 #[tactic(auto, using(psi_tables::proofs::StreamEncodings::length_pmt_body))]
 fn write_section<'a>(
-    number: u16,
+    header: LongHeader,
     pcr_pid: u16,
     program_info: &'a [u8],
     streams: Streams<'a>,
     out: &mut ArrayVec<u8, 4096>,
 )
+    requires version { header.version_number < 32 }
     requires pid { pcr_pid < 8192 }
     requires room { 13 + length program_info.now + length (streams_bytes (streams_of streams)) ≤ GREATEST_TABLE_LENGTH }
     ensures { out.new.items ≡ section_bytes (pmt_section (record {
-      header = spec.single_header number;
+      header = header;
       pcr_pid = pcr_pid;
       program_info = program_info.now;
       streams = streams_of streams.entry;
     })) }
 {
     let section = Pmt {
-        header: LongHeader::single(number, 0),
+        header,
         pcr_pid,
         program_info,
         streams,

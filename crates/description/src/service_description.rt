@@ -13,7 +13,7 @@ ghost use Rattle.description.specs.SectionBytes as spec;
 
 use crate::description::Description;
 use arrayvec::ArrayVec;
-use description_parts::table_kind::has_event;
+use description_parts::table_kind::is_scheduled;
 use description_parts::{ProgramDescription, laws};
 use dvb_tables::{RunningStatus, Sdt, Service, ServiceLoop, Services, push_service};
 use psi_tables::LongHeader;
@@ -33,12 +33,23 @@ fn descriptor_of(program: &ProgramDescription) -> ArrayVec<u8, 205>
     bytes
 }
 
+fn status_of(is_on_air: bool) -> RunningStatus
+    ensures { result ≡ spec.status_of is_on_air }
+{
+    if is_on_air {
+        RunningStatus::Running
+    } else {
+        RunningStatus::NotRunning
+    }
+}
+
 // Adds the service of a program, for which there is room.
-fn push_service_of(entries: &mut ServiceLoop, program: &ProgramDescription)
+fn push_service_of(entries: &mut ServiceLoop, program: &ProgramDescription, has_eit: bool)
     requires ranges { IsProgram program.now }
     requires room { length (services_bytes (service_loop_of entries.old)) + service_length program.now
         ≤ GREATEST_SERVICE_LOOP }
-    ensures value { service_loop_of entries.new ≡ service_loop_of entries.old ++ spec.service_says program.now ∷ [] }
+    ensures value { service_loop_of entries.new ≡ service_loop_of entries.old
+        ++ spec.service_says has_eit program.now ∷ [] }
     ensures length { length (services_bytes (service_loop_of entries.new))
         ≡ length (services_bytes (service_loop_of entries.old)) + service_length program.now }
 {
@@ -46,8 +57,8 @@ fn push_service_of(entries: &mut ServiceLoop, program: &ProgramDescription)
     let entry = Service {
         service_id: program.number(),
         eit_schedule: false,
-        eit_present_following: has_event(program),
-        running_status: RunningStatus::Running,
+        eit_present_following: is_scheduled(has_eit, program),
+        running_status: status_of(program.is_on_air()),
         free_ca_mode: false,
         descriptors: descriptors.as_slice(),
     };
@@ -57,36 +68,38 @@ fn push_service_of(entries: &mut ServiceLoop, program: &ProgramDescription)
     }
 }
 
-fn program_services(programs: &[ProgramDescription]) -> ServiceLoop
+fn program_services(programs: &[ProgramDescription], has_eit: bool) -> ServiceLoop
     requires ranges { All IsProgram programs.now }
     requires room { sum_by service_length programs.now ≤ GREATEST_SERVICE_LOOP }
-    ensures value { service_loop_of result ≡ map spec.service_says programs.now }
+    ensures value { service_loop_of result ≡ map (spec.service_says has_eit) programs.now }
     ensures length { length (services_bytes (service_loop_of result)) ≡ sum_by service_length programs.now }
 {
     let mut entries = ServiceLoop::new();
     for program in programs {
-        push_service_of(&mut entries, program);
+        push_service_of(&mut entries, program, has_eit);
     }
     entries
 }
 
 impl Description {
-    // Writes a section of the service description table, of these programs' services.
+    // Writes a section of the service description table under a version, of these programs' services.
     fn write_sdt(
         &self,
         part: &[ProgramDescription],
+        version: u8,
         number: u8,
         last: u8,
         out: &mut ArrayVec<u8, 4096>,
     )
         requires ranges { All IsProgram part.now }
         requires room { sum_by service_length part.now ≤ GREATEST_SERVICE_LOOP }
-        ensures { out.new.items ≡ section_bytes (sdt_section (spec.sdt_says self.now part.now number last)) }
+        requires version { version < 32 }
+        ensures { out.new.items ≡ section_bytes (sdt_section (spec.sdt_of self.now part.now version number last)) }
     {
-        let entries = program_services(part);
+        let entries = program_services(part, self.has_eit());
         let header = LongHeader {
             table_id_extension: self.transport_stream_id(),
-            version_number: 0,
+            version_number: version,
             current_next: true,
             section_number: number,
             last_section_number: last,
@@ -101,17 +114,19 @@ impl Description {
         self.contents.sdt_part(section)
     }
 
-    /// Writes the section of a number of the service description table; nothing if there is no such section.
-    pub(crate) fn write_sdt_at(&self, section: usize, out: &mut ArrayVec<u8, 4096>)
-        requires { IsTrue self.now.has_sdt }
-        ensures { out.new.items ≡ spec.sdt_bytes self.now section }
+    /// Writes the section of a number of the service description table under a version; nothing if there is no such
+    /// section.
+    pub(crate) fn write_sdt_at(&self, version: u8, section: u8, out: &mut ArrayVec<u8, 4096>)
+        requires sdt { IsTrue self.now.has_sdt }
+        requires version { version < 32 }
+        ensures { out.new.items ≡ spec.sdt_part_bytes self.now version section }
     {
         self.keeps_ranges();
         laws::sdt_parts();
         let last = self.service_sections() - 1;
-        match self.sdt_part(section) {
+        match self.sdt_part(section as usize) {
             None => out.clear(),
-            Some(part) => self.write_sdt(part, section as u8, last as u8, out),
+            Some(part) => self.write_sdt(part, version, section, last as u8, out),
         }
     }
 }

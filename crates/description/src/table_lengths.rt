@@ -1,23 +1,23 @@
 //! The sections of a table, and their greatest lengths.
 
 ghost use Rattle.std.specs.Prelude.{◌≡◌, ◌<◌, ◌≤◌, length, filter};
-ghost use Rattle.description_parts.specs.Tables.{has_event, sdt_parts, kind_lengths, section_lengths};
+ghost use Rattle.description_parts.specs.Tables.{is_scheduled, scheduled_programs, sdt_parts, kind_lengths, section_lengths};
 ghost use Rattle.description_parts.specs.Tables.{table_count, section_count, greatest_length, round_packets};
 
 use crate::description::Description;
 use arrayvec::ArrayVec;
 use description_parts::section_lengths::packets_of_sections;
-use description_parts::table_kind::has_event;
+use description_parts::table_kind::is_scheduled;
 use description_parts::{ProgramDescription, TableKind, laws};
 
-/// Returns how many programs have events.
-pub(crate) fn scheduled_count(programs: &[ProgramDescription]) -> usize
-    ensures value { result ≡ length (filter has_event programs.now) }
+// Returns how many programs the EIT has: all, or those that have an event.
+fn count_scheduled(all: bool, programs: &[ProgramDescription]) -> usize
+    ensures value { result ≡ length (filter (is_scheduled all) programs.now) }
     ensures bound { result ≤ length programs.now }
 {
     let mut count = 0;
     for program in programs {
-        if has_event(program) {
+        if is_scheduled(all, program) {
             count += 1;
         }
     }
@@ -75,7 +75,7 @@ impl Description {
         }
     }
 
-    fn map_sections(&self, place: usize) -> usize
+    pub(crate) fn map_sections(&self, place: usize) -> usize
         ensures { result ≡ length (kind_lengths self.now (TableKind.Pmt place)) }
     {
         match self.programs().get(place) {
@@ -84,7 +84,7 @@ impl Description {
         }
     }
 
-    fn network_sections(&self) -> usize
+    pub(crate) fn network_sections(&self) -> usize
         ensures { result ≡ length (kind_lengths self.now TableKind.Nit) }
     {
         match self.network() {
@@ -104,10 +104,18 @@ impl Description {
         self.contents.kind_lengths(TableKind::Sdt).len()
     }
 
+    /// Returns how many programs the EIT has.
+    pub(crate) fn scheduled_count(&self) -> usize
+        ensures value { result ≡ length (scheduled_programs self.now) }
+        ensures bound { result ≤ 64 }
+    {
+        count_scheduled(self.has_eit(), self.programs())
+    }
+
     fn event_sections(&self) -> usize
         ensures { result ≡ length (kind_lengths self.now TableKind.Eit) }
     {
-        2 * scheduled_count(self.programs())
+        2 * self.scheduled_count()
     }
 
     fn private_sections(&self, place: usize) -> usize

@@ -1,4 +1,4 @@
-use Rattle.description.proofs.Entries.{shared, entries, own}
+use Rattle.description.proofs.Entries.{shared, entries, own, off_air}
 use Rattle.description.proofs.laws.program_maps.Goals as goal
 
 pub returns-clause-shared : goal.returns-clause-shared
@@ -9,3 +9,6 @@ returns-clause-tables c = entries
 
 pub returns-clause-own : goal.returns-clause-own
 returns-clause-own c = own
+
+pub returns-clause-off_air : goal.returns-clause-off_air
+returns-clause-off_air c = off_air

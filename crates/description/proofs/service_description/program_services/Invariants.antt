@@ -6,6 +6,6 @@ use Rattle.description.proofs.service_description.program_services.Given as goal
 
 abbrev pub invariant-loop-program : goal.invariant-loop-program
 invariant-loop-program l = record {
-  services : service_loop_of l.entries ≡ map service_says (take l.program-index l.programs);
+  services : service_loop_of l.entries ≡ map (service_says l.has_eit) (take l.program-index l.programs);
   length : length (services_bytes (service_loop_of l.entries)) ≡ sum_by service_length (take l.program-index l.programs);
 }

@@ -4,8 +4,8 @@ use Rattle.description.specs.SectionBytes.{network_stream}
 use Rattle.description.proofs.LoopLengths.{network_name_descriptor-length, transport_streams_bytes-one}
 use Rattle.description.proofs.description.Description.write_nit.Goals as goal
 
-pub write_section-requires : goal.write_section-requires
-write_section-requires c =
+pub write_section-requires-clause-room : goal.write_section-requires-clause-room
+write_section-requires-clause-room c =
     let name : length c.as_slice.result.now ≡ 2 + length c.args.network.now.name =
     ap length (c.as_slice.ensures.value ∙ c.name_descriptor-name.ensures) ∙ network_name_descriptor-length c.args.network.now.name in
     let loop : length (transport_streams_bytes (transport_streams_of c.transport_streams.result)) ≡ 6 + length c.args.network.now.descriptors =
