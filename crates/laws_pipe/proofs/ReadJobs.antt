@@ -1,7 +1,6 @@
 -- A written job as `mux` reads it.
 use Rattle.std.proofs.Common.{◌≡◌, ◌≤◌, ℕ, ◌+◌, Bool, true, false, if◌then◌else◌, List, ◌++◌, length, take, drop, take_at, drop_at, Option, Some, None, is_some}
 use Rattle.std.proofs.Common.{Result, Ok, Err, IsUtf8, option_map, refl, sym, ap, ap₂, ◌∙◌, subst, arith, append_assoc, length-append}
-use Rattle.std.specs.List.{list_any}
 use Rattle.std.specs.Option.{option_or}
 use Rattle.std.proofs.lemmas.List.Elements.{All-weaker}
 use Rattle.std.proofs.lemmas.Str.{is_utf8-from_IsUtf8}
@@ -14,7 +13,7 @@ use Rattle.description_parts.specs.Described.{Described}
 use Rattle.description_parts.specs.Ranges.{IsInRange}
 use Rattle.description.specs.Reading.{description_of, fault, read_document}
 use Rattle.description_keys.specs.Refusals.{key_fault}
-use Rattle.description_parts.specs.Tables.{has_event, only_if, service_tables, table_count}
+use Rattle.description_parts.specs.Tables.{has_events_table, only_if, service_tables, table_count}
 use Rattle.description_parts.specs.declared.table_kind.TableKind.TheVariants.{Eit, Nit, Sdt, Tdt}
 use Rattle.description_keys.specs.declared.fault.DescError.{DescError}
 use Rattle.description_keys.specs.declared.fault.DescError.TheVariants as refused_by
@@ -78,10 +77,10 @@ few_tables : (d : Described) → IsInRange d → table_count d ≤ 133
 few_tables d ranges =
     let two = both_lists (only_if (is_some d.network) Nit) (only_if d.has_sdt Sdt) 1 1 (only_one (is_some d.network) Nit) (only_one d.has_sdt Sdt) in
     let three =
-    both_lists (only_if (is_some d.network) Nit ++ only_if d.has_sdt Sdt) (only_if (list_any has_event d.programs) Eit) 2 1 two
-    (only_one (list_any has_event d.programs) Eit) in
+    both_lists (only_if (is_some d.network) Nit ++ only_if d.has_sdt Sdt) (only_if (has_events_table d) Eit) 2 1 two
+    (only_one (has_events_table d) Eit) in
     let four : length (service_tables d) ≤ 4 =
-    both_lists (only_if (is_some d.network) Nit ++ only_if d.has_sdt Sdt ++ only_if (list_any has_event d.programs) Eit) (only_if d.has_tdt Tdt) 3 1 three
+    both_lists (only_if (is_some d.network) Nit ++ only_if d.has_sdt Sdt ++ only_if (has_events_table d) Eit) (only_if d.has_tdt Tdt) 3 1 three
     (only_one d.has_tdt Tdt) in
     omega (arith, table_count-is d, ranges.most_programs, ranges.most_tables, four)
 

@@ -18,7 +18,7 @@ use Rattle.dvb_tables.specs.TimeAndDate.{tdt_section}
 use Rattle.dvb_tables.specs.CodedTimes.{utc_time_bytes}
 use Rattle.description_parts.specs.Described.{Described, DescribedNetwork, DescribedProgram}
 use Rattle.description_parts.specs.Ranges.{IsInRange, IsProgram, IsNetwork}
-use Rattle.description_parts.specs.Tables.{pmt_length, nit_length}
+use Rattle.description_parts.specs.Tables.{map_length, network_length}
 use Rattle.description.specs.SectionBytes.{single_header, pat_says, pmt_says, nit_says, sdt_says, eit_says, kind_bytes}
 use Rattle.description_parts.specs.declared.table_kind.TableKind.TheVariants.{Pat, Tdt}
 
@@ -51,9 +51,13 @@ long_written table_id private h body low fits le = record {
   no_stuffing = ne_eqb table_id 0xFF (λ e. omega (arith, e, low));
 }
 
-single_fits : (extension : ℕ) → extension ≤ 65535 → LongFits (single_header extension)
-single_fits extension le =
-    record { table_id_extension = omega (arith, le); version_number = omega arith; section_number = omega arith; last_section_number = omega arith }
+single_fits : (extension version : ℕ) → extension ≤ 65535 → version < 32 → LongFits (single_header extension version)
+single_fits extension version le small = record {
+  table_id_extension = omega (arith, le);
+  version_number = omega (arith, small);
+  section_number = omega arith;
+  last_section_number = omega arith;
+}
 
 -- The sections of each kind of table
 
@@ -63,25 +67,29 @@ Fits4096 text = length text ≤ 4096
 pub pat_written : (d : Described) (section moment : ℕ) → IsInRange d → Fits4096 (kind_bytes d Pat section moment) → IsWritten (kind_bytes d Pat section moment)
 unfolding pat_section pat_header
 pat_written d section moment r le =
-    long_written 0 false (pat_says d).header (programs_bytes (pat_says d).programs) (omega arith) (single_fits d.transport_stream_id r.transport_stream_id) le
+    long_written 0 false (pat_says d).header (programs_bytes (pat_says d).programs) (omega arith)
+    (single_fits d.transport_stream_id d.versions.pat r.transport_stream_id r.versions.pat) le
 
 pub pmt_written : (d : Described) (o : Option DescribedProgram) (section : ℕ) → All IsProgram (option_to_list o) →
-    section < length (map (pmt_length d) (option_to_list o)) →
+    section < length (map (map_length d) (option_to_list o)) →
     Fits4096 (elim o as (λ _. List ℕ) [ None ↦ [] | Some program ↦ section_bytes (pmt_section (pmt_says d program)) ]) →
     IsWritten (elim o as (λ _. List ℕ) [ None ↦ [] | Some program ↦ section_bytes (pmt_section (pmt_says d program)) ])
 unfolding pmt_section pmt_header
 pmt_written d None section is within le = absurd (omega (arith, within))
 pmt_written d (Some p) section is within le =
-    long_written 2 false (pmt_says d p).header (pmt_body (pmt_says d p)) (omega arith) (single_fits p.number (All-head IsProgram p [] is).most_number) le
+    let program = All-head IsProgram p [] is in
+    long_written 2 false (pmt_says d p).header (pmt_body (pmt_says d p)) (omega arith)
+    (single_fits p.number p.pmt_version program.most_number program.pmt_version) le
 
-pub nit_written : (d : Described) (o : Option DescribedNetwork) (section : ℕ) → All IsNetwork (option_to_list o) →
-    section < length (map nit_length (option_to_list o)) →
+pub nit_written : (d : Described) (o : Option DescribedNetwork) (section : ℕ) → d.versions.nit < 32 → All IsNetwork (option_to_list o) →
+    section < length (map (network_length d) (option_to_list o)) →
     Fits4096 (elim o as (λ _. List ℕ) [ None ↦ [] | Some network ↦ section_bytes (nit_section (nit_says d network)) ]) →
     IsWritten (elim o as (λ _. List ℕ) [ None ↦ [] | Some network ↦ section_bytes (nit_section (nit_says d network)) ])
 unfolding nit_section
-nit_written d None section is within le = absurd (omega (arith, within))
-nit_written d (Some n) section is within le =
-    long_written 0x40 true (nit_says d n).header (nit_body (nit_says d n)) (omega arith) (single_fits n.id (All-head IsNetwork n [] is).id) le
+nit_written d None section small is within le = absurd (omega (arith, within))
+nit_written d (Some n) section small is within le =
+    long_written 0x40 true (nit_says d n).header (nit_body (nit_says d n)) (omega arith)
+    (single_fits n.id d.versions.nit (All-head IsNetwork n [] is).id small) le
 
 -- the section of a part of the services
 abbrev part_bytes : Described → ℕ → ℕ → Option (List DescribedProgram) → List ℕ
@@ -96,7 +104,7 @@ sdt_written d true (Some part) number last r is there low most le =
     long_written 0x42 true (sdt_says d part number last).header (sdt_body (sdt_says d part number last)) (omega arith)
     (record {
       table_id_extension = omega (arith, r.transport_stream_id);
-      version_number = omega arith;
+      version_number = omega (arith, r.versions.sdt);
       section_number = omega (arith, low);
       last_section_number = omega (arith, most);
     }) le

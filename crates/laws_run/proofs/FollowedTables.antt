@@ -10,14 +10,15 @@ use Rattle.std.proofs.lemmas.List.Elements.{All-head, All-tail}
 use Rattle.psi_tables.specs.CheckWord.{check_word}
 use Rattle.psi_tables.specs.Reading.{section_at}
 use Rattle.psi_tables.specs.Encoding.{check_word_bytes, start_bytes, long_header_bytes, front_bytes, header_bytes, with_crc, section_bytes}
-use Rattle.psi_tables.specs.ProgramMap.{StreamFits, StreamsFit, PmtFits, PmtView, pmt_body, pmt_header, pmt_section}
+use Rattle.psi_tables.specs.ProgramMap.{StreamFits, StreamView, StreamsFit, PmtFits, PmtView, pmt_body, pmt_header, pmt_section}
 use Rattle.psi_tables.specs.declared.pat.programs.Program.{Program}
 use Rattle.psi_tables.proofs.PmtForms.{written}
 use Rattle.psi_tables.proofs.SectionWritten.{written as section_written}
 use Rattle.description_parts.specs.Described.{Described, DescribedProgram, DescribedStream}
 use Rattle.description_parts.specs.Ranges.{IsInRange, IsProgram, IsStream, longest_section}
-use Rattle.description_parts.specs.Tables.{table_kinds, table_kind, table_count, table_limit, section_lengths, kind_lengths, pmt_length, is_shared_with}
-use Rattle.description.specs.SectionBytes.{network_entries, pat_entry, pmt_stream, is_of_program, pmt_streams, pmt_shared, pmt_tables, pmt_says, kind_bytes}
+use Rattle.description_parts.specs.Tables.{table_kinds, table_kind, table_count, table_limit, section_lengths, kind_lengths, map_length, most_bytes, pmt_length, is_shared_with}
+use Rattle.description_parts.proofs.RoomLengths.{room_most}
+use Rattle.description.specs.SectionBytes.{network_entries, pat_entry, pmt_stream, is_of_program, pmt_streams, pmt_shared, pmt_tables, pmt_entries, pmt_says, kind_bytes}
 use Rattle.description.specs.SectionBytes.{table_bytes}
 use Rattle.description_parts.specs.declared.table_kind.TableKind.TheVariants.{Pmt}
 use Rattle.description.proofs.LoopLengths.{stream_descriptors-length}
@@ -91,6 +92,10 @@ streams_fit : (p : DescribedStream → Bool) (ss : List DescribedStream) → All
 streams_fit p [] h = tt
 streams_fit p (s ∷ ss) h = kept_fit (p s) s (filter p ss) (All-head IsStream s ss h) (streams_fit p ss (All-tail IsStream s ss h))
 
+fit_if : (b : Bool) (ss : List StreamView) → StreamsFit ss → StreamsFit (if b then ss else [])
+fit_if true ss fit = fit
+fit_if false ss fit = tt
+
 map_size : (m : PmtView) → length (section_bytes (pmt_section m)) ≡ 12 + length (pmt_body m)
 unfolding pmt_section pmt_header section_bytes with_crc header_bytes front_bytes start_bytes long_header_bytes check_word_bytes
 map_size m =
@@ -110,26 +115,29 @@ pub map_fits : (d : Described) (t i : ℕ) (p : DescribedProgram) → IsInRange 
     slice_get d.programs i ≡ Some p → PmtFits (pmt_says d p)
 map_fits d t i p r lt kind is =
     let program = at_place IsProgram d.programs i p r.programs is in
-    let short = at_place (λ (x : DescribedProgram). pmt_length d x ≤ longest_section) d.programs i p r.pmt_lengths is in
+    let short : map_length d p ≤ longest_section =
+    room_most most_bytes p.pmt_packets (pmt_length d p) longest_section
+    (at_place (λ (x : DescribedProgram). pmt_length d x ≤ longest_section) d.programs i p r.pmt_lengths is) (omega arith) in
     let by_kind : section_lengths d t ≡ kind_lengths d (Pmt i) = rw kind refl in
-    let by_program : kind_lengths d (Pmt i) ≡ pmt_length d p ∷ [] = ap (λ (o : Option DescribedProgram). map (pmt_length d) (option_to_list o)) is in
+    let by_program : kind_lengths d (Pmt i) ≡ map_length d p ∷ [] = ap (λ (o : Option DescribedProgram). map (map_length d) (option_to_list o)) is in
     let fit : length (table_bytes d t 0 0) ≤ get_or (section_lengths d t) 0 0 = table_bytes_fit d t 0 0 r (sections_law d t r lt).0 in
-    let within : length (section_bytes (pmt_section (pmt_says d p))) ≤ pmt_length d p =
+    let within : length (section_bytes (pmt_section (pmt_says d p))) ≤ map_length d p =
     subst (λ (ls : List ℕ). length (section_bytes (pmt_section (pmt_says d p))) ≤ get_or ls 0 0) (by_kind ∙ by_program)
     (subst (λ (x : List ℕ). length x ≤ get_or (section_lengths d t) 0 0) (map_bytes d t i 0 0 p kind is) fit) in
     record {
       header = record {
         table_id_extension = omega (arith, program.most_number);
-        version_number = omega arith;
+        version_number = omega (arith, program.pmt_version);
         section_number =
             omega arith;
         last_section_number = omega arith;
       };
       pcr_pid = omega (arith, program.pcr_pid.high);
-      streams = both_fit (pmt_streams p.number d.streams ++ pmt_shared p.number d.streams) (pmt_tables p.number d.tables)
+      streams = fit_if p.is_on_air (pmt_entries d p.number)
+          (both_fit (pmt_streams p.number d.streams ++ pmt_shared p.number d.streams) (pmt_tables p.number d.tables)
           (both_fit (pmt_streams p.number d.streams) (pmt_shared p.number d.streams) (streams_fit (is_of_program p.number) d.streams r.streams)
           (streams_fit (is_shared_with p.number) d.streams r.streams))
-          (tables_fit p.number d.tables r.tables);
+          (tables_fit p.number d.tables r.tables));
       room = omega (arith, map_size (pmt_says d p), within, short);
     }
 

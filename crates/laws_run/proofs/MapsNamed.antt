@@ -85,7 +85,7 @@ pub pat_fits : (d : Described) → IsInRange d → PatFits (pat_says d)
 pat_fits d r = record {
   header = record {
     table_id_extension = omega (arith, r.transport_stream_id);
-    version_number = omega arith;
+    version_number = omega (arith, r.versions.pat);
     section_number = omega arith;
     last_section_number =
         omega arith;

@@ -11,7 +11,7 @@ use Rattle.dvb_tables.specs.ServiceDescription.{sdt_section}
 use Rattle.dvb_tables.specs.EventInformation.{eit_section}
 use Rattle.dvb_tables.specs.TimeAndDate.{tdt_section}
 use Rattle.description_parts.specs.Described.{Described, DescribedNetwork, DescribedProgram}
-use Rattle.description_parts.specs.Tables.{scheduled_programs, table_kinds, table_kind, kind_lengths, section_lengths, section_count, pmt_length, nit_length}
+use Rattle.description_parts.specs.Tables.{scheduled_programs, table_kinds, table_kind, kind_lengths, section_lengths, section_count, map_length, network_length}
 use Rattle.description_parts.specs.Tables.{sdt_parts, eit_place}
 use Rattle.description.specs.SectionBytes.{pmt_says, nit_says, sdt_says, eit_bytes, kind_bytes, table_bytes}
 use Rattle.description_parts.specs.declared.table_kind.TableKind.{TableKind}
@@ -36,13 +36,13 @@ pat_id : (d : Described) (section moment : ℕ) → HasId 0x00 (kind_bytes d Pat
 unfolding section_bytes with_crc header_bytes front_bytes start_bytes pat_section pat_header
 pat_id d section moment = refl
 
-pmt_id : (d : Described) (o : Option DescribedProgram) (section : ℕ) → section < length (map (pmt_length d) (option_to_list o)) →
+pmt_id : (d : Described) (o : Option DescribedProgram) (section : ℕ) → section < length (map (map_length d) (option_to_list o)) →
     HasId 0x02 (elim o as (λ _. List ℕ) [ None ↦ [] | Some program ↦ section_bytes (pmt_section (pmt_says d program)) ])
 unfolding section_bytes with_crc header_bytes front_bytes start_bytes pmt_section pmt_header
 pmt_id d None section within = absurd (omega (arith, within))
 pmt_id d (Some p) section within = refl
 
-nit_id : (d : Described) (o : Option DescribedNetwork) (section : ℕ) → section < length (map nit_length (option_to_list o)) →
+nit_id : (d : Described) (o : Option DescribedNetwork) (section : ℕ) → section < length (map (network_length d) (option_to_list o)) →
     HasId 0x40 (elim o as (λ _. List ℕ) [ None ↦ [] | Some network ↦ section_bytes (nit_section (nit_says d network)) ])
 unfolding section_bytes with_crc header_bytes front_bytes start_bytes nit_section
 nit_id d None section within = absurd (omega (arith, within))

@@ -2,7 +2,6 @@
 use Rattle.std.proofs.Common.{◌≡◌, ℕ, zero, suc, ◌+◌, ◌-◌, ◌*◌, ◌/◌, ◌%◌, ◌<◌, ◌≤◌, Bool, true, false, List, [], ◌∷◌, ◌++◌, length, map, get_or, slice_get}
 use Rattle.std.proofs.Common.{Option, None, Some, refl, sym, subst, arith, All, if◌then◌else◌}
 use Rattle.std.specs.Option.{option_to_list}
-use Rattle.std.specs.List.{list_any}
 use Rattle.std.specs.Prelude.{is_some, ⊤}
 use Rattle.std.proofs.lemmas.List.{length-map}
 use Rattle.std.proofs.lemmas.Nat.{div_below, mod_below}
@@ -10,12 +9,14 @@ use Rattle.std.proofs.lemmas.Option.{slice_get_within}
 use Rattle.std.proofs.lemmas.List.Elements.{All-head, All-tail, All-nil, All-cons, All-append, All-filter, All-get_or}
 use Rattle.description_parts.specs.Described.{Described, DescribedNetwork, DescribedProgram, DescribedEvent}
 use Rattle.description_parts.specs.Ranges.{IsInRange, IsProgram, IsEvent}
-use Rattle.description_parts.specs.Tables.{numbers_from, only_if, has_event, scheduled_programs, service_tables, table_kinds, table_kind, kind_lengths}
-use Rattle.description_parts.specs.Tables.{section_lengths, section_count, pat_length, pmt_length, nit_length, sdt_length, sdt_parts, eit_length, eit_lengths}
+use Rattle.description_parts.specs.Tables.{numbers_from, only_if, has_events_table, is_scheduled, scheduled_programs, service_tables, table_kinds, table_kind, kind_lengths}
+use Rattle.description_parts.specs.Tables.{section_lengths, section_count, pat_length, services_length, sdt_parts, eit_length, eit_lengths}
+use Rattle.description_parts.specs.Tables.{eit_room, most_bytes, most_eit_bytes, nit_length, pmt_length, room_length, schedule_length}
 use Rattle.description_parts.specs.Tables.{eit_place, longest_event}
 use Rattle.description.specs.SectionBytes.{kind_bytes, table_bytes}
 use Rattle.description_parts.specs.declared.table_kind.TableKind.{TableKind}
 use Rattle.description_parts.specs.declared.table_kind.TableKind.TheVariants.{Pat, Pmt, Nit, Sdt, Eit, Tdt, Private}
+use Rattle.description_parts.proofs.RoomLengths.{room_most}
 use Rattle.description.proofs.SectionBounds.{table_bytes_fit}
 use Rattle.description.proofs.Pids.{at_place}
 use Rattle.laws_run.proofs.DescribedSections.{IsWritten, Fits4096, pat_written, pmt_written, nit_written, sdt_written, eit_written, tdt_written}
@@ -50,7 +51,7 @@ kinds_there d =
     (All-append (IsThere d) nit sdt
     (one_if d (is_some d.network) Nit (λ y. tt))
     (one_if d d.has_sdt Sdt (λ y. y)))
-    (one_if d (list_any has_event d.programs) Eit (λ y. tt)))
+    (one_if d (has_events_table d) Eit (λ y. tt)))
     (one_if d d.has_tdt Tdt (λ y. tt)))
     (numbered d Private 0 d.tables (λ i. tt)))
   where
@@ -61,7 +62,7 @@ kinds_there d =
     sdt = only_if d.has_sdt Sdt
 
     eit : List TableKind
-    eit = only_if (list_any has_event d.programs) Eit
+    eit = only_if (has_events_table d) Eit
 
     tdt : List TableKind
     tdt = only_if d.has_tdt Tdt
@@ -77,31 +78,39 @@ events_short (e ∷ es) h =
     let first = All-head IsEvent e es h in
     omega (arith, first.name.fits, first.text.fits, events_short es (All-tail IsEvent e es h))
 
-program_short : (p : DescribedProgram) (ps : List DescribedProgram) → All IsProgram (p ∷ ps) → eit_length p ≤ 4096
-program_short p ps h = omega (arith, events_short p.events (All-head IsProgram p ps h).events)
+program_short : (n : ℕ) (p : DescribedProgram) (ps : List DescribedProgram) → All IsProgram (p ∷ ps) → schedule_length n p ≤ 4096
+program_short n p ps h =
+    room_most most_eit_bytes n (eit_length p) 4096 (omega (arith, events_short p.events (All-head IsProgram p ps h).events)) (omega arith)
 
-programs_short : (ps : List DescribedProgram) → All IsProgram ps → All Below4096 (map eit_length ps)
-programs_short [] h = All-nil Below4096
-programs_short (p ∷ ps) h = All-cons Below4096 (eit_length p) (map eit_length ps) (program_short p ps h) (programs_short ps (All-tail IsProgram p ps h))
+programs_short : (n : ℕ) (ps : List DescribedProgram) → All IsProgram ps → All Below4096 (map (schedule_length n) ps)
+programs_short n [] h = All-nil Below4096
+programs_short n (p ∷ ps) h =
+    All-cons Below4096 (schedule_length n p) (map (schedule_length n) ps) (program_short n p ps h) (programs_short n ps (All-tail IsProgram p ps h))
 
-pairs_short : (ps : List DescribedProgram) → All IsProgram ps → All Below4096 (eit_lengths ps)
-pairs_short [] h = All-nil Below4096
-pairs_short (p ∷ ps) h =
-    let short = program_short p ps h in
-    All-cons Below4096 (eit_length p) (eit_length p ∷ eit_lengths ps) short
-    (All-cons Below4096 (eit_length p) (eit_lengths ps) short (pairs_short ps (All-tail IsProgram p ps h)))
+pairs_short : (n : ℕ) (ps : List DescribedProgram) → All IsProgram ps → All Below4096 (eit_lengths n ps)
+pairs_short n [] h = All-nil Below4096
+pairs_short n (p ∷ ps) h =
+    let short = program_short n p ps h in
+    All-cons Below4096 (schedule_length n p) (schedule_length n p ∷ eit_lengths n ps) short
+    (All-cons Below4096 (schedule_length n p) (eit_lengths n ps) short (pairs_short n ps (All-tail IsProgram p ps h)))
 
-schedules_short : (b : Bool) (ps : List DescribedProgram) → All IsProgram ps →
-    All Below4096 (if b then map eit_length ps ++ map eit_length ps else eit_lengths ps)
-schedules_short true ps h = All-append Below4096 (map eit_length ps) (map eit_length ps) (programs_short ps h) (programs_short ps h)
-schedules_short false ps h = pairs_short ps h
+schedules_short : (b : Bool) (n : ℕ) (ps : List DescribedProgram) → All IsProgram ps →
+    All Below4096 (if b then map (schedule_length n) ps ++ map (schedule_length n) ps else eit_lengths n ps)
+schedules_short true n ps h =
+    All-append Below4096 (map (schedule_length n) ps) (map (schedule_length n) ps) (programs_short n ps h) (programs_short n ps h)
+schedules_short false n ps h = pairs_short n ps h
 
 one_short : (l : ℕ) → l ≤ 4096 → All Below4096 (l ∷ [])
 one_short l le = All-cons Below4096 l [] le (All-nil Below4096)
 
-mapped_short : {X : Type 0} (f : X → ℕ) (o : Option X) → All (λ x. f x ≤ 1024) (option_to_list o) → All Below4096 (map f (option_to_list o))
-mapped_short f None h = All-nil Below4096
-mapped_short {X} f (Some x) h = let le : f x ≤ 1024 = All-head (λ (y : X). f y ≤ 1024) x [] h in one_short (f x) (omega (arith, le))
+room_short : (packets l : ℕ) → l ≤ 1024 → room_length most_bytes packets l ≤ 4096
+room_short packets l small = room_most most_bytes packets l 4096 (omega (arith, small)) (omega arith)
+
+mapped_short : {X : Type 0} (packets f : X → ℕ) (o : Option X) → All (λ x. f x ≤ 1024) (option_to_list o) →
+    All Below4096 (map (λ x. room_length most_bytes (packets x) (f x)) (option_to_list o))
+mapped_short packets f None h = All-nil Below4096
+mapped_short {X} packets f (Some x) h =
+    one_short (room_length most_bytes (packets x) (f x)) (room_short (packets x) (f x) (All-head (λ (y : X). f y ≤ 1024) x [] h))
 
 -- An element at a place of a list satisfies what all its elements satisfy.
 pub at_most_one : {X : Type 0} (P : X → Type 0) (xs : List X) (i : ℕ) (o : Option X) → All P xs → slice_get xs i ≡ o → All P (option_to_list o)
@@ -123,13 +132,16 @@ IsMade Eit = ⊤
 IsMade Tdt = ⊤
 
 kind_short : (d : Described) (k : TableKind) → IsInRange d → IsThere d k → IsMade k → All Below4096 (kind_lengths d k)
-kind_short d Pat r there made = one_short (pat_length d) (omega (arith, r.most_programs, network_list d.network))
+kind_short d Pat r there made =
+    one_short (room_length most_bytes d.rooms.pat (pat_length d))
+    (room_short d.rooms.pat (pat_length d) (omega (arith, r.most_programs, network_list d.network)))
 kind_short d (Pmt p) r there made =
-    mapped_short (pmt_length d) (slice_get d.programs p)
+    mapped_short (λ (x : DescribedProgram). x.pmt_packets) (pmt_length d) (slice_get d.programs p)
     (at_most_one (λ (x : DescribedProgram). pmt_length d x ≤ 1024) d.programs p (slice_get d.programs p) r.pmt_lengths refl)
-kind_short d Nit r there made = mapped_short nit_length d.network r.nit_length
+kind_short d Nit r there made = mapped_short (λ (n : DescribedNetwork). d.rooms.nit) nit_length d.network r.nit_length
 kind_short d Sdt r there made = λ k z within. let le = r.sdt_lengths there k z within in omega (arith, le)
-kind_short d Eit r there made = schedules_short d.is_transponder (scheduled_programs d) (All-filter has_event IsProgram d.programs r.programs)
+kind_short d Eit r there made =
+    schedules_short d.is_transponder (eit_room d) (scheduled_programs d) (All-filter (is_scheduled d.has_eit) IsProgram d.programs r.programs)
 kind_short d Tdt r there made = one_short 8 (omega arith)
 kind_short d (Private i) r there made = absurd made
 
@@ -153,16 +165,16 @@ pub eit_there : (d : Described) (section : ℕ) → section < length (kind_lengt
 eit_there d section within = place_there d.is_transponder (length (scheduled_programs d)) section (omega (arith, within, eit_count d))
 
 pub part_there : (d : Described) (section : ℕ) → section < length (kind_lengths d Sdt) → is_some (slice_get (sdt_parts d) section) ≡ true
-part_there d section within = some_there (sdt_parts d) section (omega (arith, within, length-map (sdt_parts d) sdt_length))
+part_there d section within = some_there (sdt_parts d) section (omega (arith, within, length-map (sdt_parts d) (services_length d)))
 
 kind_written : (d : Described) (k : TableKind) (section moment : ℕ) → IsInRange d → IsThere d k → IsMade k → section < length (kind_lengths d k) →
     length (kind_lengths d k) ≤ 128 → Fits4096 (kind_bytes d k section moment) → IsWritten (kind_bytes d k section moment)
 kind_written d Pat section moment r there made within few le = pat_written d section moment r le
 kind_written d (Pmt p) section moment r there made within few le =
     pmt_written d (slice_get d.programs p) section (at_most_one IsProgram d.programs p (slice_get d.programs p) r.programs refl) within le
-kind_written d Nit section moment r there made within few le = nit_written d d.network section r.network within le
+kind_written d Nit section moment r there made within few le = nit_written d d.network section r.versions.nit r.network within le
 kind_written d Sdt section moment r there made within few le =
-    let count = length-map (sdt_parts d) sdt_length in
+    let count = length-map (sdt_parts d) (services_length d) in
     sdt_written d d.has_sdt (slice_get (sdt_parts d) section) section (length (sdt_parts d) - 1) r there (part_there d section within)
     (omega (arith, within, few)) (omega (arith, count, few)) le
 kind_written d Eit section moment r there made within few le =
@@ -170,7 +182,7 @@ kind_written d Eit section moment r there made within few le =
     let is = eit_there d section within in
     let o : Option DescribedProgram = slice_get (scheduled_programs d) place in
     eit_written d o (eit_place d section).1 moment is.1
-    (at_most_one IsProgram (scheduled_programs d) place o (All-filter has_event IsProgram d.programs r.programs) refl)
+    (at_most_one IsProgram (scheduled_programs d) place o (All-filter (is_scheduled d.has_eit) IsProgram d.programs r.programs) refl)
     (some_there (scheduled_programs d) place is.0) le
 kind_written d Tdt section moment r there made within few le = tdt_written d section moment
 kind_written d (Private i) section moment r there made within few le = absurd made

@@ -8,7 +8,7 @@ use Rattle.description_parts.specs.Tables.{pmt_length, nit_length}
 use Rattle.description_parts.specs.Ranges.{IsLanguage, IsNetwork, IsProgram, IsEvent, IsMultiplexingBuffer, IsFraming, IsStream, IsTable}
 use Rattle.description_parts.specs.Ranges.{IsListed, IsSharing, IsInRange, program_numbers, longest_section}
 use Rattle.laws_run.specs.WorkedVideo.{video_stream, video_buffer, sound_stream, sound_framing, video_program, video_service}
-use Rattle.laws_run.proofs.WorkedRanges.{pid, no_bytes}
+use Rattle.laws_run.proofs.WorkedRanges.{pid, no_bytes, no_versions, one_packet}
 
 buffer_is : IsMultiplexingBuffer 1200000 video_buffer
 buffer_is = record { least_rbx = omega arith; most_rbx = omega arith; some_size = omega arith; most_size = omega arith }
@@ -84,6 +84,10 @@ program_is = record {
   pcr_pid = pid 257 (omega arith) (omega arith);
   some_limit = omega arith;
   most_limit = omega arith;
+  some_packets = omega arith;
+  most_packets = omega arith;
+  pmt_version = omega arith;
+  eit_count = omega arith;
   descriptors = no_bytes 700;
   service_type = omega arith;
   provider = no_bytes 100;
@@ -111,6 +115,8 @@ video_in_range = record {
   base0 = omega arith;
   transport_stream_id = omega arith;
   original_network_id = omega arith;
+  rooms = one_packet;
+  versions = no_versions;
   network = All-nil IsNetwork;
   some_programs = omega arith;
   most_programs = omega arith;

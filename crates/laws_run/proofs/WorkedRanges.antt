@@ -6,7 +6,7 @@ use Rattle.std.proofs.lemmas.List.Elements.{All-nil, All-cons}
 use Rattle.description_parts.specs.Described.{DescribedNetwork, DescribedProgram, DescribedStream}
 use Rattle.description_parts.specs.Tables.{pmt_length, nit_length}
 use Rattle.description_parts.specs.Ranges.{IsPid, IsBytes, IsLanguage, IsNetwork, IsProgram, IsEvent, IsMultiplexingBuffer, IsFraming, IsStream, IsTable}
-use Rattle.description_parts.specs.Ranges.{IsListed, IsSharing, IsInRange, program_numbers, longest_section}
+use Rattle.description_parts.specs.Ranges.{AreRooms, AreVersions, IsListed, IsSharing, IsInRange, program_numbers, longest_section}
 use Rattle.laws_run.specs.WorkedService.{worked_stream, worked_program, worked_service}
 
 pub pid : (n : ℕ) → 32 ≤ n → n ≤ 8190 → IsPid n
@@ -50,12 +50,31 @@ program_is = record {
   pcr_pid = pid 257 (omega arith) (omega arith);
   some_limit = omega arith;
   most_limit = omega arith;
+  some_packets = omega arith;
+  most_packets = omega arith;
+  pmt_version = omega arith;
+  eit_count = omega arith;
   descriptors = no_bytes 700;
   service_type = omega arith;
   provider = no_bytes 100;
   name = no_bytes 100;
   events = All-nil IsEvent;
 }
+
+pub one_packet : AreRooms worked_service.rooms
+one_packet = record {
+  some_pat = omega arith;
+  most_pat = omega arith;
+  some_sdt = omega arith;
+  most_sdt = omega arith;
+  some_nit = omega arith;
+  most_nit = omega arith;
+  some_eit = omega arith;
+  most_eit = omega arith;
+}
+
+pub no_versions : AreVersions worked_service.versions
+no_versions = record { pat = omega arith; sdt = omega arith; nit = omega arith }
 
 not_shared : IsSharing worked_service worked_stream
 unfolding IsDistinct
@@ -70,6 +89,8 @@ worked_in_range = record {
   base0 = omega arith;
   transport_stream_id = omega arith;
   original_network_id = omega arith;
+  rooms = one_packet;
+  versions = no_versions;
   network = All-nil IsNetwork;
   some_programs = omega arith;
   most_programs = omega arith;

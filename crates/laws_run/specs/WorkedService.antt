@@ -34,6 +34,10 @@ worked_program = record {
   pcr_pid = 257;
   has_clock = true;
   pcr_limit = 100;
+  pmt_packets = 1;
+  is_on_air = true;
+  pmt_version = 0;
+  eit_count = 0;
   descriptors = [];
   service_type = 2;
   provider = [];
@@ -52,6 +56,9 @@ worked_service = record {
   has_tdt = false;
   is_transponder = false;
   clock_pid = None;
+  has_eit = false;
+  rooms = record { pat = 1; sdt = 1; nit = 1; eit = 2 };
+  versions = record { pat = 0; sdt = 0; nit = 0 };
   network = None;
   programs = worked_program ∷ [];
   streams = worked_stream ∷ [];

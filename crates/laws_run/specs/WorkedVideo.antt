@@ -69,6 +69,10 @@ video_program = record {
   pcr_pid = 257;
   has_clock = true;
   pcr_limit = 100;
+  pmt_packets = 1;
+  is_on_air = true;
+  pmt_version = 0;
+  eit_count = 0;
   descriptors = [];
   service_type = 1;
   provider = [];
@@ -87,6 +91,9 @@ video_service = record {
   has_tdt = false;
   is_transponder = false;
   clock_pid = None;
+  has_eit = false;
+  rooms = record { pat = 1; sdt = 1; nit = 1; eit = 2 };
+  versions = record { pat = 0; sdt = 0; nit = 0 };
   network = None;
   programs = video_program ∷ [];
   streams = video_stream ∷ sound_stream ∷ [];

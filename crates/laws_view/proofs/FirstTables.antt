@@ -289,7 +289,7 @@ entries_are d version (f ∷ fs) h =
 
     one : HasIts d f → All (IsEntry d) (entries_of version (pat_found f))
     one (inl none) = rw none (All-nil (IsEntry d))
-    one (inr some) = rw some (those (0 == version))
+    one (inr some) = rw some (those (d.versions.pat == version))
 
 -- All programs that are named are programs of the description.
 program_with : (d : Described) (named : List Program) (p : Program) → All (OfProgram d) named → IsEntry d p → All (OfProgram d) (with_program named p)
@@ -382,17 +382,19 @@ streams_known d units n last r kept few h tables =
     let its : All (HasIts d.description) (found_of 0 found) =
     all_front (HasIts d.description) (found_of 0 found) w.ends
     (subst (All (HasIts d.description)) (sym t.back ∙ w.split) (sent_has d.description n t.texts t.packets t.each)) in
+    let version : ℕ = d.description.versions.pat in
     let a : AssociationView = record {
       transport_stream_id = d.description.transport_stream_id;
-      version_number = 0;
-      programs = with_programs [] (entries 0 (found_of 0 found));
+      version_number = version;
+      programs = with_programs [] (entries version (found_of 0 found));
     } in
     let is : association found ≡ Some a = sym (pid_zero found) ∙ ap (λ (fs : List FindingView). association fs) t.first
     ∙ rw here refl
     ∙ ap (λ (fs : List FindingView). Some
-    (record { transport_stream_id = d.description.transport_stream_id; version_number = 0; programs = with_programs [] (entries 0 fs) })) (sym t.first) in
+    (record { transport_stream_id = d.description.transport_stream_id; version_number = version; programs = with_programs [] (entries version fs) })) (sym t.first) in
     let of : All (OfProgram d.description) a.programs =
-    programs_with d.description [] (entries 0 (found_of 0 found)) (All-nil (OfProgram d.description)) (entries_are d.description 0 (found_of 0 found) its) in
+    programs_with d.description [] (entries version (found_of 0 found)) (All-nil (OfProgram d.description))
+    (entries_are d.description version (found_of 0 found) its) in
     let maps : have_maps found a.programs ≡ true = list_all_of (OfProgram d.description) (λ p. is_some (program_map p found)) a.programs of
     (λ p o. ap (λ (q : Program). is_some (program_map q found)) o.3 ∙ map_known d units n r kept few h tables o.0 o.1 o.2) in
     ap (λ (x : Option AssociationView). is_some (streams_by last found x)) is

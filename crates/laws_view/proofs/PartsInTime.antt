@@ -17,7 +17,7 @@ use Rattle.psi_tables.specs.ProgramMap.{pmt_header, pmt_section}
 use Rattle.dvb_tables.specs.EventInformation.{eit_section}
 use Rattle.description_parts.specs.Described.{Described, DescribedProgram}
 use Rattle.description_parts.specs.Ranges.{IsInRange}
-use Rattle.description_parts.specs.Tables.{kind_lengths, kind_limit, pmt_length, scheduled_programs, section_count, section_lengths, table_count, table_kind}
+use Rattle.description_parts.specs.Tables.{kind_lengths, kind_limit, map_length, scheduled_programs, section_count, section_lengths, table_count, table_kind}
 use Rattle.description_parts.specs.Tables.{table_kinds, eit_place}
 use Rattle.description_parts.specs.Tables.{table_limit, table_pid}
 use Rattle.description_parts.specs.declared.table_kind.TableKind.{TableKind}
@@ -83,7 +83,7 @@ record IsOfPart (table_id part : ℕ) (text : List ℕ) : Type 0 where
   whole : part_in table_id text ≡ part
   first : part_after table_id (take 184 (0 ∷ (text ++ replicate 184 0xFF))) ≡ part
 
-pmt_part : (d : Described) (o : Option DescribedProgram) (section : ℕ) → section < length (map (pmt_length d) (option_to_list o)) →
+pmt_part : (d : Described) (o : Option DescribedProgram) (section : ℕ) → section < length (map (map_length d) (option_to_list o)) →
     IsOfPart 0x02 (elim o as (λ _. ℕ) [ None ↦ 0 | Some program ↦ program.number / 256 * 256 + program.number % 256 ])
     (elim o as (λ _. List ℕ) [ None ↦ [] | Some program ↦ section_bytes (pmt_section (pmt_says d program)) ])
 unfolding section_bytes with_crc header_bytes front_bytes start_bytes long_header_bytes pmt_section pmt_header
