@@ -98,7 +98,7 @@ use Rattle.sound_frames.specs.FrameHeaders.{second_layer_rate, sounding, third_l
 use Rattle.sound_frames.specs.FrameWalks.{by_header, count_by, count_passed, header_read, headed, parts_from, passed, passed_by, walked_from}
 use Rattle.sound_frames.specs.Frames.{all_frames, next_frame, walked, with_frame}
 use Rattle.stream_choice.specs.Choices.{best}
-use Rattle.stream_choice.specs.Frames.{framed_bytes, frames_hold, is_framing}
+use Rattle.stream_choice.specs.Frames.{framed_bytes, is_framing}
 use Rattle.stream_choice.specs.Ranges.{are_max_packets, is_needs, is_within}
 use Rattle.stream_choice.specs.Shares.{held_bytes, leaking_needs}
 use Rattle.stream_coding.specs.Codings.{channel_pairs, coding_by_descriptors, coding_of, four_bytes, is_ac3, is_j2k, j2k_limits, registers_ac3}
@@ -168,7 +168,7 @@ unfolding descriptors_from descriptors_in first_descriptor has_ca has_of_multipl
     ac3_frame ac3_frequency ac3_rate ac3_size adts_frame enhanced_ac3 enhanced_blocks enhanced_frequency first_layer_rate frame_header frame_kind
     layer_frame layer_frequency layer_header layer_rate layer_samples layer_size loas_config loas_frame low_first_layer_rate low_layer_rate plain_ac3
     second_layer_rate sounding third_layer_rate by_header count_by count_passed header_read headed parts_from passed passed_by walked_from all_frames
-    next_frame walked with_frame best framed_bytes frames_hold is_framing are_max_packets is_needs is_within held_bytes leaking_needs channel_pairs
+    next_frame walked with_frame best framed_bytes is_framing are_max_packets is_needs is_within held_bytes leaking_needs channel_pairs
     coding_by_descriptors coding_of four_bytes is_ac3 is_j2k j2k_limits registers_ac3 registers_pcm free_pids_is_taken least_free assigned_map_pid
     assigned_map_pids assigned_pids with_pcr_pids any_ca any_of_multiplex can_place can_share has_clock holder_in is_multiplexed_map is_scrambled_map
     programs_of shares with_access with_map with_multiplex with_program_by with_program_if programs_with_programs with_shared with_stream

@@ -7,5 +7,4 @@ pub mod ShareTimes
 pub mod ShareProof
 pub mod Halving
 pub mod PaceFacts
-mod FramesHeld
 pub mod FramedFacts

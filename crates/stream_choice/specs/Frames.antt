@@ -1,6 +1,7 @@
 -- Whether the main buffer of a stream holds what waits if access units are removed one by one (ISO/IEC 13818-1, 2.4.2.3).
-use Rattle.std.specs.Prelude.{ℕ, slice_index, zero, suc, ◌+◌, ◌-◌, ◌*◌, ◌/◌, ◌&&◌, min, max, nat_le, nat_lt, Bool, true, if◌then◌else◌}
+use Rattle.std.specs.Prelude.{ℕ, slice_index, ◌+◌, ◌-◌, ◌*◌, ◌/◌, ◌&&◌, min, max, nat_le, nat_lt, Bool, if◌then◌else◌}
 use Rattle.std.specs.Int.{div_ceil}
+use Rattle.own_slots.specs.Extremes.{greatest}
 use Rattle.stream_choice.specs.declared.frame_counts.FrameCounts.{FrameCounts}
 use Rattle.stream_choice.specs.declared.needs.Needs.{Needs}
 use Rattle.unit_timing.specs.Shares.{parts}
@@ -36,10 +37,9 @@ unfoldable pub framed_bytes : Needs → FrameCounts → ℕ → ℕ → ℕ → 
 framed_bytes needs f lead share sum j =
     left_of f j + (if nat_lt (ahead f lead j) lead then later_bytes needs (lead - ahead f lead j) share sum else 0)
 
--- the main buffer holds these bytes for 1, 2, .. access units, up to the number
-unfoldable pub frames_hold : Needs → FrameCounts → ℕ → ℕ → ℕ → ℕ → Bool
-frames_hold needs f lead share sum zero = true
-frames_hold needs f lead share sum (suc j) = frames_hold needs f lead share sum j && nat_le (framed_bytes needs f lead share sum (suc j)) needs.main
+-- the most bytes that wait when access units of a unit are left, but not all
+abbrev pub most_waiting : Needs → FrameCounts → ℕ → ℕ → ℕ → ℕ
+most_waiting needs f lead share sum = greatest (f.frames - 1) (λ before. framed_bytes needs f lead share sum (before + 1))
 
 -- the longest lead with which the last access unit of a unit is in the buffers for at most a second (2.4.2.6): it comes a lead before the
 -- unit's DTS, and leaves them when all others have left
@@ -47,4 +47,4 @@ abbrev pub framed_lead : FrameCounts → ℕ
 framed_lead f = 90_000 - (f.frames - 1) * f.frame
 
 abbrev pub keeps_framing : Needs → FrameCounts → ℕ → ℕ → ℕ → Bool
-keeps_framing needs f lead share sum = is_framing needs f && (nat_le lead (framed_lead f) && frames_hold needs f lead share sum (f.frames - 1))
+keeps_framing needs f lead share sum = is_framing needs f && (nat_le lead (framed_lead f) && nat_le (most_waiting needs f lead share sum) needs.main)

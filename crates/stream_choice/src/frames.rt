@@ -1,7 +1,7 @@
 //! Whether the main buffer of a stream holds what waits if access units are removed one by one (ISO/IEC 13818-1,
 //! 2.4.2.3), and how long before its DTS a unit may then be sent.
 
-ghost use Rattle.std.specs.Prelude.{◌≡◌, ◌≤◌, ◌<◌, ◌^◌, ◌&&◌, nat_le};
+ghost use Rattle.std.specs.Prelude.{◌≡◌, ◌≤◌, ◌<◌, ◌^◌};
 ghost use Rattle.stream_choice.specs.Frames as spec;
 
 use crate::frame_counts::FrameCounts;
@@ -97,37 +97,16 @@ fn framed_bytes(
     }
 }
 
-// Returns whether the main buffer holds the bytes that wait when `left` access units of a unit are left.
-fn holds_with(needs: Needs, framing: FrameCounts, lead: u32, share: u64, sum: u64, left: u8) -> bool
-    ensures { result ≡ nat_le (spec.framed_bytes needs framing lead share sum left) needs.main }
+/// Returns the most bytes that wait in the main buffer when access units of a unit are left, but not all. `sum` is the sum
+/// of all shares of the output.
+pub fn most_waiting(needs: Needs, framing: FrameCounts, lead: u32, share: u64, sum: u64) -> u128
+    ensures { result ≡ spec.most_waiting needs framing lead share sum }
 {
-    framed_bytes(needs, framing, lead, share, sum, left) <= u128::from(needs.main)
-}
-
-// Returns whether both conditions hold.
-fn both(one: bool, other: bool) -> bool
-    ensures { result ≡ (one && other) }
-{
-    one && other
-}
-
-// Returns whether the main buffer holds the bytes that wait, for each number of access units up to `others`.
-fn frames_hold(
-    needs: Needs,
-    framing: FrameCounts,
-    lead: u32,
-    share: u64,
-    sum: u64,
-    others: u8,
-) -> bool
-    ensures { result ≡ spec.frames_hold needs framing lead share sum others }
-{
-    let mut holds = true;
-    for before in 0..others {
-        let fits = holds_with(needs, framing, lead, share, sum, before + 1);
-        holds = both(holds, fits);
+    let mut most = 0;
+    for before in 0..framing.frames.saturating_sub(1) {
+        most = most.max(framed_bytes(needs, framing, lead, share, sum, before + 1));
     }
-    holds
+    most
 }
 
 /// Returns the longest lead, in units of 90 kHz, with which the last access unit of a unit is in the buffers for at most
@@ -146,8 +125,7 @@ pub fn framed_lead(framing: FrameCounts) -> u32
 pub fn keeps_framing(needs: Needs, framing: FrameCounts, lead: u32, share: u64, sum: u64) -> bool
     ensures { result ≡ spec.keeps_framing needs framing lead share sum }
 {
-    let others = framing.frames.saturating_sub(1);
     is_framing(needs, framing)
         && lead <= framed_lead(framing)
-        && frames_hold(needs, framing, lead, share, sum, others)
+        && most_waiting(needs, framing, lead, share, sum) <= u128::from(needs.main)
 }

@@ -35,7 +35,7 @@ mod shares;
 pub use choice::{Choice, preferred};
 pub use frame_counts::FrameCounts;
 pub use framed_selection::choose_framed;
-pub use frames::{framed_lead, is_framing, keeps_framing};
+pub use frames::{framed_lead, is_framing, keeps_framing, most_waiting};
 pub use needs::Needs;
 pub use pace_selection::{PacedUnits, choose_pace};
 pub use ranges::are_max_packets;
