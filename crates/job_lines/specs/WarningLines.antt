@@ -1,6 +1,6 @@
 -- The lines of warnings: what of a stream is left out or changed.
 use Rattle.std.specs.Prelude.{ℕ, ◌==◌, ◌&&◌, ◌||◌, not, Bool, true, false, List, filter, [], ◌∷◌, ◌++◌, Option, Some, None, if◌then◌else◌, codes, decimal}
-use Rattle.std.specs.Prelude.{option_map}
+use Rattle.std.specs.Prelude.{nat_lt, option_map}
 use Rattle.stream_programs.specs.declared.omission.TableOmission.{TableOmission}
 use Rattle.stream_programs.specs.declared.omission.TableOmission.TheVariants as table
 use Rattle.pes_packet.specs.declared.refusal.PesError.{PesError}
@@ -113,15 +113,21 @@ leak_line pid rate leak = codes "pid " ++ decimal pid ++ codes " asks for " ++ d
 
 -- a main buffer holds whole PES packets; by the standard each frame of sound leaves it at its own time (ISO/IEC 13818-1, 2.4.2.3)
 unfoldable pub by_packets : ℕ → List ℕ
-by_packets main = codes ": main of " ++ decimal main ++ codes " bytes holds whole packets, but may be over by the standard, which counts frames\n"
+by_packets main = codes ": main of " ++ decimal main ++ codes " bytes holds whole packets, but may be over by the standard, which counts frames"
+
+-- the bytes that wait then, if they are more than the main buffer
+unfoldable pub waiting_text : ℕ → ℕ → List ℕ
+waiting_text main bytes =
+    if nat_lt main bytes then codes " (up to " ++ decimal bytes ++ codes " bytes wait); fewer frames a PES packet would fit\n" else codes "\n"
 
 -- frames of sound that a main buffer is not known to hold one by one
-unfoldable pub frames_line : ℕ → ℕ → ℕ → List ℕ
-frames_line pid frames main = codes "pid " ++ decimal pid ++ codes ": up to " ++ decimal frames ++ codes " frames of sound a PES packet" ++ by_packets main
+unfoldable pub frames_line : ℕ → ℕ → ℕ → ℕ → List ℕ
+frames_line pid frames main bytes =
+    codes "pid " ++ decimal pid ++ codes ": up to " ++ decimal frames ++ codes " frames of sound a PES packet" ++ by_packets main ++ waiting_text main bytes
 
 -- frames of sound that cross PES packets
 unfoldable pub crossing_line : ℕ → ℕ → List ℕ
-crossing_line pid main = codes "pid " ++ decimal pid ++ codes ": frames of sound cross PES packets" ++ by_packets main
+crossing_line pid main = codes "pid " ++ decimal pid ++ codes ": frames of sound cross PES packets" ++ by_packets main ++ codes "\n"
 
 -- the lines for a stream that is left out: the line of the refusal that it would be, in a recording with streams whose clocks go back, and a line that says
 -- so
@@ -146,7 +152,7 @@ warning_line falling (warning.MapMoved program from to) = codes "PMT of program 
 warning_line falling (warning.HeaderBuffer pid said unit counted) = header_line pid said unit counted
 warning_line falling (warning.Leak pid rate leak) = leak_line pid rate leak
 warning_line falling (warning.LeftOut stream why) = left_out_line falling stream.pid why
-warning_line falling (warning.Frames pid frames main) = frames_line pid frames main
+warning_line falling (warning.Frames pid frames main bytes) = frames_line pid frames main bytes
 warning_line falling (warning.CrossingFrames pid main) = crossing_line pid main
 warning_line falling (warning.MadeDts pid) = codes "pid " ++ decimal pid ++ codes " has no DTS that rise: made from its PTS\n"
 

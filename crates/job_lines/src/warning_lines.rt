@@ -253,20 +253,42 @@ fn write_by_packets(main: u32, text: &mut String) -> Result<(), AllocError>
 {
     write!(
         text,
-        ": main of {main} bytes holds whole packets, but may be over by the standard, which counts frames\n"
+        ": main of {main} bytes holds whole packets, but may be over by the standard, which counts frames"
     )
+}
+
+// Appends how many bytes wait then, if they are more than the main buffer.
+#[tactic(auto, unfolding(crate::specs::WarningLines::waiting_text))]
+fn write_waiting(main: u32, bytes: u64, text: &mut String) -> Result<(), AllocError>
+    ensures { OnOk result (string_bytes text.new ≡ string_bytes text.old ++ spec.waiting_text main bytes) }
+{
+    if u64::from(main) < bytes {
+        write!(
+            text,
+            " (up to {bytes} bytes wait); fewer frames a PES packet would fit\n"
+        )
+    } else {
+        text.push_str("\n")
+    }
 }
 
 // Appends the line for frames of sound that a main buffer is not known to hold one by one.
 #[tactic(auto, unfolding(crate::specs::WarningLines::frames_line))]
-fn write_frames(pid: u16, frames: u8, main: u32, text: &mut String) -> Result<(), AllocError>
-    ensures { OnOk result (string_bytes text.new ≡ string_bytes text.old ++ spec.frames_line pid frames main) }
+fn write_frames(
+    pid: u16,
+    frames: u8,
+    main: u32,
+    bytes: u64,
+    text: &mut String,
+) -> Result<(), AllocError>
+    ensures { OnOk result (string_bytes text.new ≡ string_bytes text.old ++ spec.frames_line pid frames main bytes) }
 {
     write!(
         text,
         "pid {pid}: up to {frames} frames of sound a PES packet"
     )?;
-    write_by_packets(main, text)
+    write_by_packets(main, text)?;
+    write_waiting(main, bytes, text)
 }
 
 // Appends the line for frames of sound that cross PES packets.
@@ -275,7 +297,8 @@ fn write_crossing(pid: u16, main: u32, text: &mut String) -> Result<(), AllocErr
     ensures { OnOk result (string_bytes text.new ≡ string_bytes text.old ++ spec.crossing_line pid main) }
 {
     write!(text, "pid {pid}: frames of sound cross PES packets")?;
-    write_by_packets(main, text)
+    write_by_packets(main, text)?;
+    text.push_str("\n")
 }
 
 // Appends the lines for a stream that is left out.
@@ -337,7 +360,12 @@ fn write_warning(falling: &[u16], warning: Warning, text: &mut String) -> Result
         } => write_header_buffer(pid, said, unit, counted, text),
         Warning::Leak { pid, rate, leak } => write_leak(pid, rate, leak, text),
         Warning::LeftOut { stream, why } => write_left_out(falling, stream.pid, why, text),
-        Warning::Frames { pid, frames, main } => write_frames(pid, frames, main, text),
+        Warning::Frames {
+            pid,
+            frames,
+            main,
+            bytes,
+        } => write_frames(pid, frames, main, bytes, text),
         Warning::CrossingFrames { pid, main } => write_crossing(pid, main, text),
         Warning::MadeDts { pid } => write!(
             text,

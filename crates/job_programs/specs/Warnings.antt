@@ -141,7 +141,7 @@ is_damage (warning.MapMoved program from to) = false
 is_damage (warning.HeaderBuffer pid said unit counted) = false
 is_damage (warning.Leak pid rate leak) = false
 is_damage (warning.LeftOut stream why) = true
-is_damage (warning.Frames pid frames main) = true
+is_damage (warning.Frames pid frames main bytes) = true
 is_damage (warning.CrossingFrames pid main) = true
 is_damage (warning.MadeDts pid) = false
 

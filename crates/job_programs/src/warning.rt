@@ -118,11 +118,12 @@ pub enum Warning {
         why: JobRefusal,
     },
     /// The units of a stream have up to this number of frames of sound, which its main buffer of this size is not known
-    /// to hold if they leave it one by one: a unit leaves it whole.
+    /// to hold if they leave it one by one, as up to so many bytes then wait: a unit leaves it whole.
     Frames {
         pid: u16,
         frames: u8,
         main: u32,
+        bytes: u64,
     },
     /// Frames of sound begin in one unit of a stream and end in the next: a unit leaves its main buffer of this size
     /// whole.

@@ -4,12 +4,13 @@ ghost use Rattle.std.specs.Prelude.{◌≡◌, ◌++◌, OnOk, option_to_list};
 ghost use Rattle.job_units.specs.BufferWarnings as spec;
 
 use crate::declarations::{StreamChoice, UnitCounts, coding_for, said_coding};
+use crate::share_sums::asked_shares;
 use crate::stream_measures::StreamMeasures;
 use clock27::SLOT_UNITS_AT_1BPS;
 use es_buffers::{PidBuffers, buffers_of, given_buffers};
 use job_programs::Warning;
 use std::alloc::AllocError;
-use stream_choice::{Choice, FrameCounts};
+use stream_choice::{Choice, FrameCounts, most_waiting};
 use unit_timing::multiplexing_buffer::MultiplexingBuffer;
 use unit_timing::shares::PARTS;
 
@@ -148,9 +149,9 @@ fn push_leak_warnings(
     Ok(())
 }
 
-// Returns the number of access units in a unit of a stream that has several, and does not declare them.
+// Returns the access units of a stream that has several in a unit, and does not declare them.
 #[tactic(auto, unfolding(crate::specs::BufferWarnings::unkept_frames))]
-fn unkept_frames(found: Option<FrameCounts>, kept: Option<FrameCounts>) -> Option<u8>
+fn unkept_frames(found: Option<FrameCounts>, kept: Option<FrameCounts>) -> Option<FrameCounts>
     ensures { result ≡ spec.unkept_frames found kept }
 {
     match found {
@@ -159,13 +160,24 @@ fn unkept_frames(found: Option<FrameCounts>, kept: Option<FrameCounts>) -> Optio
             Some(FrameCounts { .. }) => None,
             None => {
                 if framing.frames > 1 {
-                    Some(framing.frames)
+                    Some(framing)
                 } else {
                     None
                 }
             }
         },
     }
+}
+
+// Returns the most bytes that wait in the main buffer of a stream with this choice if its access units leave it one by
+// one, in an output whose shares have this sum.
+#[tactic(auto, unfolding(crate::specs::BufferWarnings::waiting_of))]
+fn waiting_of(sum: u64, unit_counts: &UnitCounts, choice: Choice, framing: FrameCounts) -> u64
+    ensures { result ≡ spec.waiting_of sum unit_counts.now choice framing }
+{
+    let needs = unit_counts.needs;
+    let bytes = most_waiting(needs, framing, choice.lead, choice.share, sum);
+    bytes.min(u128::from(u64::MAX)) as u64
 }
 
 // Returns the warning about frames that cross the units of a stream.
@@ -189,18 +201,20 @@ fn crossing_warning(stream: &StreamMeasures, unit_counts: &UnitCounts) -> Option
 // Returns the warning about frames of sound that leave the main buffer in whole units.
 #[tactic(auto, unfolding(crate::specs::BufferWarnings::whole_warning))]
 fn whole_warning(
+    sum: u64,
     stream: &StreamMeasures,
     unit_counts: &UnitCounts,
     choice: StreamChoice,
 ) -> Option<Warning>
-    ensures { result ≡ spec.whole_warning (stream.now, (unit_counts.now, choice)) }
+    ensures { result ≡ spec.whole_warning sum (stream.now, (unit_counts.now, choice)) }
 {
     match unkept_frames(unit_counts.framing, choice.framing) {
         None => crossing_warning(stream, unit_counts),
-        Some(frames) => Some(Warning::Frames {
+        Some(framing) => Some(Warning::Frames {
             pid: stream.pid,
-            frames,
+            frames: framing.frames,
             main: unit_counts.needs.main,
+            bytes: waiting_of(sum, unit_counts, choice.choice, framing),
         }),
     }
 }
@@ -209,31 +223,33 @@ fn whole_warning(
 #[tactic(auto, unfolding(crate::specs::BufferWarnings::frame_warning))]
 fn frame_warning(
     given: &[PidBuffers],
+    sum: u64,
     stream: &StreamMeasures,
     unit_counts: &UnitCounts,
     choice: StreamChoice,
 ) -> Option<Warning>
-    ensures { result ≡ spec.frame_warning given.now (stream.now, (unit_counts.now, choice)) }
+    ensures { result ≡ spec.frame_warning given.now sum (stream.now, (unit_counts.now, choice)) }
 {
     if given_buffers(given, stream.pid).is_some() {
         return None;
     }
-    whole_warning(stream, unit_counts, choice)
+    whole_warning(sum, stream, unit_counts, choice)
 }
 
 // Appends the warning about frames of sound that leave the main buffer in whole units.
 #[tactic(auto, unfolding(crate::specs::BufferWarnings::frame_warnings_of))]
 fn push_frame_warning(
     given: &[PidBuffers],
+    sum: u64,
     stream: &StreamMeasures,
     unit_counts: &UnitCounts,
     choice: StreamChoice,
     warnings: &mut Vec<Warning>,
 ) -> Result<(), AllocError>
     ensures { OnOk result (warnings.new.items ≡ warnings.old.items
-        ++ spec.frame_warnings_of given.now (stream.now, (unit_counts.now, choice))) }
+        ++ spec.frame_warnings_of given.now sum (stream.now, (unit_counts.now, choice))) }
 {
-    if let Some(warning) = frame_warning(given, stream, unit_counts, choice) {
+    if let Some(warning) = frame_warning(given, sum, stream, unit_counts, choice) {
         warnings.push(warning)?;
     }
     Ok(())
@@ -242,13 +258,14 @@ fn push_frame_warning(
 // Appends the warnings about frames of sound that leave main buffers in whole units.
 fn push_frame_warnings(
     given: &[PidBuffers],
+    sum: u64,
     streams: &[StreamMeasures],
     unit_counts: &[UnitCounts],
     choices: &[StreamChoice],
     warnings: &mut Vec<Warning>,
 ) -> Result<(), AllocError>
     ensures { OnOk result (warnings.new.items ≡ warnings.old.items
-        ++ spec.frame_warnings given.now streams.now unit_counts.now choices.now) }
+        ++ spec.frame_warnings given.now sum streams.now unit_counts.now choices.now) }
 {
     let mut streams = streams;
     let mut unit_counts = unit_counts;
@@ -260,7 +277,7 @@ fn push_frame_warnings(
         let Some((choice, later_choices)) = choices.split_first() else {
             return Ok(());
         };
-        push_frame_warning(given, stream, count, *choice, warnings)?;
+        push_frame_warning(given, sum, stream, count, *choice, warnings)?;
         streams = later_streams;
         unit_counts = later_counted;
         choices = later_choices;
@@ -282,5 +299,6 @@ pub fn push_buffer_warnings(
 {
     push_header_warnings(given, streams, warnings)?;
     push_leak_warnings(streams, unit_counts, choices, warnings)?;
-    push_frame_warnings(given, streams, unit_counts, choices, warnings)
+    let sum = asked_shares(choices);
+    push_frame_warnings(given, sum, streams, unit_counts, choices, warnings)
 }
