@@ -328,15 +328,22 @@ framed_of by.Either lead sum f c = framed_by_groups lead sum f c
 abbrev pub replaces : Choice → Choice → Bool → Bool
 replaces c first first_keeps = if first_keeps then nat_lt c.share first.share else nat_le c.share (2 * first.share)
 
+-- a choice that declares access units. The slots of a plan come more evenly than a share is reckoned with, and most plans serve such a stream with
+-- a 16th less: the search for a rate begins there
+abbrev pub spared : Choice → Choice
+spared c = record { allowance = c.allowance; lead = c.lead; share = c.share - c.share / 16 }
+
+abbrev pub framed_with : FrameCounts → Option MultiplexingBuffer → Choice → StreamChoice
+framed_with f buffer c = record { choice = spared c; multiplexing = buffer; framing = Some f }
+
 -- the first choice, with the access units if it keeps them
 abbrev pub first_framed : FrameCounts → StreamChoice → Bool → StreamChoice
-first_framed f first first_keeps =
-    if first_keeps then record { choice = first.choice; multiplexing = first.multiplexing; framing = Some f } else first
+first_framed f first first_keeps = if first_keeps then framed_with f first.multiplexing first.choice else first
 
 unfoldable pub framed_or : FrameCounts → StreamChoice → Bool → Option Choice → StreamChoice
 framed_or f first first_keeps None = first_framed f first first_keeps
 framed_or f first first_keeps (Some c) =
-    if replaces c first.choice first_keeps then record { choice = c; multiplexing = None; framing = Some f } else first_framed f first first_keeps
+    if replaces c first.choice first_keeps then framed_with f None c else first_framed f first first_keeps
 
 -- a stream's choice by its first choice: no stream is refused for its access units
 unfoldable pub with_frames : DeclareBy → ℕ → ℕ → UnitCountsView × StreamChoice → StreamChoice

@@ -8,6 +8,7 @@ use crate::declarations::{StreamChoice, UnitCounts};
 use given_values::DeclareBy;
 use std::alloc::{AllocError, Global};
 use stream_choice::{Choice, FrameCounts, choose_framed, is_framing, keeps_framing};
+use unit_timing::multiplexing_buffer::MultiplexingBuffer;
 
 // Returns what a stream of these units declares by groups with one main buffer that keeps these access units.
 #[tactic(auto, unfolding(crate::specs::Declarations::framed_by_groups))]
@@ -69,16 +70,31 @@ fn replaces(choice: Choice, first: Choice, first_keeps: bool) -> bool
     }
 }
 
+// Returns a choice that declares these access units. The search for a rate begins with a 16th less than its share.
+fn framed_with(
+    framing: FrameCounts,
+    multiplexing: Option<MultiplexingBuffer>,
+    choice: Choice,
+) -> StreamChoice
+    ensures { result ≡ spec.framed_with framing multiplexing choice }
+{
+    StreamChoice {
+        choice: Choice {
+            allowance: choice.allowance,
+            lead: choice.lead,
+            share: choice.share - choice.share / 16,
+        },
+        multiplexing,
+        framing: Some(framing),
+    }
+}
+
 // Returns the first choice, with the access units if it keeps them.
 fn first_framed(framing: FrameCounts, first: StreamChoice, first_keeps: bool) -> StreamChoice
     ensures { result ≡ spec.first_framed framing first first_keeps }
 {
     if first_keeps {
-        StreamChoice {
-            choice: first.choice,
-            multiplexing: first.multiplexing,
-            framing: Some(framing),
-        }
+        framed_with(framing, first.multiplexing, first.choice)
     } else {
         first
     }
@@ -98,11 +114,7 @@ fn framed_or(
         None => first_framed(framing, first, first_keeps),
         Some(choice) => {
             if replaces(choice, first.choice, first_keeps) {
-                StreamChoice {
-                    choice,
-                    multiplexing: None,
-                    framing: Some(framing),
-                }
+                framed_with(framing, None, choice)
             } else {
                 first_framed(framing, first, first_keeps)
             }

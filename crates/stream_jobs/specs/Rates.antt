@@ -63,7 +63,7 @@ pub record HasNoFirstRate (options : JobOptionsView) (input : JobInputView) : Ty
 -- 3. The rates from there on, by small steps at first
 
 unfoldable pub next_rate : ℕ → ℕ → ℕ
-next_rate tried rate = rate + (if nat_lt tried 32 then rate / 256 else rate / 16)
+next_rate tried rate = rate + (if nat_lt tried 48 then rate / 256 else rate / 16)
 
 -- this number of rates at most, and none over the greatest
 unfoldable pub rates_from : ℕ → ℕ → ℕ → List ℕ

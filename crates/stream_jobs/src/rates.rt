@@ -22,7 +22,7 @@ use stream_choice::{Recurring, least_rate};
 /// The number of rates to try, and how many of them follow by small steps.
 const TRIES: u32 = 96;
 
-const SMALL_STEPS: u32 = 32;
+const SMALL_STEPS: u32 = 48;
 
 /// A description with a plan that serves it, its rate and its text.
 #[derive(Drop)]
