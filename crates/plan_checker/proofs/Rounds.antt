@@ -116,17 +116,23 @@ few_of_kind : (d : Described) → IsInRange d → (kind : TableKind) → sum_by 
 few_of_kind d r Pat =
     omega (arith, at_most_one d.network, r.most_programs, room_most most_bytes d.rooms.pat (pat_length d) 1024 (small_association d r) (omega arith))
 few_of_kind d r (Pmt p) =
-    omega (arith, few_of_option (map_length d) (slice_get d.programs p) (λ x e. small_room x.pmt_packets (pmt_length d x)
-    (found_at (λ q. pmt_length d q ≤ 1024) d.programs p x e r.pmt_lengths)))
+    omega (
+      arith,
+      few_of_option (map_length d) (slice_get d.programs p) (λ x e. small_room x.pmt_packets (pmt_length d x)
+          (found_at (λ q. pmt_length d q ≤ 1024) d.programs p x e r.pmt_lengths)),
+    )
 few_of_kind d r Nit =
-    omega (arith, few_of_option (network_length d) d.network (λ x e. small_room d.rooms.nit (nit_length x)
-    (All-head (λ n. nit_length n ≤ 1024) x [] (rw e at r.nit_length))))
+    omega (
+      arith,
+      few_of_option (network_length d) d.network (λ x e. small_room d.rooms.nit (nit_length x)
+          (All-head (λ n. nit_length n ≤ 1024) x [] (rw e at r.nit_length))),
+    )
 few_of_kind d r Sdt = omega (arith, few_parts d r)
 few_of_kind d r Eit =
     omega (
       arith,
       few_events d.is_transponder (eit_room d) (scheduled_programs d) (room_if d.has_eit d.rooms.eit r.rooms.most_eit)
-      (All-filter (is_scheduled d.has_eit) IsProgram d.programs r.programs),
+          (All-filter (is_scheduled d.has_eit) IsProgram d.programs r.programs),
       length-filter (is_scheduled d.has_eit) d.programs,
       count_by-le-length (is_scheduled d.has_eit) d.programs,
       r.most_programs,
