@@ -1,5 +1,5 @@
 -- The rates at which a plan is looked for.
-use Rattle.std.specs.Prelude.{◌≡◌, ◌⊎◌, ℕ, zero, suc, ◌+◌, ◌/◌, ◌-◌, ◌^◌, min, nat_le, nat_lt, false, if◌then◌else◌, List, [], ◌∷◌, ◌++◌, map, Option, Some}
+use Rattle.std.specs.Prelude.{◌≡◌, ◌⊎◌, ℕ, zero, suc, ◌+◌, ◌/◌, ◌%◌, ◌-◌, ◌^◌, min, nat_le, nat_lt, false, if◌then◌else◌, List, [], ◌∷◌, ◌++◌, map, Option, Some}
 use Rattle.std.specs.Prelude.{None, Ok, All, filter, find, not, option_to_list}
 use Rattle.std.specs.List.{range_with_len}
 use Rattle.description_parts.specs.Described.{Described, DescribedProgram}
@@ -60,10 +60,18 @@ pub record HasNoFirstRate (options : JobOptionsView) (input : JobInputView) : Ty
   pub read : IsText description (description_text options input greatest_rate)
   pub too_much : IsTooMuch (shares input) (recurring_of description)
 
--- 3. The rates from there on, by small steps at first
+-- 3. The rates from there on, by small steps at first. Multiples of 25 slots a second are not passed by steps that are less: clock references 40 ms
+-- apart are then whole slots apart, and streams between them find slots as even as can be
+
+unfoldable pub step_after : ℕ → ℕ → ℕ
+step_after tried rate = if nat_lt tried 48 then rate / 256 else rate / 16
+
+abbrev pub even_rate : ℕ
+even_rate = 37_600
 
 unfoldable pub next_rate : ℕ → ℕ → ℕ
-next_rate tried rate = rate + (if nat_lt tried 48 then rate / 256 else rate / 16)
+next_rate tried rate =
+    rate + (if nat_lt (step_after tried rate) even_rate then min (step_after tried rate) (even_rate - rate % even_rate) else step_after tried rate)
 
 -- this number of rates at most, and none over the greatest
 unfoldable pub rates_from : ℕ → ℕ → ℕ → List ℕ

@@ -24,6 +24,9 @@ const TRIES: u32 = 96;
 
 const SMALL_STEPS: u32 = 48;
 
+/// The rate of 25 slots a second: with a multiple of it clock references 40 ms apart are whole slots apart.
+const EVEN_RATE: u64 = 37_600;
+
 /// A description with a plan that serves it, its rate and its text.
 #[derive(Drop)]
 pub(crate) struct PlannedDescription {
@@ -157,16 +160,31 @@ fn plan_at(
     }
 }
 
-// Returns the next rate to try: by small steps at first.
+// Returns the step from a rate to the next: a small step at first.
+#[tactic(auto, unfolding(crate::specs::Rates::step_after))]
+fn step_after(tried: u32, rate: u64) -> u64
+    requires { rate ≤ 100000000 }
+    ensures value { result ≡ spec.step_after tried rate }
+    ensures most { result ≤ 100000000 }
+{
+    if tried < SMALL_STEPS {
+        rate / 256
+    } else {
+        rate / 16
+    }
+}
+
+// Returns the next rate to try. A step that is less than 25 slots a second ends at a multiple of these.
 #[tactic(auto, unfolding(crate::specs::Rates::next_rate))]
 fn next_rate(tried: u32, rate: u64) -> u64
     requires { rate ≤ 100000000 }
     ensures { result ≡ spec.next_rate tried rate }
 {
-    if tried < SMALL_STEPS {
-        rate + rate / 256
+    let step = step_after(tried, rate);
+    if step < EVEN_RATE {
+        rate + step.min(EVEN_RATE - rate % EVEN_RATE)
     } else {
-        rate + rate / 16
+        rate + step
     }
 }
 
