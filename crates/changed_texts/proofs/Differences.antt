@@ -1,5 +1,5 @@
 -- Lists without a difference
-use Rattle.std.proofs.Common.{◌≡◌, ℕ, zero, suc, ◌+◌, ◌<◌, ◌≤◌, ◌==◌, ◌&&◌, max, not, Bool, true, false, cond, List, [], ◌∷◌, length, map, Option, None, Some, refl}
+use Rattle.std.proofs.Common.{◌≡◌, ℕ, zero, suc, ◌+◌, ◌<◌, ◌≤◌, max, not, Bool, true, false, cond, List, [], ◌∷◌, length, map, Option, None, Some, refl}
 use Rattle.std.proofs.Common.{find, slice_get, ap₂, subst, arith}
 use Rattle.std.specs.List.{range_with_len}
 use Rattle.changed_texts.specs.Fixed.{is_same_option, first_difference}

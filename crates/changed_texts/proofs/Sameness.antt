@@ -1,5 +1,5 @@
 -- What the comparison of two programs, streams or private tables says of their parts
-use Rattle.std.proofs.Common.{◌≡◌, ℕ, ◌==◌, ◌&&◌, Bool, true, false, List, Option, None, Some, refl, ap, ap₂, sym, ◌∙◌, bytes_eq}
+use Rattle.std.proofs.Common.{◌≡◌, ℕ, Bool, true, false, Option, None, Some, refl, ap, ap₂}
 use Rattle.std.proofs.lemmas.Bool.{and_parts, eqb-true}
 use Rattle.std.proofs.lemmas.Slice.Eq.{bytes_eq-Decides}
 use Rattle.std.specs.Bool.{beq}
@@ -9,8 +9,8 @@ use Rattle.unit_timing.specs.declared.framing.FrameDeclaration.{FrameDeclaration
 use Rattle.unit_timing.specs.declared.framing.LastBytes.{LastBytes}
 use Rattle.unit_timing.specs.declared.framing.LastBytes.TheVariants.{Each, Sums}
 use Rattle.unit_timing.specs.declared.multiplexing_buffer.MultiplexingBuffer.{MultiplexingBuffer}
-use Rattle.description_parts.specs.Described.{Described, DescribedProgram, DescribedStream, DescribedTable}
-use Rattle.changed_texts.specs.Fixed.{FixedProgram, FixedStream, fixed_program, fixed_stream, fixed_table, is_same_option, is_same_program}
+use Rattle.description_parts.specs.Described.{DescribedProgram, DescribedStream, DescribedTable}
+use Rattle.changed_texts.specs.Fixed.{fixed_program, fixed_stream, fixed_table, is_same_option, is_same_program}
 use Rattle.changed_texts.specs.Fixed.{is_same_allowance, is_same_buffer, is_same_left, is_same_framing, is_same_pace, is_same_size, is_same_stream}
 use Rattle.changed_texts.specs.Fixed.{is_same_table}
 

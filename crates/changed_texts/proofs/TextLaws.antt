@@ -1,21 +1,19 @@
 -- A description without a fault has only other texts than the frame.
-use Rattle.std.proofs.Common.{◌≡◌, ℕ, zero, suc, ◌+◌, ◌<◌, ◌≤◌, ◌==◌, ◌&&◌, ◌||◌, not, nat_le, Bool, true, false, List, [], ◌∷◌, ◌++◌, length, map, Option, None, Some}
-use Rattle.std.proofs.Common.{is_some, is_none, option_map, slice_get, slice_index_or, find, refl, ap, ap₂, sym, subst, ◌∙◌, arith, if◌then◌else◌, inl, inr, ⊎_elim}
+use Rattle.std.proofs.Common.{◌≡◌, ℕ, zero, suc, ◌+◌, ◌≤◌, ◌==◌, ◌&&◌, not, nat_le, Bool, true, false, List, [], ◌∷◌, ◌++◌, length, map, Option, None, Some}
+use Rattle.std.proofs.Common.{is_some, is_none, option_map, slice_get, slice_index_or, refl, ap, ap₂, sym, subst, ◌∙◌, arith, if◌then◌else◌, ⊎_elim}
 use Rattle.std.proofs.lemmas.Bool.{and_parts, eqb-true, leb-true, cases_lt}
 use Rattle.std.proofs.lemmas.Option.{slice_get_past}
-use Rattle.std.specs.Bool.{beq}
 use Rattle.std.specs.List.{list_all, zip}
 use Rattle.std.specs.Option.{option_or}
 use Rattle.description_parts.specs.Described.{Described, DescribedNetwork}
-use Rattle.description_parts.specs.Tables.{numbers_from, only_if, has_events_table, service_tables, table_kinds, table_kind, table_count, table_pid}
-use Rattle.description_parts.specs.Tables.{table_limit, kind_pid, kind_limit, kind_lengths, section_lengths, section_count, section_packets}
+use Rattle.description_parts.specs.Tables.{numbers_from, only_if, has_events_table, service_tables, table_kinds, table_kind, table_count}
+use Rattle.description_parts.specs.Tables.{kind_pid, kind_limit, kind_lengths, section_lengths}
 use Rattle.description_parts.specs.Tables.{packets_of_section}
 use Rattle.description_parts.specs.declared.table_kind.TableKind.{TableKind}
 use Rattle.description_parts.specs.declared.table_kind.TableKind.TheVariants.{Pat, Pmt, Nit, Sdt, Eit, Tdt, Private}
 use Rattle.changed_texts.specs.Fixed.{fixed_program, fixed_stream, fixed_table, is_same_option, is_same_program, is_same_stream, is_same_table}
-use Rattle.changed_texts.specs.Fixed.{first_difference}
-use Rattle.changed_texts.specs.TextFaults.{IsTextOf, TextLaw, text_fault, frame_fault, whole_fault, program_fault, stream_fault, tables_fault}
-use Rattle.changed_texts.specs.TextFaults.{shape_fault, version_fault, keeps_shape, has_place, has_same_tables, has_same_services, network_number}
+use Rattle.changed_texts.specs.TextFaults.{IsTextOf, TextLaw, frame_fault, whole_fault, program_fault, stream_fault, tables_fault}
+use Rattle.changed_texts.specs.TextFaults.{shape_fault, version_fault, keeps_shape, has_place, has_same_tables, has_same_services}
 use Rattle.changed_texts.specs.declared.fault.TextFault.TheVariants as fault
 use Rattle.changed_texts.proofs.Differences.{no_difference, none_passes}
 use Rattle.changed_texts.proofs.Sameness.{program_alike, stream_alike, table_alike, same_bool, same_option}

@@ -1,5 +1,5 @@
 -- The version that each sub-table of the next texts shows
-use Rattle.std.proofs.Common.{◌≡◌, ◌≢◌, ℕ, zero, suc, ◌+◌, ◌-◌, ◌%◌, ◌<◌, ◌≤◌, ◌==◌, ◌&&◌, ◌||◌, not, Bool, true, false, List, [], ◌∷◌, length, map, Option, Some, None}
+use Rattle.std.proofs.Common.{◌≡◌, ℕ, zero, suc, ◌+◌, ◌-◌, ◌%◌, ◌<◌, ◌≤◌, ◌==◌, ◌&&◌, ◌||◌, not, Bool, true, false, List, [], ◌∷◌, length, map, Some, None}
 use Rattle.std.proofs.Common.{slice_get, slice_index_or, bytes_eq, IsTrue, refl, ap, ap₂, sym, subst, ◌∙◌, arith, All, if◌then◌else◌}
 use Rattle.std.proofs.lemmas.List.{length-map}
 use Rattle.std.proofs.lemmas.List.Elements.{All-head, All-tail}
@@ -10,16 +10,16 @@ use Rattle.description_parts.specs.declared.table_kind.TableKind.{TableKind}
 use Rattle.description_parts.specs.declared.table_kind.TableKind.TheVariants as kind
 use Rattle.description.proofs.SameTables.{lengths_bare}
 use Rattle.description.specs.SectionBytes.{eit_version, counted_events}
-use Rattle.description.specs.SubTables.{sub_table_number, numbered_sub_table, sub_table_of, program_number_by, count_of, version_of, shows_same, unnumbered}
+use Rattle.description.specs.SubTables.{sub_table_number, numbered_sub_table, program_number_by, count_of, version_of, shows_same, unnumbered}
 use Rattle.description.specs.SubTables.{sections_in, same_below}
 use Rattle.description.specs.Versions.{without_number, without_versions, SameTablesLaw, HasSameTables, CountedLaw, CountLaw, VersionedLaw}
 use Rattle.description.specs.declared.sub_table.SubTable.{SubTable}
 use Rattle.description.specs.declared.sub_table.SubTable.TheVariants.{Pat, Nit, Sdt, Map, Events}
 use Rattle.changed_texts.specs.Fixed.{fixed_program, fixed_stream, fixed_table}
 use Rattle.changed_texts.specs.TextFaults.{IsTextOf}
-use Rattle.changed_texts.specs.Versions.{with_counts, kept_count, keeps_version, next_count, next_version, next_texts, NextVersionLaw, RisesLaw, StaysLaw}
+use Rattle.changed_texts.specs.Versions.{kept_count, keeps_version, next_count, next_texts, NextVersionLaw, RisesLaw, StaysLaw}
 use Rattle.changed_texts.specs.Versions.{SameTextsLaw, NextRangeLaw, NextTextLaw}
-use Rattle.changed_texts.proofs.Counts.{HasPlace, has_place, numbered_number, same_counts, range_counts, count_set}
+use Rattle.changed_texts.proofs.Counts.{has_place, numbered_number, same_counts, range_counts, count_set}
 
 -- Versions are below 32.
 map_below : (ps : List DescribedProgram) (i : ℕ) → All IsProgram ps → program_number_by (λ q. q.pmt_version) (slice_get ps i) < 32

@@ -8,7 +8,7 @@ use Rattle.unit_timing.specs.declared.framing.FrameDeclaration.{FrameDeclaration
 use Rattle.unit_timing.specs.declared.framing.LastBytes.{LastBytes}
 use Rattle.unit_timing.specs.declared.framing.LastBytes.TheVariants.{Each, Sums}
 use Rattle.unit_timing.specs.declared.multiplexing_buffer.MultiplexingBuffer.{MultiplexingBuffer}
-use Rattle.description_parts.specs.Described.{Described, DescribedProgram, DescribedStream, DescribedTable}
+use Rattle.description_parts.specs.Described.{DescribedProgram, DescribedStream, DescribedTable}
 
 -- a program without its texts
 pub record FixedProgram : Type 0 where

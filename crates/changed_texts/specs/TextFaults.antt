@@ -1,12 +1,11 @@
 -- Whether the texts of a description may take the place of others on air: all that is not a text is alike, each section has its place, and no private
 -- section changes under its version.
-use Rattle.std.specs.Prelude.{◌≡◌, ℕ, ◌%◌, ◌==◌, ◌&&◌, ◌||◌, ◌≤◌, nat_le, not, Bool, List, [], Option, None, Some, is_some, is_none, length, map, find}
+use Rattle.std.specs.Prelude.{◌≡◌, ℕ, ◌%◌, ◌==◌, ◌&&◌, ◌≤◌, nat_le, not, Bool, List, [], Option, None, Some, is_none, length, map, find}
 use Rattle.std.specs.Prelude.{option_map, slice_get, slice_index, bytes_eq, if◌then◌else◌}
 use Rattle.std.specs.Bool.{beq}
 use Rattle.std.specs.List.{list_any, list_all, zip, range_with_len}
 use Rattle.std.specs.Option.{option_or}
 use Rattle.description_parts.specs.Described.{Described}
-use Rattle.description_parts.specs.Ranges.{IsInRange}
 use Rattle.description_parts.specs.Tables.{has_events_table, table_kinds, table_kind, table_count, table_pid, table_limit, section_count, section_packets}
 use Rattle.description_parts.specs.Tables.{section_lengths, packets_of_section}
 use Rattle.description_parts.specs.declared.table_kind.TableKind.{TableKind}
