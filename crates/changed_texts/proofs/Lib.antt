@@ -4,3 +4,4 @@ pub mod TextLaws
 pub mod Counts
 pub mod VersionLaws
 pub mod NextTexts
+pub mod TextBytes

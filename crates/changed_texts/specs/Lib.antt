@@ -1,3 +1,4 @@
 pub mod Fixed
 pub mod TextFaults
 pub mod Versions
+pub mod Reading

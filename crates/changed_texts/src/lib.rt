@@ -3,12 +3,14 @@
 //! - [`text_fault`]: whether a description has only other texts than the one that a multiplexer runs by, or why it
 //!   has more.
 //! - [`next_texts`]: the texts with the version of each sub-table, which rises if what the sub-table says changes and a
-//!   receiver may have its version.
+//!   receiver may have its version; [`changed`] says which sub-tables these are.
+//! - [`read_description`]: the description in the bytes of a record.
 #![tactic(auto)]
 
 mod fault;
 mod fixed;
 mod private_versions;
+mod reading;
 mod shapes;
 mod versions;
 
@@ -16,4 +18,5 @@ mod versions;
 pub mod laws;
 
 pub use fault::{TextFault, text_fault};
-pub use versions::next_texts;
+pub use reading::read_description;
+pub use versions::{changed, next_texts};

@@ -66,9 +66,9 @@ fn is_changed(now: &Description, texts: &Description, number: usize, moment: u64
     !now.shows_same(texts, SubTable::numbered(number), moment)
 }
 
-// Returns which sub-tables change, by number.
+/// Returns which sub-tables change, by number.
 #[tactic(auto, using(crate::proofs::NextTexts::has_room, crate::proofs::NextTexts::one_more, crate::proofs::NextTexts::each_one, crate::proofs::NextTexts::as_many))]
-fn changed(now: &Description, texts: &Description, moment: u64) -> [bool; 131]
+pub fn changed(now: &Description, texts: &Description, moment: u64) -> [bool; 131]
     ensures { (n : ℕ) → n < sub_table_count → slice_index_or result n false ≡ spec.changed now.now texts.now moment n }
 {
     let mut changed = ArrayVec::<bool, 131>::new();
@@ -92,20 +92,17 @@ fn set_counts(texts: &mut Description, counts: &[u8])
     }
 }
 
-/// Returns the texts with the version of each sub-table, and which sub-tables change, by number. `sent` says which
-/// sub-tables have had a section on air since they changed last.
+/// Returns the texts with the version of each sub-table. `sent` says which sub-tables have had a section on air since
+/// they changed last.
 pub fn next_texts(
     now: &Description,
     mut texts: Description,
     moment: u64,
     sent: &[bool; 131],
-) -> (Description, [bool; 131])
-    ensures texts { result.0 ≡ spec.next_texts now.now texts moment (λ n. slice_index_or sent.now n false) }
-    ensures changed { (n : ℕ) → n < sub_table_count →
-        slice_index_or result.1 n false ≡ spec.changed now.now texts moment n }
+) -> Description
+    ensures { result ≡ spec.next_texts now.now texts moment (λ n. slice_index_or sent.now n false) }
 {
-    let changed = changed(now, &texts, moment);
     let counts = next_counts(now, &texts, moment, sent);
     set_counts(&mut texts, counts.as_slice());
-    (texts, changed)
+    texts
 }
