@@ -41,25 +41,25 @@ use Rattle.es_view.specs.Entries as entry_views
 use Rattle.ts_watch.specs.Choices.{ChoiceView, takes}
 use Rattle.ts_watch.specs.ClockEvents.{clock_event, clock_events, inaccuracy_events, variable_events}
 use Rattle.ts_report.specs.AbsentTables.{absent_events, absent_tables, absent_unless, association_events, has_own_map, map_events, maps_events}
-use Rattle.ts_report.specs.ReferenceEvents.{events_by, missing_events, reference_events, unreferenced_event, unreferenced_events}
+use Rattle.ts_report.specs.ReferenceEvents.{events_by, expected_pids, missing_events, reference_events, unreferenced_event, unreferenced_events}
 use Rattle.ts_watch.specs.RuleEvents.{RuleState, cat_events, ends_varying}
 use Rattle.ts_watch.specs.RuleEvents as rule_views
-use Rattle.ts_report.specs.StoppedClocks.{beyond_events, clock_event as stopped_clock, clocks_by, clocks_events, clocks_in, longest_without, stopped_clocks, stops}
+use Rattle.ts_report.specs.StoppedClocks.{beyond_events, clock_event as stopped_clock, clocks_by, clocks_events, expected_clocks, longest_without, stopped_clocks, stops}
 use Rattle.ts_report.specs.StoppedClocks.{clock_events as stopped_clock_events, time_without}
 use Rattle.ts_report.specs.StoppedEvents.{errors_events, stopped_by, stopped_errors, stopped_events}
-use Rattle.ts_report.specs.StoppedPids.{longest_seconds, stopped_pids_by, stopped_pids}
-use Rattle.pid_times.specs.Gaps.{GapState, stopped}
+use Rattle.ts_report.specs.StoppedPids.{stopped_pids_by, stopped_pids, stops_at}
+use Rattle.pid_times.specs.Gaps.{GapState}
 use Rattle.pid_times.specs.GapEvents.{watched_event}
 use Rattle.pid_times.specs.Watched.{is_watched}
 use Rattle.ts_watch.specs.SystemEvents.{event_if, system_event, system_events, under_way}
 use Rattle.ts_watch.specs.SystemEvents as systems
-use Rattle.stream_programs.specs.FreePids.{is_taken}
 use Rattle.ts_tables.specs.NamedStreams.{NamedView}
 use Rattle.ts_watch.specs.TableEvents.{TablesState, error_event, error_events, has_table, table_event, table_events}
+use Rattle.ts_watch.specs.TableNames.{NamesState, has_name}
 use Rattle.ts_watch.specs.WindowEvents.{pid_event, pid_events}
 use Rattle.tr101290.specs.Packets.{missing_pids, unreferenced_pids}
 use Rattle.tr101290.specs.References.{referenced_pids}
-use Rattle.ts_report.specs.Seen.{SeenState, arrival_events, end_event, is_stream, last_rules, pid_ends, rule_ends, unclocked, unclocked_event, window_ends}
+use Rattle.ts_report.specs.Seen.{SeenState, arrival_events, end_event, is_stream, last_rules, lasts, pid_ends, rule_ends, unclocked, unclocked_event, window_ends}
 use Rattle.ts_report.specs.StreamTables.{TableState, table_end}
 use Rattle.ts_report.specs.Views.{ViewState, end_events}
 use Rattle.monitor.specs.declared.fault.StreamFault.{StreamFault}
@@ -136,17 +136,18 @@ programs_end : (options : ViewOptions) (choice : ChoiceView) (packets : ℕ) (pr
     Quiet (system_events options choice packets programs)
 programs_end options choice packets programs = all_of (systems.events_of options choice packets) programs (one_program options choice packets)
 
-unnamed_end : (later : List ℕ) (pid : ℕ) → Quiet (unreferenced_event later pid)
+unnamed_end : (names : NamesState) (pid : ℕ) → Quiet (unreferenced_event names pid)
 unfolding fault_in
-unnamed_end later pid = one_unless (is_taken pid later) (found.Unreferenced pid) refl
+unnamed_end names pid = one_unless (has_name names pid) (found.Unreferenced pid) refl
 
-named_end : (entries : List (ℕ × PidCounts)) (later : List ℕ) (o : Option (List ℕ)) → Quiet (events_by entries later o)
+named_end : (entries : List (ℕ × PidCounts)) (long : Bool) (names : NamesState) (o : Option (List ℕ)) → Quiet (events_by entries long names o)
 unfolding events_by fault_in
-named_end entries later None = refl
-named_end entries later (Some referenced) =
-    join (unreferenced_events later (unreferenced_pids referenced entries)) (missing_events (missing_pids entries [] referenced))
-    (all_of (unreferenced_event later) (unreferenced_pids referenced entries) (unnamed_end later))
-    (each (λ pid. found.Missing pid) (missing_pids entries [] referenced) (λ x. refl))
+named_end entries long names None = refl
+named_end entries long names (Some referenced) =
+    let missing = expected_pids long names (missing_pids entries [] referenced) in
+    join (unreferenced_events names (unreferenced_pids referenced entries)) (missing_events missing)
+    (all_of (unreferenced_event names) (unreferenced_pids referenced entries) (unnamed_end names))
+    (each (λ pid. found.Missing pid) missing (λ x. refl))
 
 access_table : (o : Option ScrambledPacket) (has_cat : Bool) → Quiet (cat_events o has_cat)
 unfolding cat_events fault_in
@@ -182,17 +183,17 @@ pid_stopped : (named : NamedView) (gap : ClockFault) → Quiet (watched_event na
 unfolding fault_in
 pid_stopped named gap = one_if (is_watched named gap.pid) (found.ClockFault kinds.PidRepetition gap) refl
 
-pids_stopped : (options : ViewOptions) (named : NamedView) (gaps : GapState) (packets : ℕ) (place : Option ℕ) →
-    Quiet (stopped_pids_by options named gaps packets place)
+pids_stopped : (options : ViewOptions) (named : NamedView) (names : NamesState) (gaps : GapState) (packets : ℕ) (place : Option ℕ) →
+    Quiet (stopped_pids_by options named names gaps packets place)
 unfolding stopped_pids_by
-pids_stopped options named gaps packets None = refl
-pids_stopped options named gaps packets (Some place) =
-    all_of (watched_event named) (stopped gaps (longest_seconds options.arrival) packets place) (pid_stopped named)
+pids_stopped options named names gaps packets None = refl
+pids_stopped options named names gaps packets (Some place) =
+    all_of (watched_event named) (stops_at options names gaps packets place) (pid_stopped named)
 
 last_end : (s : SeenState) → Quiet (last_rules s)
 last_end s =
-    join (stopped_pids s.options s.named s.rules.gaps s.packets) (rule_views.end_events s.rules s.packets (has_table s.tables 0x01 0x01))
-    (pids_stopped s.options s.named s.rules.gaps s.packets (rule_views.place_at s.options.arrival s.packets))
+    join (stopped_pids s.options s.named s.tables.named s.rules.gaps s.packets) (rule_views.end_events s.rules s.packets (has_table s.tables 0x01 0x01))
+    (pids_stopped s.options s.named s.tables.named s.rules.gaps s.packets (rule_views.place_at s.options.arrival s.packets))
     (rules_end s.rules s.packets (has_table s.tables 0x01 0x01))
 
 -- The faults of tables and clock references that have stopped.
@@ -223,8 +224,8 @@ pids_end s =
     quiet_before (clock_events s.watches) _ (clocks_quiet s)
     ∙ quiet_before (table_events s.tables) _ (tables_quiet s.tables)
     ∙ quiet_before (pid_events s.totals) _ (totals_quiet s)
-    ∙ quiet_before (reference_events s.named s.tables s.totals) (rule_ends s)
-    (named_end s.totals.counts s.tables.named (referenced_pids s.named))
+    ∙ quiet_before (reference_events (lasts s) s.named s.tables s.totals) (rule_ends s)
+    (named_end s.totals.counts (lasts s) s.tables.named (referenced_pids s.named))
     ∙ rules_of s
 
 end_quiet : (s : SeenState) (left : ℕ) → Quiet (end_event s left ∷ [])
@@ -287,9 +288,9 @@ placed_none p options timing clocks packets pids (Some place) h = clocks_none p 
 stops_none : (p : StreamFault → Bool) (s : SeenState) → OfNoStop p → part p (stops s.options s.named s.tables s.clocks s.packets) ≡ []
 stops_none p s h =
     both_none p (stopped_events s.options s.tables s.packets)
-    (stopped_clocks s.options s.named s.tables.times.intervals.timing s.clocks s.packets)
+    (stopped_clocks s.options s.named s.tables s.clocks s.packets)
     (stopped_none p s.options s.tables s.packets (rule_views.place_at s.options.arrival s.packets) h)
-    (placed_none p s.options s.tables.times.intervals.timing s.clocks s.packets (clocks_in s.named.streams)
+    (placed_none p s.options s.tables.times.intervals.timing s.clocks s.packets (expected_clocks s.tables.named s.named.streams)
     (rule_views.place_at s.options.arrival s.packets) h)
 
 -- It selects no fault at the end.

@@ -107,17 +107,17 @@ use Rattle.pid_times.specs.ClockDrifts.{ahead_of, behind_of, drift_after, drift_
 use Rattle.ts_watch.specs.ClockEvents.{error_events as clock_events_error_events, errors_in, report_events_if}
 use Rattle.pid_times.specs.ClockWindows.{counts_in as clock_windows_counts_in, counts_or_none, drift_or_none, taken as clock_windows_taken}
 use Rattle.ts_watch.specs.PidLabels.{by_program, in_programs, in_tables, label_by, of_clock, of_map}
-use Rattle.ts_report.specs.ReferenceEvents.{events_by}
+use Rattle.ts_report.specs.ReferenceEvents.{events_by, is_long}
 use Rattle.ts_watch.specs.RuleEvents.{accuracy_count, accuracy_events, cat_events, first_scrambled, is_map, judge_after, place_at as rule_events_place_at}
 use Rattle.ts_watch.specs.RuleEvents.{gap_events, gaps_by, pts_events, stamp_events, stamps_by}
 use Rattle.ts_report.specs.StoppedPids.{longest_seconds, stopped_pids_by}
 use Rattle.pid_times.specs.GapEvents.{gap_event_if}
 use Rattle.pid_times.specs.Gaps.{gap_after, places_in}
 use Rattle.pid_times.specs.Watched.{has_type, is_steady, is_typed, is_watched_by}
-use Rattle.ts_watch.specs.SectionPids.{access_pid, association_pids, descriptor_pid, map_pids as section_pids_map_pids, may_name, pids_by, with_each}
-use Rattle.ts_watch.specs.SectionPids.{with_found, with_pids}
+use Rattle.ts_watch.specs.SectionPids.{access_pid, association_pids, descriptor_pid, map_pids as section_pids_map_pids, may_name}
+use Rattle.ts_watch.specs.TableNames.{all_marked, is_version, oldest_of, with_association, with_each, with_found, with_map as with_named_map, with_read}
 use Rattle.ts_report.specs.StoppedClocks.{clocks_by, clocks_in, last_place, longest_without, reference_place, with_clocks}
-use Rattle.ts_report.specs.StoppedEvents.{stopped_by}
+use Rattle.ts_report.specs.StoppedEvents.{is_expected_part, stopped_by}
 use Rattle.ts_watch.specs.SystemEvents.{kind_of, size_of}
 use Rattle.ts_watch.specs.TableEvents.{begin_events, distance_events, distances_after, error_events as table_events_error_events, findings_events, is_wrong}
 use Rattle.ts_watch.specs.TableEvents.{is_wrong_offset, more_errors, other_events, placed, placed_if, placed_whole, soon_events, with_begin, with_findings}
@@ -174,7 +174,8 @@ unfolding has_times lead_of step_of times_at line_in clock_moment_by step_after 
     counts_or_none drift_or_none clock_windows_taken by_program in_programs in_tables label_by of_clock of_map events_by accuracy_count accuracy_events
     cat_events first_scrambled gap_after gap_event_if gap_events gaps_by has_type is_map is_steady is_typed is_watched_by judge_after longest_seconds
     stopped_pids_by places_in rule_events_place_at pts_events stamp_events stamps_by access_pid association_pids descriptor_pid
-    section_pids_map_pids may_name pids_by with_each with_found with_pids stopped_by clocks_by clocks_in last_place longest_without reference_place with_clocks kind_of size_of begin_events distance_events distances_after
+    section_pids_map_pids may_name all_marked is_version oldest_of with_association with_each with_found with_named_map with_read is_long
+    is_expected_part stopped_by clocks_by clocks_in last_place longest_without reference_place with_clocks kind_of size_of begin_events distance_events distances_after
     table_events_error_events findings_events is_wrong is_wrong_offset more_errors other_events placed placed_if placed_whole soon_events with_begin
     with_findings service_of window_by busy_of busy_with leak_busy entering_after after_begin after_first after_part after_payload entered entered_first
     entered_part payload_main payload_main_least payload_main_most payload_transport payload_transport_most unit_ended payload_video video_of video_unit_ended

@@ -1,5 +1,5 @@
 -- The state of a stream without its buffers.
-use Rattle.std.specs.Prelude.{ℕ, ◌+◌, ◌-◌, ◌/◌, ◌^◌, ◌==◌, ◌&&◌, not, min, nat_le, nat_lt, Bool, false, if◌then◌else◌, is_some, List, [], ◌∷◌, ◌++◌, Option, None, Some, Result, Ok, Err}
+use Rattle.std.specs.Prelude.{ℕ, ◌+◌, ◌-◌, ◌/◌, ◌^◌, ◌==◌, ◌&&◌, ◌||◌, not, min, nat_le, nat_lt, Bool, false, if◌then◌else◌, is_some, List, [], ◌∷◌, ◌++◌, Option, None, Some, Result, Ok, Err}
 use Rattle.ts_packet.specs.declared.packet.PacketError.{PacketError}
 use Rattle.ts_packet.specs.declared.packet.PacketError.TheVariants as packet_errors
 use Rattle.ts_packet.specs.PidList.{Entry}
@@ -37,8 +37,8 @@ use Rattle.pid_times.specs.ClockWindows.{ClocksState}
 use Rattle.pid_times.specs.ClockWindows as clocks_by_window
 use Rattle.ts_watch.specs.Choices.{ChoiceView}
 use Rattle.ts_report.specs.AbsentTables.{absent_events}
-use Rattle.ts_report.specs.ReferenceEvents.{reference_events}
-use Rattle.ts_watch.specs.RuleEvents.{RuleState, accuracy_count, accuracy_events, judge_after, no_rule, packet_events, with_judge}
+use Rattle.ts_report.specs.ReferenceEvents.{is_long, known_after, reference_events}
+use Rattle.ts_watch.specs.RuleEvents.{RuleState, accuracy_count, accuracy_events, judge_after, no_rule, packet_events, place_at, with_judge}
 use Rattle.ts_watch.specs.RuleEvents as rules
 use Rattle.ts_report.specs.StoppedClocks.{stops}
 use Rattle.ts_report.specs.StoppedPids.{stopped_pids}
@@ -49,8 +49,8 @@ use Rattle.ts_watch.specs.WindowEvents.{pid_events, window_events, window_of}
 
 -- the number of packets, and of packets that are refused or have transport_error_indicator; the window of the last packet that is not; the packets of
 -- each PID; the last clock reference of each, and their counts, by the rate, with the number of their errors, and by window; time stamps, scrambled
--- packets and the judge of the rate; the sections of tables; the buffers of programs' tables; the streams that are named; and the names of their
--- services
+-- packets and the judge of the rate; the sections of tables; the buffers of programs' tables; the streams that are named; the names of their
+-- services; and the place of the packet after the first tables
 pub record SeenState : Type 0 where
   pub options : ViewOptions
   pub packets : ℕ
@@ -67,6 +67,7 @@ pub record SeenState : Type 0 where
   pub systems : Option (List ProgramState)
   pub named : NamedView
   pub services : NamesState
+  pub known : Option ℕ
 
 -- the measure of clock references: the rate, or the references themselves
 unfoldable pub timing_of : Arrival → PcrTiming
@@ -108,6 +109,7 @@ nothing_seen stamps options = record {
   systems = None;
   named = none_taken;
   services = naming_services.none_taken;
+  known = None;
 }
 
 -- the arrival of the next packets: the first known line gives the moment of the stream's first byte
@@ -251,7 +253,11 @@ counter_events s bytes (Ok packet) =
 
 -- tables in 188 bytes count from the next packet on
 abbrev pub with_named : SeenState → List ℕ → SeenState
-with_named s bytes = record s { named = naming.taken s.named bytes; services = naming_services.taken s.services (naming.taken s.named bytes) bytes }
+with_named s bytes = record s {
+  named = naming.taken s.named bytes;
+  services = naming_services.taken s.services (naming.taken s.named bytes) bytes;
+  known = known_after s.known (is_some s.named.streams) (naming.taken s.named bytes) (place_at s.options.arrival s.packets);
+}
 
 -- when a window ends: each PID in it, and its clock references
 abbrev pub window_ends : SeenState → List Event
@@ -263,15 +269,20 @@ is_stream s = not (s.packets == 0) && nat_le s.refused (s.packets / 2)
 
 -- at the end, by the rules of TR 101 290: PIDs that have stopped, the held errors of accuracy, and scrambled packets without a CAT
 abbrev pub last_rules : SeenState → List Event
-last_rules s = stopped_pids s.options s.named s.rules.gaps s.packets ++ rules.end_events s.rules s.packets (has_table s.tables 0x01 0x01)
+last_rules s = stopped_pids s.options s.named s.tables.named s.rules.gaps s.packets ++ rules.end_events s.rules s.packets (has_table s.tables 0x01 0x01)
 
 -- before these tables that were never whole, and tables and clock references that have stopped
 unfoldable pub rule_ends : SeenState → List Event
 rule_ends s = absent_events (is_stream s) s.named s.tables ++ (stops s.options s.named s.tables s.clocks s.packets ++ last_rules s)
 
+-- the stream lasts for 5 s after its first tables
+abbrev pub lasts : SeenState → Bool
+lasts s = is_long s.tables.times.intervals.timing s.known (place_at s.options.arrival s.packets)
+
 -- at the end: clock references by PID, tables, all packets by PID, PIDs that are not named or have no packet, and what rules find
 unfoldable pub pid_ends : SeenState → List Event
-pid_ends s = clock_events s.watches ++ (table_events s.tables ++ (pid_events s.totals ++ (reference_events s.named s.tables s.totals ++ rule_ends s)))
+pid_ends s = clock_events s.watches
+    ++ (table_events s.tables ++ (pid_events s.totals ++ (reference_events (lasts s) s.named s.tables s.totals ++ rule_ends s)))
 
 -- the end, with the bytes that are left after the last whole packet, and the moment of the byte after that packet
 abbrev pub end_event : SeenState → ℕ → Event

@@ -1,6 +1,6 @@
 -- Clock references that never come, or stop before the end of the input (ETSI TR 101 290, 5.2.2, 2.3.a; ISO/IEC 13818-1, 2.7.2): the event of a
 -- reference that would come too late there.
-use Rattle.std.specs.Prelude.{ℕ, ◌-◌, ◌/◌, ◌==◌, ◌||◌, nat_lt, if◌then◌else◌, List, [], ◌∷◌, ◌++◌, flat_map, Option, Some, None}
+use Rattle.std.specs.Prelude.{ℕ, ◌-◌, ◌/◌, ◌==◌, ◌||◌, nat_lt, if◌then◌else◌, List, [], ◌∷◌, ◌++◌, filter, flat_map, Option, Some, None}
 use Rattle.arrival.specs.Clock.{greatest_interval, longest_interval}
 use Rattle.arrival.specs.declared.arrival.Arrival.{Arrival}
 use Rattle.arrival.specs.declared.arrival.Arrival.TheVariants.{Unknown, AtRate, OnLines}
@@ -18,6 +18,7 @@ use Rattle.es_events.specs.Clocks.{ClockEntries, clock_of}
 use Rattle.ts_watch.specs.RuleEvents.{place_at}
 use Rattle.ts_report.specs.StoppedEvents.{stopped_events}
 use Rattle.ts_watch.specs.TableEvents.{TablesState}
+use Rattle.ts_watch.specs.TableNames.{NamesState, is_since, oldest}
 
 -- 1. The PIDs of the clock references of programs, each once; 8191 says that a program has no clock reference
 
@@ -32,6 +33,14 @@ with_clocks pids (program ∷ programs) = with_clocks (with_clock pids program.p
 unfoldable pub clocks_in : Option FoundProgramsView → List ℕ
 clocks_in None = []
 clocks_in (Some found) = with_clocks [] found.programs
+
+-- the PIDs that a PMT in force has as PCR_PID since the section of a number
+abbrev pub clocks_since : NamesState → ℕ → List ℕ → List ℕ
+clocks_since names section pids = filter (λ pid. is_since names.clocks section pid) pids
+
+-- the PIDs that a PMT of a program in force may have as PCR_PID
+abbrev pub expected_clocks : NamesState → Option FoundProgramsView → List ℕ
+expected_clocks names found = clocks_since names (oldest names) (clocks_in found)
 
 -- 2. The time from the last reference to the end
 
@@ -77,11 +86,11 @@ clocks_by options timing clocks packets pids None = []
 clocks_by options timing clocks packets pids (Some place) = clocks_events options timing clocks packets place pids
 
 -- at the end of the input, after a number of packets
-abbrev pub stopped_clocks : ViewOptions → NamedView → TableTiming → ClockEntries → ℕ → List Event
-stopped_clocks options named timing clocks packets =
-    clocks_by options timing clocks packets (clocks_in named.streams) (place_at options.arrival packets)
+abbrev pub stopped_clocks : ViewOptions → NamedView → TablesState → ClockEntries → ℕ → List Event
+stopped_clocks options named t clocks packets =
+    clocks_by options t.times.intervals.timing clocks packets (expected_clocks t.named named.streams) (place_at options.arrival packets)
 
 -- of tables and of clock references
 abbrev pub stops : ViewOptions → NamedView → TablesState → ClockEntries → ℕ → List Event
 stops options named t clocks packets =
-    stopped_events options t packets ++ stopped_clocks options named t.times.intervals.timing clocks packets
+    stopped_events options t packets ++ stopped_clocks options named t clocks packets

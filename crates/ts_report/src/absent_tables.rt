@@ -22,7 +22,7 @@ fn push_unless(events: &mut Vec<Event>, has: bool, pid: u16, table: u8) -> Resul
     Ok(())
 }
 
-// Appends the event of each of these programs that has no whole PMT.
+// Appends the event of each of these programs that has no whole PMT and that the PAT in force names.
 fn push_maps(
     events: &mut Vec<Event>,
     known: &KnownTables,
@@ -36,7 +36,10 @@ fn push_maps(
 {
     for program in programs {
         let has = known.has_map(*program, findings)
-            || tables.has_map(program.pid, program.program_number);
+            || tables.has_map(program.pid, program.program_number)
+            || !tables
+                .names()
+                .has_program(program.pid, program.program_number);
         push_unless(events, has, program.pid, 0x02)?;
     }
     Ok(())
@@ -57,8 +60,8 @@ fn push_tables(
     push_maps(events, &known, known.programs(), findings, tables)
 }
 
-/// Appends an event if no PAT is whole among the first packets of a stream, and one for each program that its PAT names
-/// and that never has a whole PMT; `stream`: whether the input is a transport stream.
+/// Appends an event if no PAT is whole among the first packets of a stream, and one for each program that this PAT and
+/// the PAT in force name and that never has a whole PMT; `stream`: whether the input is a transport stream.
 pub fn push_absent(
     alloc: Global,
     events: &mut Vec<Event>,

@@ -15,7 +15,7 @@ use crate::absent_tables::push_absent;
 use crate::arrival_options::{unclocked, with_arrival};
 use crate::counter_events::push_counter_if;
 use crate::moments::{moment_at, reference_moment};
-use crate::reference_events::push_references;
+use crate::reference_events::{is_known, is_long, known_after, push_references};
 use crate::stopped_clocks::push_stops;
 use crate::stopped_pids::push_stopped_pids;
 use crate::timings::{table_timing, timing_for, timing_of};
@@ -32,7 +32,7 @@ use tr101290::{ContinuityWatch, PcrReport, PcrWatches, pcr_sample};
 use ts_packet::{Packet, PacketError, has_pcr};
 use ts_tables::{NamedStreams, ServiceNames};
 use ts_watch::clock_events::{errors_in, push_clocks, push_report};
-use ts_watch::rule_watch::RuleWatch;
+use ts_watch::rule_watch::{RuleWatch, place_at};
 use ts_watch::system_events::push_excesses;
 use ts_watch::table_watch::TableWatch;
 use ts_watch::view_choice::ViewChoice;
@@ -41,7 +41,8 @@ use ts_watch::window_events::{push_pids, push_window, window_of};
 /// The state of a stream beside its buffers: the number of packets, and of refused packets; the last packet of each
 /// PID; the window of the last packet; the packets of each PID; the last clock reference of each, and the counts of all
 /// of them, with the number of their errors, and by window; the sections of tables; time stamps and scrambled packets;
-/// the buffers of programs' tables; the streams that are named; and the names of their services.
+/// the buffers of programs' tables; the streams that are named; the names of their services; and the place of the packet
+/// after the first tables.
 #[derive(Drop)]
 pub struct Seen {
     alloc: Global,
@@ -60,6 +61,7 @@ pub struct Seen {
     pub systems: SystemTables,
     pub named: NamedStreams,
     pub services: ServiceNames,
+    pub known: Option<u64>,
 }
 
 impl Model for Seen {
@@ -83,6 +85,7 @@ impl Model for Seen {
       systems = s.systems;
       named = s.named;
       services = s.services;
+      known = s.known;
     } };
 }
 
@@ -115,6 +118,7 @@ impl Seen {
             systems: SystemTables::new(alloc),
             named: NamedStreams::new(alloc),
             services: ServiceNames::new(alloc),
+            known: None,
         }
     }
 
@@ -362,7 +366,10 @@ impl Seen {
     pub fn name(&mut self, bytes: &[u8; 188]) -> Result<(), AllocError>
         ensures { OnOk result (self.new ≡ spec.with_named self.old bytes.now) }
     {
+        let before = is_known(&self.named);
+        let next = place_at(&self.options.arrival, self.packets);
         self.named.take(bytes)?;
+        self.known = known_after(self.known, before, &self.named, next);
         self.services.take(&self.named, bytes)
     }
 
@@ -398,6 +405,7 @@ impl Seen {
             events,
             &self.options,
             &self.named,
+            self.tables.names(),
             gaps,
             self.packets,
         )?;
@@ -425,6 +433,18 @@ impl Seen {
         self.push_last_rules(events)
     }
 
+    // Returns whether the stream lasts for 5 s after its first tables.
+    fn lasts(&self) -> bool
+        ensures { result ≡ spec.lasts self.now }
+    {
+        let timing = self.tables.times().intervals().timing();
+        is_long(
+            timing,
+            self.known,
+            place_at(&self.options.arrival, self.packets),
+        )
+    }
+
     /// Appends the last events of clock references by PID, of tables, of all packets by PID, of PIDs that are not named
     /// or have no packet, and of rules.
     #[tactic(auto, unfolding(crate::specs::Seen::pid_ends))]
@@ -434,7 +454,14 @@ impl Seen {
         push_clocks(events, &self.watches)?;
         self.tables.push_end(events)?;
         push_pids(events, &self.totals)?;
-        push_references(self.alloc, events, &self.named, &self.tables, &self.totals)?;
+        push_references(
+            self.alloc,
+            events,
+            self.lasts(),
+            &self.named,
+            &self.tables,
+            &self.totals,
+        )?;
         self.push_rule_ends(events)
     }
 

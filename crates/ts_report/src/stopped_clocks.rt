@@ -12,6 +12,7 @@ use stream_programs::{FoundProgram, PidList};
 use tr101290::{GREATEST_INTERVAL, time_between};
 use ts_tables::NamedStreams;
 use ts_watch::rule_watch::place_at;
+use ts_watch::table_names::TableNames;
 use ts_watch::table_watch::TableWatch;
 
 // Appends the PID of the clock references of a program, if it has one, once.
@@ -44,6 +45,26 @@ fn clocks_in(alloc: Global, named: &NamedStreams) -> Result<Vec<u16>, AllocError
         None => Ok(Vec::new(alloc)),
         Some(found) => clocks_of(alloc, &found.programs),
     }
+}
+
+fn clocks_since(names: &TableNames, section: u64, found: Vec<u16>) -> Vec<u16>
+    ensures { result.items ≡ spec.clocks_since names.now section found.items }
+{
+    let mut pids = found;
+    pids.retain(|pid| names.names_clock(section, *pid));
+    pids
+}
+
+// Returns the PIDs of these that a PMT of a program in force may have as PCR_PID.
+fn expected_clocks(
+    alloc: Global,
+    names: &TableNames,
+    named: &NamedStreams,
+) -> Result<Vec<u16>, AllocError>
+    ensures { IfOk result (λ pids. pids.items ≡ spec.expected_clocks names.now named.now.streams) }
+{
+    let pids = clocks_in(alloc, named)?;
+    Ok(clocks_since(names, names.oldest(), pids))
 }
 
 // Returns the place of a reference: its packet at a constant rate, otherwise its moment.
@@ -146,9 +167,9 @@ fn push_stopped_clocks(
     packets: u64,
 ) -> Result<(), AllocError>
     ensures { OnOk result (events.new.items ≡ events.old.items
-        ++ spec.stopped_clocks options.now named.now tables.now.times.intervals.timing clocks.now packets) }
+        ++ spec.stopped_clocks options.now named.now tables.now clocks.now packets) }
 {
-    let pids = clocks_in(alloc, named)?;
+    let pids = expected_clocks(alloc, tables.names(), named)?;
     match place_at(&options.arrival, packets) {
         None => Ok(()),
         Some(place) => push_clocks(events, options, tables, clocks, packets, place, &pids),

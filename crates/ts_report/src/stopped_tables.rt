@@ -1,5 +1,5 @@
 //! Tables that stop before the end of the input.
-ghost use Rattle.std.specs.Prelude.{◌≡◌, ◌++◌, IfOk, OnOk};
+ghost use Rattle.std.specs.Prelude.{◌≡◌, ◌++◌, IfOk, OnOk, filter};
 ghost use Rattle.ts_report.specs.StoppedEvents as spec;
 
 use es_events::view_options::ViewOptions;
@@ -8,6 +8,7 @@ use pid_findings::Finding;
 use std::alloc::{AllocError, Global};
 use tr101290::{TableError, push_stopped};
 use ts_watch::rule_watch::place_at;
+use ts_watch::table_names::TableNames;
 use ts_watch::table_watch::{TableTimes, TableWatch, error_event};
 
 // Returns the sections that are open at the end, as if none came before them.
@@ -28,6 +29,25 @@ fn open_sections(
         opened.take_all(options, ends.as_slice(), &mut unused)?;
     }
     Ok(opened)
+}
+
+// Returns whether a table has to come: a PMT only if the PAT in force names its program.
+#[tactic(auto, unfolding(crate::specs::StoppedEvents::is_expected_part))]
+fn is_expected(names: &TableNames, error: &TableError) -> bool
+    ensures { result ≡ spec.is_expected names.now error.now }
+{
+    match error.section.part {
+        None => true,
+        Some(part) => error.section.table_id != 0x02 || names.has_program(error.section.pid, part),
+    }
+}
+
+fn expected_errors(names: &TableNames, found: Vec<TableError>) -> Vec<TableError>
+    ensures { result.items ≡ filter (spec.is_expected names.now) found.items }
+{
+    let mut errors = found;
+    errors.retain(|error| is_expected(names, error));
+    errors
 }
 
 fn push_errors(events: &mut Vec<Event>, errors: &[TableError]) -> Result<(), AllocError>
@@ -54,7 +74,7 @@ fn push_at(
     let mut errors = Vec::new(alloc);
     let intervals = tables.times().intervals();
     push_stopped(intervals, opened.intervals(), packets, place, &mut errors)?;
-    push_errors(events, &errors)
+    push_errors(events, &expected_errors(tables.names(), errors))
 }
 
 /// Appends each table, and each part that has to recur by itself, that has not come for too long at the end of the input,

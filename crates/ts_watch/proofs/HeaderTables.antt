@@ -16,7 +16,7 @@ use Rattle.tr101290.specs.Sections.{begin_of, extension_of, section_begin, secti
 use Rattle.tr101290.specs.declared.distances.WholeSection.{WholeSection}
 use Rattle.tr101290.specs.declared.intervals.SectionBegin.{SectionBegin}
 use Rattle.es_events.specs.declared.view_options.ViewOptions.{ViewOptions}
-use Rattle.ts_watch.specs.SectionPids.{with_each, with_found}
+use Rattle.ts_watch.specs.TableNames.{NamesState, with_each, with_found}
 use Rattle.ts_watch.specs.TableEvents.{TimesState, begin_events, distance_events, finding_events, findings_events, has_wrong_word, is_bad, is_wrong}
 use Rattle.ts_watch.specs.TableEvents.{is_wrong_offset, other_events, placed, placed_if}
 use Rattle.ts_watch.specs.TableEvents.{with_begin, with_finding, with_findings, with_whole}
@@ -154,26 +154,28 @@ pub events_alike : (options : ViewOptions) (s : TimesState) (x y : List FindingV
     findings_events options s x ≡ findings_events options s y
 events_alike options s x y e = sym (events_besides options s x) ∙ ap (findings_events options s) e ∙ events_besides options s y
 
--- 4. The PIDs that sections name
+-- 4. What sections name
 
-pids_besides : (pids : List ℕ) (w : WhatView) → with_found pids (without_body w) ≡ with_found pids w
+found_besides : (names : NamesState) (pid : ℕ) (w : WhatView) → with_found names pid (without_body w) ≡ with_found names pid w
 unfolding with_found
-pids_besides pids (IsPes header unended body) = refl
-pids_besides pids (IsTruncated bytes) = refl
-pids_besides pids IsDuplicate = refl
-pids_besides pids (BreaksCounter expected found) = refl
-pids_besides pids IsScrambled = refl
-pids_besides pids (IsSection bytes) = refl
-pids_besides pids (IsBadSection error) = refl
-pids_besides pids (IsBadPes error) = refl
-pids_besides pids (IsBadPacket error) = refl
-pids_besides pids IsErrored = refl
-pids_besides pids (IsStray size) = refl
+found_besides names pid (IsPes header unended body) = refl
+found_besides names pid (IsTruncated bytes) = refl
+found_besides names pid IsDuplicate = refl
+found_besides names pid (BreaksCounter expected found) = refl
+found_besides names pid IsScrambled = refl
+found_besides names pid (IsSection bytes) = refl
+found_besides names pid (IsBadSection error) = refl
+found_besides names pid (IsBadPes error) = refl
+found_besides names pid (IsBadPacket error) = refl
+found_besides names pid IsErrored = refl
+found_besides names pid (IsStray size) = refl
 
-each_besides : (pids : List ℕ) (fs : List FindingView) → with_each pids (all_without_body fs) ≡ with_each pids fs
+each_besides : (names : NamesState) (fs : List FindingView) → with_each names (all_without_body fs) ≡ with_each names fs
 unfolding with_each
-each_besides pids [] = refl
-each_besides pids (f ∷ fs) = ap (λ (t : List ℕ). with_each t (all_without_body fs)) (pids_besides pids f.what) ∙ each_besides (with_found pids f.what) fs
+each_besides names [] = refl
+each_besides names (f ∷ fs) =
+    ap (λ (t : NamesState). with_each t (all_without_body fs)) (found_besides names (unwrap_or f.pid 8191) f.what)
+    ∙ each_besides (with_found names (unwrap_or f.pid 8191) f.what) fs
 
-pub pids_alike : (pids : List ℕ) (x y : List FindingView) → all_without_body x ≡ all_without_body y → with_each pids x ≡ with_each pids y
-pids_alike pids x y e = sym (each_besides pids x) ∙ ap (with_each pids) e ∙ each_besides pids y
+pub names_alike : (names : NamesState) (x y : List FindingView) → all_without_body x ≡ all_without_body y → with_each names x ≡ with_each names y
+names_alike names x y e = sym (each_besides names x) ∙ ap (with_each names) e ∙ each_besides names y

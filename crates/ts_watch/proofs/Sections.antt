@@ -2,10 +2,11 @@
 use Rattle.std.proofs.Common.{◌≡◌, ◌∙◌, ◌<◌, ◌≤◌, ℕ, ◌+◌, ◌++◌, List, [], ◌∷◌, length, map, drop, get_or, refl, sym, ap, add-one}
 use Rattle.std.proofs.Math.Seq.{drop-cons}
 use Rattle.std.proofs.lemmas.List.{append_assoc, append-nil, drop_all}
+use Rattle.std.specs.Prelude.{unwrap_or}
 use Rattle.pid_findings.specs.Views.{FindingView}
 use Rattle.events.specs.declared.event.Event.{Event}
 use Rattle.es_events.specs.declared.view_options.ViewOptions.{ViewOptions}
-use Rattle.ts_watch.specs.SectionPids.{with_each, with_found}
+use Rattle.ts_watch.specs.TableNames.{NamesState, with_each, with_found}
 use Rattle.ts_watch.specs.TableEvents.{TimesState, finding_events, findings_events, with_finding, with_findings}
 
 all_step : {X : Type 0} (view : X → FindingView) (i : ℕ) (fs : List X) (f : X) → i < length fs → f ≡ get_or fs i f →
@@ -50,16 +51,18 @@ events_end view options s i fs whole events over is =
     let none : map view (drop i fs) ≡ [] = rw (drop_all i fs over) refl in
     sym (is ∙ ap (λ (l : List FindingView). events ++ findings_events options s l) none ∙ append-nil events)
 
--- The PIDs after one finding and the rest are the PIDs after all remaining findings.
-pub pids_step : {X : Type 0} (view : X → FindingView) (whole pids next : List ℕ) (i : ℕ) (fs : List X) (f : X) → i < length fs → f ≡ get_or fs i f →
-    whole ≡ with_each pids (map view (drop i fs)) → next ≡ with_found pids (view f).what → whole ≡ with_each next (map view (drop (i + 1) fs))
+-- What is named after one finding and the rest is named after all remaining findings.
+pub names_step : {X : Type 0} (view : X → FindingView) (whole names next : NamesState) (i : ℕ) (fs : List X) (f : X) → i < length fs →
+    f ≡ get_or fs i f →
+    whole ≡ with_each names (map view (drop i fs)) → next ≡ with_found names (unwrap_or (view f).pid 8191) (view f).what →
+    whole ≡ with_each next (map view (drop (i + 1) fs))
 unfolding with_each
-pids_step view whole pids next i fs f below at is goes =
-    is ∙ ap (λ (l : List FindingView). with_each pids l) (all_step view i fs f below at)
-    ∙ ap (λ (t : List ℕ). with_each t (map view (drop (i + 1) fs))) (sym goes)
+names_step view whole names next i fs f below at is goes =
+    is ∙ ap (λ (l : List FindingView). with_each names l) (all_step view i fs f below at)
+    ∙ ap (λ (t : NamesState). with_each t (map view (drop (i + 1) fs))) (sym goes)
 
-pub pids_end : {X : Type 0} (view : X → FindingView) (whole pids : List ℕ) (i : ℕ) (fs : List X) → length fs ≤ i →
-    whole ≡ with_each pids (map view (drop i fs)) → pids ≡ whole
+pub names_end : {X : Type 0} (view : X → FindingView) (whole names : NamesState) (i : ℕ) (fs : List X) → length fs ≤ i →
+    whole ≡ with_each names (map view (drop i fs)) → names ≡ whole
 unfolding with_each
-pids_end view whole pids i fs over is =
-    let none : map view (drop i fs) ≡ [] = rw (drop_all i fs over) refl in sym (is ∙ ap (λ (l : List FindingView). with_each pids l) none)
+names_end view whole names i fs over is =
+    let none : map view (drop i fs) ≡ [] = rw (drop_all i fs over) refl in sym (is ∙ ap (λ (l : List FindingView). with_each names l) none)

@@ -11,9 +11,9 @@ use Rattle.demux.specs.Stream.{StreamState, found_in, findings_by, pushed, taken
 use Rattle.demux.proofs.PushedBytes.{taken_as_pushed}
 use Rattle.events.specs.declared.event.Event.{Event}
 use Rattle.es_events.specs.declared.view_options.ViewOptions.{ViewOptions}
-use Rattle.ts_watch.specs.SectionPids.{with_each}
+use Rattle.ts_watch.specs.TableNames.{NamesState, with_each}
 use Rattle.ts_watch.specs.TableEvents.{TablesState, TakesPackets, TimesState, findings_events, packet_events, with_findings, with_packet}
-use Rattle.ts_watch.proofs.HeaderTables.{events_alike, pids_alike, times_alike}
+use Rattle.ts_watch.proofs.HeaderTables.{events_alike, names_alike, times_alike}
 
 -- What follows from two facts of a call that succeeds
 pub on_both : {V E A B C : Type 0} (r : Result V E) → (A → B → C) → OnOk r A → OnOk r B → OnOk r C
@@ -68,7 +68,7 @@ pub added_to_none : (none new found : List FindingView) → none ≡ [] → Adds
 added_to_none none new found e added = added ∙ ap (λ (x : List FindingView). all_without_body x ++ all_without_body found) e
 
 -- The state and the events after any packet follow from its findings.
-pub packet_passed : (options : ViewOptions) (t : TablesState) (bytes : List ℕ) (demux : StreamState) (times : TimesState) (named : List ℕ)
+pub packet_passed : (options : ViewOptions) (t : TablesState) (bytes : List ℕ) (demux : StreamState) (times : TimesState) (named : NamesState)
     (found : List FindingView) → TakesPackets t.demux →
     length bytes ≡ 188 → demux ≡ headers_taken t.demux bytes → all_without_body found ≡ all_without_body (found_in t.demux bytes) →
     times ≡ with_findings options t.times found → named ≡ with_each t.named found →
@@ -77,8 +77,8 @@ packet_passed options t bytes demux times named found takes size is finds goes n
     ap₂ (λ (d : StreamState) (x : TimesState). record { demux = d; times = x; named = named }) (is ∙ sym (pushed_forgotten t.demux bytes takes size))
     (goes ∙ times_alike options t.times found (found_in t.demux bytes) finds
     ∙ ap (λ (fs : List FindingView). with_findings options t.times fs) (sym (pushed_found t.demux bytes takes size)))
-    ∙ ap (λ (pids : List ℕ). record (with_packet options t bytes) { named = pids })
-    (names ∙ pids_alike t.named found (found_in t.demux bytes) finds ∙ ap (with_each t.named) (sym (pushed_found t.demux bytes takes size)))
+    ∙ ap (λ (n : NamesState). record (with_packet options t bytes) { named = n })
+    (names ∙ names_alike t.named found (found_in t.demux bytes) finds ∙ ap (with_each t.named) (sym (pushed_found t.demux bytes takes size)))
 
 pub packet_writes : (options : ViewOptions) (t : TablesState) (bytes : List ℕ) (events events' : List Event) (found : List FindingView) → TakesPackets t.demux →
     length bytes ≡ 188 →

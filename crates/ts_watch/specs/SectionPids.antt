@@ -4,13 +4,8 @@ use Rattle.std.specs.Prelude.{ℕ, ◌+◌, ◌*◌, ◌%◌, ◌==◌, nat_lt, 
 use Rattle.descriptor_loops.specs.Descriptors.{DescriptorView, descriptors_in}
 use Rattle.psi_tables.specs.ProgramAssociation.{PatView, pat_at}
 use Rattle.psi_tables.specs.ProgramMap.{PmtView, StreamView, pmt_at}
-use Rattle.psi_tables.specs.Reading.{section_at}
 use Rattle.psi_tables.specs.Views.{SectionView}
 use Rattle.psi_tables.specs.declared.error.SectionError.{SectionError}
-use Rattle.pid_findings.specs.Views.{FindingView, WhatView, IsSection}
-use Rattle.stream_programs.specs.FreePids.{is_taken}
-
--- 1. A section
 
 -- the body of a CA_descriptor: CA_system_ID, three reserved bits, CA_PID
 unfoldable pub access_pid : List ℕ → List ℕ
@@ -49,31 +44,7 @@ table_pids s =
     else if s.header.table_id == 2 then map_pids (pmt_at s)
     else []
 
-unfoldable pub pids_by : Result (SectionView × ℕ) SectionError → List ℕ
-pids_by (Err error) = []
-pids_by (Ok section) = table_pids section.0
-
 -- whether the bytes begin with the table_id of a PAT, a CAT or a PMT
 unfoldable pub may_name : List ℕ → Bool
 may_name [] = false
 may_name (table_id ∷ rest) = nat_lt table_id 3
-
-abbrev pub section_pids : List ℕ → List ℕ
-section_pids bytes = if may_name bytes then pids_by (section_at bytes) else []
-
--- 2. Sections one after another: each PID once
-
-abbrev pub with_pid : List ℕ → ℕ → List ℕ
-with_pid pids pid = if is_taken pid pids then pids else pids ++ pid ∷ []
-
-unfoldable pub with_pids : List ℕ → List ℕ → List ℕ
-with_pids pids [] = pids
-with_pids pids (pid ∷ more) = with_pids (with_pid pids pid) more
-
-unfoldable pub with_found : List ℕ → WhatView → List ℕ
-with_found pids (IsSection bytes) = with_pids pids (section_pids bytes)
-with_found pids _ = pids
-
-unfoldable pub with_each : List ℕ → List FindingView → List ℕ
-with_each pids [] = pids
-with_each pids (f ∷ fs) = with_each (with_found pids f.what) fs

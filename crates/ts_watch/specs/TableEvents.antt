@@ -30,7 +30,7 @@ use Rattle.events.specs.declared.event.Event.TheVariants as found
 use Rattle.events.specs.declared.fault_kind.FaultKind.TheVariants as kinds
 use Rattle.es_events.specs.declared.view_options.ViewOptions.{ViewOptions}
 use Rattle.es_events.specs.Clocks.{first_byte}
-use Rattle.ts_watch.specs.SectionPids.{with_each}
+use Rattle.ts_watch.specs.TableNames.{NamesState, no_names, with_each}
 
 -- 1. A section that begins too late
 
@@ -165,11 +165,11 @@ findings_events options s (f ∷ fs) = finding_events options s f ++ findings_ev
 
 -- 3. Packet by packet: the findings of a packet are dropped once its sections are known, and no body of a PES packet is kept
 
--- with the PIDs that the sections name
+-- with what the sections name
 pub record TablesState : Type 0 where
   pub demux : StreamState
   pub times : TimesState
-  pub named : List ℕ
+  pub named : NamesState
 
 -- no part of a packet is held, and no finding
 pub record TakesPackets (s : StreamState) : Type 0 where
@@ -180,7 +180,7 @@ abbrev pub no_times : TableTiming → TimesState
 no_times timing = record { intervals = no_section timing; distances = no_end timing; errors = 0 }
 
 abbrev pub no_tables : TableTiming → TablesState
-no_tables timing = record { demux = start; times = no_times timing; named = [] }
+no_tables timing = record { demux = start; times = no_times timing; named = no_names }
 
 abbrev pub with_packet : ViewOptions → TablesState → List ℕ → TablesState
 with_packet options s bytes = record {

@@ -8,6 +8,7 @@ mod pid_labels;
 pub mod rule_watch;
 mod section_pids;
 pub mod system_events;
+pub mod table_names;
 pub mod table_watch;
 pub mod view_choice;
 pub mod view_request;

@@ -1,17 +1,14 @@
 //! The PIDs that the sections of PAT, CAT and PMT name.
-ghost use Rattle.std.specs.Prelude.{◌≡◌, ◌++◌, OnOk, Result, map, flat_map, option_to_list};
+ghost use Rattle.std.specs.Prelude.{◌≡◌, ◌++◌, OnOk, map, flat_map, option_to_list};
 ghost use Rattle.descriptor_loops.specs.Descriptors.{descriptor_view};
-ghost use Rattle.pid_findings.specs.Shown.{finding_view, what_view};
 ghost use Rattle.psi_tables.specs.ProgramAssociation.{pat_at, programs_of};
 ghost use Rattle.psi_tables.specs.ProgramMap.{pmt_at, pmt_view, stream_view, streams_of};
 ghost use Rattle.psi_tables.specs.Views.{section_view};
 ghost use Rattle.ts_watch.specs.SectionPids as spec;
 
 use descriptor_loops::{Descriptor, Descriptors};
-use pid_findings::{Finding, What};
 use psi_tables::{PAT_TABLE_ID, PMT_TABLE_ID, Pat, Pmt, Programs, Section, Stream, Streams};
-use std::alloc::{AllocError, Global};
-use stream_programs::PidList;
+use std::alloc::AllocError;
 
 // The table_id of a CAT.
 const CAT_TABLE_ID: u8 = 0x01;
@@ -119,7 +116,8 @@ fn push_association(section: &Section<'_>, pids: &mut Vec<u16>) -> Result<(), Al
     }
 }
 
-fn push_table(section: &Section<'_>, pids: &mut Vec<u16>) -> Result<(), AllocError>
+/// Appends the PIDs that a section of PAT, CAT or PMT names.
+pub(crate) fn push_table(section: &Section<'_>, pids: &mut Vec<u16>) -> Result<(), AllocError>
     ensures { OnOk result (pids.new.items
         ≡ pids.old.items ++ spec.table_pids (section_view section.now)) }
 {
@@ -134,78 +132,13 @@ fn push_table(section: &Section<'_>, pids: &mut Vec<u16>) -> Result<(), AllocErr
     }
 }
 
+/// Returns whether the bytes begin with the table_id of a PAT, a CAT or a PMT.
 #[tactic(auto, unfolding(crate::specs::SectionPids::may_name))]
-fn may_name(bytes: &[u8]) -> bool
+pub(crate) fn may_name(bytes: &[u8]) -> bool
     ensures { result ≡ spec.may_name bytes.now }
 {
     match bytes {
         [table_id, ..] => *table_id < 3,
         _ => false,
     }
-}
-
-// Appends the PIDs that a section of PAT, CAT or PMT names.
-#[tactic(auto, unfolding(crate::specs::SectionPids::pids_by))]
-fn push_section(bytes: &[u8], pids: &mut Vec<u16>) -> Result<(), AllocError>
-    ensures { OnOk result (pids.new.items ≡ pids.old.items ++ spec.section_pids bytes.now) }
-{
-    if !may_name(bytes) {
-        return Ok(());
-    }
-    match Section::read(bytes) {
-        Err(_) => Ok(()),
-        Ok((section, _)) => push_table(&section, pids),
-    }
-}
-
-fn add_pid(named: &mut PidList<Global>, pid: u16) -> Result<(), AllocError>
-    ensures { OnOk result (named.new ≡ spec.with_pid named.old pid) }
-{
-    if named.has(pid) {
-        return Ok(());
-    }
-    named.add(pid)
-}
-
-#[tactic(auto, unfolding(crate::specs::SectionPids::with_pids))]
-fn add_pids(named: &mut PidList<Global>, pids: &[u16]) -> Result<(), AllocError>
-    ensures { OnOk result (named.new ≡ spec.with_pids named.old pids.now) }
-{
-    for pid in pids {
-        add_pid(named, *pid)?;
-    }
-    Ok(())
-}
-
-fn add_section(alloc: Global, named: &mut PidList<Global>, bytes: &[u8]) -> Result<(), AllocError>
-    ensures { OnOk result (named.new ≡ spec.with_pids named.old (spec.section_pids bytes.now)) }
-{
-    let mut pids = Vec::new(alloc);
-    push_section(bytes, &mut pids)?;
-    add_pids(named, &pids)
-}
-
-// Adds the PIDs that a finding names, if it is a section of PAT, CAT or PMT.
-#[tactic(auto, unfolding(crate::specs::SectionPids::with_found))]
-fn add_found(alloc: Global, named: &mut PidList<Global>, what: &What<'_>) -> Result<(), AllocError>
-    ensures { OnOk result (named.new ≡ spec.with_found named.old (what_view what.now)) }
-{
-    match what {
-        What::Section(part) => add_section(alloc, named, part.bytes()),
-        _ => Ok(()),
-    }
-}
-
-/// Adds the PIDs that the sections in findings name, each once.
-pub(crate) fn add_each(
-    alloc: Global,
-    named: &mut PidList<Global>,
-    findings: &[Finding<'_>],
-) -> Result<(), AllocError>
-    ensures { OnOk result (named.new ≡ spec.with_each named.old (map finding_view findings.now)) }
-{
-    for finding in findings {
-        add_found(alloc, named, &finding.what)?;
-    }
-    Ok(())
 }

@@ -5,12 +5,11 @@ ghost use Rattle.ts_packet.specs.Packets.{null_packet};
 ghost use Rattle.ts_packet.specs.Reading.{packet_at};
 ghost use Rattle.ts_packet.specs.Views.{packet_view};
 ghost use Rattle.pid_findings.specs.Shown.{finding_view};
-ghost use Rattle.ts_watch.specs.SectionPids.{with_each};
 ghost use Rattle.ts_watch.specs.TableEvents as spec;
-ghost use Rattle.stream_programs.specs.FreePids.{is_taken};
+ghost use Rattle.ts_watch.specs.TableNames.{with_each};
 
 use crate::check_words::{is_bad, push_check_word_if};
-use crate::section_pids::add_each;
+use crate::table_names::TableNames;
 use arrival::Arrival;
 use demux::HeaderDemux;
 use es_events::clocks::first_byte;
@@ -19,7 +18,6 @@ use events::{Event, FaultKind, OtherTable, RuleEvent, TableFault, TableTotals};
 use pid_findings::Finding;
 use std::alloc::{AllocError, Global};
 use std::marker::Model;
-use stream_programs::PidList;
 use tr101290::{
     SectionBegin, SectionDistances, SectionPlaces, TableError, TableIntervals, TableTiming,
     WholeSection, belongs, key_of, limit_of, pid_of, section_begin, table_id_of, time_between,
@@ -44,13 +42,13 @@ impl Model for TableTimes {
     ghost view = { λ t. record { intervals = t.intervals; distances = t.distances; errors = t.errors } };
 }
 
-/// The sections of tables as far as they have come, and the PIDs that they name.
+/// The sections of tables as far as they have come, and what they name.
 #[derive(Drop)]
 pub struct TableWatch {
     alloc: Global,
     demux: HeaderDemux,
     times: TableTimes,
-    named: PidList<Global>,
+    named: TableNames,
 }
 
 impl Model for TableWatch {
@@ -282,13 +280,12 @@ impl TableTimes {
     }
 }
 
-// Takes the findings of a packet: their sections, and the PIDs that these name.
+// Takes the findings of a packet: their sections, and what these name.
 fn take_found(
-    alloc: Global,
     options: &ViewOptions,
     findings: &[Finding<'_>],
     times: &mut TableTimes,
-    named: &mut PidList<Global>,
+    named: &mut TableNames,
     events: &mut Vec<Event>,
 ) -> Result<(), AllocError>
     ensures times { OnOk result (times.new
@@ -297,7 +294,7 @@ fn take_found(
     ensures found { OnOk result (events.new.items
         ≡ events.old.items ++ spec.findings_events options.now times.old (map finding_view findings.now)) }
 {
-    add_each(alloc, named, findings)?;
+    named.take_each(findings)?;
     times.take_all(options, findings, events)
 }
 
@@ -325,7 +322,7 @@ impl TableWatch {
             alloc,
             demux: HeaderDemux::new(alloc),
             times: TableTimes::new(alloc, timing),
-            named: PidList::new(alloc),
+            named: TableNames::new(alloc),
         }
     }
 
@@ -363,7 +360,6 @@ impl TableWatch {
             return Err(AllocError);
         };
         take_found(
-            self.alloc,
             options,
             found.as_slice(),
             &mut self.times,
@@ -405,11 +401,11 @@ impl TableWatch {
         self.times.intervals.has_part(pid, 0x02, number)
     }
 
-    /// Returns whether a section of PAT, CAT or PMT names a PID.
-    pub fn names(&self, pid: u16) -> bool
-        ensures { result ≡ is_taken pid self.now.named }
+    /// Returns what the sections of PAT, CAT and PMT name.
+    pub fn names(&self) -> &TableNames
+        ensures { result.now ≡ self.now.named }
     {
-        self.named.has(pid)
+        &self.named
     }
 
     /// Appends what the sections of each table came to.

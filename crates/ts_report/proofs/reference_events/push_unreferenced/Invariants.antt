@@ -4,4 +4,4 @@ use Rattle.ts_report.proofs.reference_events.push_unreferenced.Given as goal
 
 abbrev pub invariant-loop-pid : goal.invariant-loop-pid
 invariant-loop-pid l =
-    l.events.items ++ unreferenced_events l.tables.named (drop l.pid-index l.pids) ≡ l.fn.events.items ++ unreferenced_events l.tables.named l.pids
+    l.events.items ++ unreferenced_events l.names (drop l.pid-index l.pids) ≡ l.fn.events.items ++ unreferenced_events l.names l.pids

@@ -22,6 +22,7 @@ returns-clause-seen c =
       systems = c.self.inside.systems;
       named = c.self.inside.named;
       services = c.self.inside.services;
+      known = c.self.inside.known;
     } in
     ap (λ (t : TablesState). record seen { tables = t }) (c.pass_null.ensures.tables seen.options)
     ∙ ap (λ (s : SeenState). with_sections s null_packet) c.self.view_is
