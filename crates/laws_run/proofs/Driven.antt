@@ -1,5 +1,5 @@
 -- Whatever a caller feeds and writes, in any order, the multiplexer's state represents the history of these calls.
-use Rattle.std.proofs.Common.{◌≡◌, ℕ, ◌^◌, ◌<◌, ◌≤◌, List, [], ◌∷◌, map, slice_get, Option, Some, None, refl, sym, ap₂, subst, ◌∙◌, arith, inl, inr, lt-ltb}
+use Rattle.std.proofs.Common.{◌≡◌, ℕ, ◌^◌, ◌<◌, ◌≤◌, false, replicate, List, [], ◌∷◌, map, slice_get, Option, Some, None, refl, sym, ap₂, subst, ◌∙◌, arith, inl, inr, lt-ltb}
 use Rattle.std.proofs.Common.{le-ltb}
 use Rattle.std.proofs.lemmas.Bool.{cases_lt}
 use Rattle.pes_packet.specs.AccessUnits.{AccessUnit}
@@ -36,6 +36,8 @@ pub first : (d : Scheduled) (capacity : ℕ) → IsInRange d.description → IsR
 first d capacity r = record {
   mux = record {
     schedule = d;
+    texts = d.description;
+    sent = replicate 131 false;
     queues = map (first_queue d.description capacity) d.description.streams;
     carousels = first_carousels d.description 0 (table_count d.description);
     capacity = capacity;

@@ -156,7 +156,10 @@ takes laws h old k u refused new rules st feeds =
       first = first;
       represents = λ none. subst (λ (m : MuxState). Represents (with_unit h k u) m) (sym (feeds.taken none)) (record {
         written = st.written;
-        unchanged = st.unchanged;
+        changes = st.changes;
+        texts = st.texts;
+        sent_size = st.sent_size;
+        sent = st.sent;
         streams = streams_fed laws.fed old.schedule h old.capacity k u old.queues rules (sym first ∙ none) st.streams;
         tables = st.tables;
       });

@@ -1,20 +1,22 @@
 -- Queues and carousels before slot 0.
-use Rattle.std.specs.Prelude.{ℕ, suc, zero, ◌+◌, ◌<◌, List, [], ◌∷◌, ◌++◌, map, take, length, get_or, Option, Some, None, slice_get, option_map}
+use Rattle.std.specs.Prelude.{ℕ, suc, zero, ◌+◌, ◌<◌, false, replicate, List, [], ◌∷◌, ◌++◌, map, take, length, get_or, Option, Some, None, slice_get, option_map}
 use Rattle.std.proofs.Common.{◌≡◌, refl, sym, ◌∙◌, ap, subst, arith}
 use Rattle.std.proofs.Math.Seq.{take-suc}
-use Rattle.std.proofs.lemmas.List.{map-append}
+use Rattle.std.proofs.lemmas.List.{map-append, length-replicate, get_or-replicate}
 use Rattle.std.proofs.lemmas.List.Elements.{All-get_or}
 use Rattle.description_parts.specs.Described.{Described, DescribedStream}
 use Rattle.description_parts.specs.Ranges.{IsInRange, IsStream}
 use Rattle.description_parts.specs.Tables.{table_kinds, table_count}
 use Rattle.description_parts.specs.declared.table_kind.TableKind.{TableKind}
 use Rattle.description.proofs.SectionCounts.{sections_law}
+use Rattle.description.specs.SubTables.{sub_table_count}
 use Rattle.unit_queue.specs.Queues.{Queue, ParametersInRange}
 use Rattle.unit_queue.proofs.QueueStates.{first_law}
 use Rattle.table_rounds.specs.Carousels.{Carousel}
 use Rattle.table_rounds.proofs.CarouselSteps.{first_carousel_holds}
 use Rattle.mux_core.specs.Scheduled.{Scheduled}
 use Rattle.mux_core.specs.Histories.{empty_history, parameters_of, owned_stream, table_of}
+use Rattle.mux_core.specs.TextChanges.{began_since}
 use Rattle.mux_core.specs.MuxStates.{Represents, QueueRepresents, CarouselRepresents}
 use Rattle.mux_core.specs.NewMux.{first_queue, first_carousel, first_carousels}
 use Rattle.mux_core.proofs.KnownRanges.{parameters_fit, tables_known}
@@ -81,20 +83,26 @@ carousels_here d k kinds = carousels_at d 0 k kinds ∙ ap (λ (n : ℕ). option
 
 carousel_represents : (d : Scheduled) (t : ℕ) (kind : Option TableKind) → IsInRange d.description → slice_get (table_kinds d.description) t ≡ kind →
     CarouselRepresents d empty_history t (option_map (λ x. first_carousel d.description t) kind) kind
-carousel_represents d t (Some kind) ranges is = first_carousel_holds (table_of d t) ((tables_known sections_law d empty_history ranges refl).places t kind is)
+carousel_represents d t (Some kind) ranges is = first_carousel_holds (table_of d t) ((tables_known sections_law d empty_history d.description ranges tt refl).places t kind is)
 carousel_represents d t None ranges is = tt
 
 pub represents_first : (d : Scheduled) (capacity : ℕ) → IsInRange d.description →
     Represents empty_history (record {
       schedule = d;
+      texts = d.description;
+      sent = replicate 131 false;
       queues = map (first_queue d.description capacity) d.description.streams;
       carousels = first_carousels d.description 0 (table_count d.description);
       capacity = capacity;
       slots = 0;
     })
+unfolding began_since
 represents_first d capacity ranges = record {
   written = refl;
-  unchanged = refl;
+  changes = tt;
+  texts = refl;
+  sent_size = length-replicate sub_table_count false;
+  sent = λ x lt. get_or-replicate 131 x false false lt;
   streams = λ k. subst (λ (q : Option Queue). QueueRepresents d empty_history capacity k q (slice_get d.description.streams k))
       (sym (queues_at d.description capacity k d.description.streams)) (queue_represents d capacity k (slice_get d.description.streams k));
   tables = λ t. subst (λ (x : Option Carousel). CarouselRepresents d empty_history t x (slice_get (table_kinds d.description) t))
@@ -103,10 +111,10 @@ represents_first d capacity ranges = record {
 
 pub begins : (d : Scheduled) (queues : List Queue) (carousels : List Carousel) (capacity : ℕ) → IsInRange d.description →
     queues ≡ map (first_queue d.description capacity) d.description.streams → carousels ≡ first_carousels d.description 0 (table_count d.description) →
-    Represents empty_history (record { schedule = d; queues = queues; carousels = carousels; capacity = capacity; slots = 0 })
+    Represents empty_history (record { schedule = d; texts = d.description; sent = replicate 131 false; queues = queues; carousels = carousels; capacity = capacity; slots = 0 })
 begins d queues carousels capacity ranges are are_carousels =
-    subst (λ (qs : List Queue). Represents empty_history (record { schedule = d; queues = qs; carousels = carousels; capacity = capacity; slots = 0 }))
+    subst (λ (qs : List Queue). Represents empty_history (record { schedule = d; texts = d.description; sent = replicate 131 false; queues = qs; carousels = carousels; capacity = capacity; slots = 0 }))
     (sym are)
     (subst (λ (ts : List Carousel). Represents empty_history
-    (record { schedule = d; queues = map (first_queue d.description capacity) d.description.streams; carousels = ts; capacity = capacity; slots = 0 }))
+    (record { schedule = d; texts = d.description; sent = replicate 131 false; queues = map (first_queue d.description capacity) d.description.streams; carousels = ts; capacity = capacity; slots = 0 }))
     (sym are_carousels) (represents_first d capacity ranges))

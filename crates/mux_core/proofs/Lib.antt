@@ -1,6 +1,8 @@
 pub mod PlanPromises
+pub mod TextChanges
 pub mod SlotSteps
 pub mod FedUnits
+pub mod TakenTexts
 pub mod KnownRanges
 pub mod MuxStates
 pub mod RisingSlots
@@ -13,6 +15,7 @@ pub mod ClearPackets
 pub mod StreamsAlone
 pub mod StreamsKept
 pub mod Whole
+pub mod TextLaws
 pub mod MeasuredRuns
 pub mod MeasurableRuns
 pub mod PutTogether

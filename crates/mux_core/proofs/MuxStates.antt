@@ -32,7 +32,7 @@ pub feed_laws : FeedLaws
 feed_laws = record { cause = cause_law; fed = fed_law; later = later_unit_law }
 
 slot_advances : (h : History) (m : MuxState) → IsInRange m.schedule.description → Represents h m → Advances h m (slot_of m.schedule.schedule m.slots)
-slot_advances h m ranges st = advances laws h m (tables_known sections_law m.schedule h ranges st.unchanged) st
+slot_advances h m ranges st = advances laws h m (tables_known sections_law m.schedule h m.texts ranges st.changes st.texts) st
 
 -- A slot does not change the schedule.
 schedule_stays : (m : MuxState) (slot : Slot) → (after m slot).schedule ≡ m.schedule
@@ -70,7 +70,15 @@ done h m e st over = (subst (λ (n : ℕ). 2 ^ 40 ≤ n) st.written over, refl)
 
 -- The state with its queues replaced.
 abbrev pub with_queues : MuxState → List Queue → MuxState
-with_queues m queues = record { schedule = m.schedule; queues = queues; carousels = m.carousels; capacity = m.capacity; slots = m.slots }
+with_queues m queues = record {
+  schedule = m.schedule;
+  texts = m.texts;
+  sent = m.sent;
+  queues = queues;
+  carousels = m.carousels;
+  capacity = m.capacity;
+  slots = m.slots;
+}
 
 -- The state takes or refuses a unit exactly as its queues do.
 pub feeds : {V : Type 0} (m : MuxState) (k : ℕ) (u : AccessUnit) (result : Result V (FeedError × AccessUnit)) (queues : List Queue) →

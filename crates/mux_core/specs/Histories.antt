@@ -31,6 +31,10 @@ pub record History : Type 0 where
   pub changes : List Change
   pub slots : ℕ
 
+-- the history with one more change
+abbrev pub with_change : History → Change → History
+with_change h change = record { units = h.units; changes = change ∷ h.changes; slots = h.slots }
+
 -- the texts in force in a slot: those of the last change up to it, before all changes the description's own
 abbrev pub text_at : Described → List Change → ℕ → Described
 text_at d [] slot = d

@@ -1,10 +1,12 @@
 pub mod Scheduled
 pub mod TimingLaws
 pub mod Histories
+pub mod TextChanges
 pub mod MuxStates
 pub mod SlotSteps
 pub mod FramesKept
 pub mod Headline
+pub mod TextLaws
 pub mod MeasuredRuns
 pub mod Decoder
 pub mod DecodedRuns

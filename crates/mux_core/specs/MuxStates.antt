@@ -1,8 +1,8 @@
 -- The state of a multiplexer, and the history that it represents.
-use Rattle.std.specs.Prelude.{◌≡◌, ◌≤◌, ◌<◌, ◌^◌, ℕ, List, [], Option, Some, None, slice_get, length, option_map, Result, Ok, Err, ⊤}
+use Rattle.std.specs.Prelude.{◌≡◌, ◌≤◌, ◌<◌, ◌^◌, ℕ, Bool, false, slice_index_or, List, Option, Some, None, slice_get, length, option_map, Result, Ok, Err, ⊤}
 use Rattle.pes_packet.specs.AccessUnits.{AccessUnit}
 use Rattle.slot_contents.specs.Contents.{packet_of}
-use Rattle.description_parts.specs.Described.{DescribedStream}
+use Rattle.description_parts.specs.Described.{Described, DescribedStream}
 use Rattle.description_parts.specs.Tables.{table_kinds}
 use Rattle.description_parts.specs.declared.table_kind.TableKind.{TableKind}
 use Rattle.unit_queue.specs.declared.refusal.FeedError.{FeedError}
@@ -11,13 +11,19 @@ use Rattle.unit_queue.specs.Places.{left_before}
 use Rattle.unit_queue.specs.Causes.{unit_cause}
 use Rattle.unit_queue.specs.Queues.{Queue, QueueHolds}
 use Rattle.table_rounds.specs.Carousels.{Carousel, CarouselHolds}
+use Rattle.description.specs.SubTables.{sub_table_count}
+use Rattle.changed_texts.specs.declared.fault.TextFault.{TextFault}
 use Rattle.mux_core.specs.Scheduled.{Scheduled}
-use Rattle.mux_core.specs.Histories.{History, owned_stream, table_over, content_over, bytes_of, next_slot, with_unit}
+use Rattle.mux_core.specs.Histories.{History, last_texts, owned_stream, table_over, content_over, bytes_of, next_slot, with_unit, with_change}
+use Rattle.mux_core.specs.TextChanges.{ChangesFit, text_cause, since_of, began_since, next_change}
 use Rattle.mux_core.specs.declared.done.Done.{Done}
 
--- the schedule, a queue for each stream, the carousel of each table, the capacity of a queue in units, and the number of slots written
+-- the schedule, the texts in force, for each sub-table whether a section of it was sent since its last change, a queue for each stream, the carousel of each
+-- table, the capacity of a queue in units, and the number of slots written
 pub record MuxState : Type 0 where
   pub schedule : Scheduled
+  pub texts : Described
+  pub sent : List Bool
   pub queues : List Queue
   pub carousels : List Carousel
   pub capacity : ℕ
@@ -40,7 +46,11 @@ CarouselRepresents d h t None None = ⊤
 -- a multiplexer represents a history
 pub record Represents (h : History) (m : MuxState) : Type 0 where
   pub written : m.slots ≡ h.slots
-  pub unchanged : h.changes ≡ []
+  pub changes : ChangesFit m.schedule.description h.slots h.changes
+  pub texts : m.texts ≡ last_texts m.schedule.description h.changes
+  pub sent_size : length m.sent ≡ sub_table_count
+  pub sent : (x : ℕ) → x < sub_table_count →
+      slice_index_or m.sent x false ≡ began_since m.schedule h.changes x (since_of h.changes x) h.slots
   pub streams : (k : ℕ) → QueueRepresents m.schedule h m.capacity k (slice_get m.queues k) (slice_get m.schedule.description.streams k)
   pub tables : (t : ℕ) → CarouselRepresents m.schedule h t (slice_get m.carousels t) (slice_get (table_kinds m.schedule.description) t)
 
@@ -73,3 +83,19 @@ pub record Takes (h : History) (old : MuxState) (k : ℕ) (u : AccessUnit) (refu
 -- the units of a stream that are not sent whole
 abbrev pub waiting_of : Scheduled → History → ℕ → Option ℕ
 waiting_of d h k = option_map (λ s. length (left_before (owned_stream d k s) h.slots (h.units k)).units) (slice_get d.description.streams k)
+
+-- why a multiplexer refuses texts: the answer of a change of texts
+abbrev pub text_refusal : Result (Unit {0}) TextFault → Option TextFault
+text_refusal (Ok x) = None
+text_refusal (Err fault) = Some fault
+
+-- the effect of a change of texts
+pub record Changes (h : History) (old : MuxState) (texts : Described) (refused : Option TextFault) (new : MuxState) : Type 0 where
+  -- the answer is the first fault
+  pub first : refused ≡ text_cause old.schedule h texts
+  -- accepted texts are in force from the next slot on
+  pub represents : refused ≡ None → Represents (with_change h (next_change old.schedule h texts)) new
+  -- the bytes written before do not change
+  pub before : refused ≡ None → bytes_of old.schedule (with_change h (next_change old.schedule h texts)) ≡ bytes_of old.schedule h
+  pub same_schedule : new.schedule ≡ old.schedule
+  pub same_capacity : new.capacity ≡ old.capacity

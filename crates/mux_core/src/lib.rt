@@ -1,6 +1,7 @@
 //! The multiplexer: units of each stream in, the packets of a checked plan out, and what the finished bytes keep.
 //!
 //! `specs/Histories` says what each slot carries, from the units that were accepted and the schedule alone,
+//! `specs/TextChanges` how the texts of the tables change in between and `specs/TextLaws` what that leaves as it is,
 //! `specs/MuxStates` which history a multiplexer represents, `specs/Headline` the promises about the finished bytes,
 //! `specs/MeasuredRuns` what measuring them finds, `specs/DecodedRuns` what a decoder gets of them, in the words of
 //! `specs/Decoder`, and `specs/SlotSteps` one slot and one unit of the state. `specs/WholeJobs` says what a whole job
@@ -32,8 +33,10 @@ mod output;
 mod pid_packets;
 mod refusals;
 mod slot_packets;
+mod texts_in_force;
 
 pub use carrying::{CarryError, carry};
+pub use changed_texts::TextFault;
 pub use done::{Done, NewError};
 pub use multiplexer::Mux;
 pub use multiplexing::{MuxError, multiplex, multiplex_as, multiplex_switch, multiplex_switch_as};

@@ -13,6 +13,7 @@ ghost use Rattle.mux_core.specs.NewMux.{first_queue, first_carousel, first_carou
 use crate::checked_schedule::CheckedSchedule;
 use crate::done::NewError;
 use crate::multiplexer::{MAX_SLOTS, Mux};
+use crate::texts_in_force::TextsInForce;
 use plan_checker::CheckedPlan;
 use slot_plan::{Description, StreamDescription};
 use std::alloc::{AllocError, Allocator};
@@ -104,6 +105,10 @@ fn begun<A: Allocator>(
 {
     Mux {
         schedule,
+        texts: TextsInForce {
+            changed: None,
+            sent: [false; 131],
+        },
         queues,
         carousels,
         capacity,

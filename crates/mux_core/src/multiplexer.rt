@@ -1,21 +1,27 @@
 //! The multiplexer: units in, packets out, in any interleaving.
 
-ghost use Rattle.std.specs.Prelude.{◌≡◌, ◌<◌, ◌^◌, suc, OnOk, OnErr, IfErr, option_map, slice_get, length};
+ghost use Rattle.std.specs.Prelude.{◌≡◌, ◌<◌, ◌^◌, ℕ, false, slice_index_or, suc, OnOk, OnErr, IfErr, option_map, slice_get, length};
 ghost use Rattle.slot_contents.specs.Contents.{packet_of};
 ghost use Rattle.slot_plan.specs.Schedule.{slot_of};
 ghost use Rattle.unit_queue.specs.Causes.{refusal};
 ghost use Rattle.mux_core.specs.Histories.{History, bytes_of, next_slot};
-ghost use Rattle.mux_core.specs.MuxStates.{Represents, Gives, Takes, waiting_of};
+ghost use Rattle.description.specs.SubTables.{sub_table_count};
+ghost use Rattle.changed_texts.specs.TextFaults.{text_fault};
+ghost use Rattle.changed_texts.specs.Versions.{changed, next_texts};
+ghost use Rattle.mux_core.specs.TextChanges.{text_cause, events_table};
+ghost use Rattle.mux_core.specs.MuxStates.{Represents, Gives, Takes, Changes, text_refusal, waiting_of};
 ghost use Rattle.mux_core.specs.Headline.{HeadlineOver};
-ghost use Rattle.mux_core.specs.SlotSteps.{sends, after, queue_cause, queues_with};
+ghost use Rattle.mux_core.specs.SlotSteps.{sends, after, queue_cause, queues_with, with_texts, moment_of_events};
 ghost use Rattle.description_parts.specs.Ranges.{IsInRange};
 ghost use Rattle.slot_plan.specs.Promised.{Promised};
 
 use crate::checked_schedule::CheckedSchedule;
 use crate::done::Done;
 use crate::slot_packets::{write_null, write_program_pcr, write_stream, write_table};
+use crate::texts_in_force::TextsInForce;
+use changed_texts::{TextFault, changed, next_texts, text_fault};
 use pes_packet::Unit;
-use slot_plan::Slot;
+use slot_plan::{Description, Slot};
 use std::alloc::{Allocator, Global};
 use std::marker::Model;
 use table_rounds::TableCarousel;
@@ -29,6 +35,7 @@ pub(crate) const MAX_SLOTS: u64 = 1 << 40;
 #[derive(Drop)]
 pub struct Mux<A: Allocator = Global> {
     pub(crate) schedule: CheckedSchedule<A>,
+    pub(crate) texts: TextsInForce,
     pub(crate) queues: Vec<UnitQueue<A>, A>,
     pub(crate) carousels: Vec<TableCarousel, A>,
     pub(crate) capacity: usize,
@@ -39,11 +46,14 @@ impl<A: Allocator> Model for Mux<A> {
     ghost use Rattle.description_parts.specs.Ranges.{IsInRange};
     ghost use Rattle.slot_plan.specs.Promised.{Promised};
     ghost use Rattle.mux_core.specs.MuxStates.{MuxState};
+    ghost use Rattle.mux_core.specs.SlotSteps.{texts_in};
 
     ghost Value = { MuxState };
 
     ghost view = { λ m. record {
       schedule = m.schedule;
+      texts = texts_in m.texts.changed m.schedule.description;
+      sent = m.texts.sent;
       queues = m.queues.items;
       carousels = m.carousels.items;
       capacity = m.capacity;
@@ -70,6 +80,16 @@ fn feed_stream<A: Allocator>(
         return Err((FeedError::UnknownStream, unit));
     };
     queue.feed(slots, unit)
+}
+
+// Returns the number of the EIT, if there is one: after PAT, PMTs, NIT and SDT.
+fn events_table(description: &Description) -> usize
+    ensures { result ≡ events_table description.now }
+{
+    description.keeps_ranges();
+    1 + description.programs().len()
+        + description.network().is_some() as usize
+        + description.has_sdt() as usize
 }
 
 impl<A: Allocator> Mux<A> {
@@ -118,6 +138,7 @@ impl<A: Allocator> Mux<A> {
             Slot::Pcr(p) => write_program_pcr(self.schedule.description(), p, slot, packet),
             Slot::Table(t) => write_table(
                 &mut self.carousels,
+                &mut self.texts,
                 self.schedule.description(),
                 t,
                 slot,
@@ -134,6 +155,96 @@ impl<A: Allocator> Mux<A> {
         ensures handed_back { IfErr result (λ e. (e.1 ≡ unit) × (self.new ≡ self.old)) }
     {
         feed_stream(&mut self.queues, stream, self.slots, unit)
+    }
+
+    /// Returns the texts in force: the description, or what took its place.
+    pub fn texts(&self) -> &Description
+        ensures { result.now ≡ self.now.texts }
+    {
+        self.texts.texts(self.schedule.description())
+    }
+
+    /// Returns why a description may not take the place of the texts in force; None if it may.
+    pub fn text_fault(&self, texts: &Description) -> Option<TextFault>
+        ensures { (h : History) → Represents h self.now → result ≡ text_cause self.now.schedule h texts.now }
+    {
+        self.fault_of_texts(texts)
+    }
+
+    fn fault_of_texts(&self, texts: &Description) -> Option<TextFault>
+        ensures { result ≡ text_fault self.now.schedule.description self.now.texts texts.now }
+    {
+        text_fault(self.schedule.description(), self.texts(), texts)
+    }
+
+    /// Puts other texts in force from the next slot on: each section that begins from there on is as they have it, and
+    /// one under way ends as it began. Refused texts change nothing.
+    pub fn change_texts(&mut self, texts: Description) -> Result<(), TextFault>
+        ensures changes { (h : History) → Represents h self.old →
+            Changes h self.old texts (text_refusal result) self.new }
+        ensures refused { OnErr result (self.new ≡ self.old) }
+    {
+        changed_texts::laws::texts();
+        changed_texts::laws::next_texts();
+        texts.keeps_ranges();
+        self.exchange_texts(texts)
+    }
+
+    // Puts other texts in force, or names their fault.
+    fn exchange_texts(&mut self, texts: Description) -> Result<(), TextFault>
+        ensures fault { text_refusal result ≡ text_fault self.old.schedule.description self.old.texts texts }
+        ensures taken { OnOk result (self.new ≡ with_texts self.old texts) }
+        ensures refused { OnErr result (self.new ≡ self.old) }
+    {
+        match self.fault_of_texts(&texts) {
+            Some(fault) => Err(fault),
+            None => {
+                self.take_texts(texts);
+                Ok(())
+            }
+        }
+    }
+
+    // Puts texts without a fault in force: each sub-table that changes has another version, if a section of the version
+    // before was sent.
+    fn take_texts(&mut self, texts: Description)
+        ensures { self.new ≡ with_texts self.old texts }
+    {
+        let changes = self.changes_to(&texts);
+        let next = self.numbered(texts);
+        self.texts.put(next, &changes);
+    }
+
+    // Returns which sub-tables change.
+    fn changes_to(&self, texts: &Description) -> [bool; 131]
+        ensures { (n : ℕ) → n < sub_table_count →
+            slice_index_or result n false ≡ changed self.now.texts texts.now (moment_of_events self.now) n }
+    {
+        changed(self.texts(), texts, self.moment_of_events())
+    }
+
+    // Returns the texts with the versions that their sub-tables have next.
+    fn numbered(&self, texts: Description) -> Description
+        ensures { result ≡ next_texts self.now.texts texts (moment_of_events self.now)
+            (λ n. slice_index_or self.now.sent n false) }
+    {
+        next_texts(
+            self.texts(),
+            texts,
+            self.moment_of_events(),
+            &self.texts.sent,
+        )
+    }
+
+    // Returns the moment for which the EIT shows its events, if there is one.
+    fn moment_of_events(&self) -> u64
+        ensures { result ≡ moment_of_events self.now }
+    {
+        let description = self.schedule.description();
+        match self.carousels.get(events_table(description)) {
+            None => description.start(),
+            Some(carousel) => carousel.moment(),
+        }
     }
 
     /// Returns the number of slots written.

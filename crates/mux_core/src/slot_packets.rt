@@ -6,9 +6,10 @@ ghost use Rattle.description_parts.specs.Ranges.{IsInRange};
 ghost use Rattle.slot_plan.specs.SlotPids.{slot_pid};
 ghost use Rattle.slot_plan.specs.declared.slot.Slot.TheVariants.{Pcr as PcrSlot};
 ghost use Rattle.mux_core.specs.Histories.{pcr_content};
-ghost use Rattle.mux_core.specs.SlotSteps.{section_bytes, queue_sends, queues_after, carousel_sends, carousels_after};
+ghost use Rattle.mux_core.specs.SlotSteps.{section_bytes, queue_sends, queues_after, carousel_sends, carousels_after, sent_after, texts_in};
 
 use crate::described_sections::DescribedSections;
+use crate::texts_in_force::TextsInForce;
 use clock27::Pcr;
 use slot_plan::Description;
 use std::alloc::Allocator;
@@ -36,25 +37,32 @@ pub(crate) fn write_stream<A: Allocator>(
 /// Writes the next packet of a table, from its carousel. It stays a call of its own: otherwise every slot would
 /// prepare the stack that a section's text needs.
 #[inline(never)]
-#[tactic(auto, unfolding(crate::specs::SlotSteps::carousel_sends, crate::specs::SlotSteps::carousels_after))]
+#[tactic(auto, unfolding(crate::specs::SlotSteps::carousel_sends, crate::specs::SlotSteps::carousels_after, crate::specs::SlotSteps::sent_after))]
 pub(crate) fn write_table<A: Allocator>(
     carousels: &mut Vec<TableCarousel, A>,
+    texts: &mut TextsInForce,
     description: &Description,
     t: u8,
     slot: u64,
     packet: &mut [u8; 188],
 )
     requires { slot < 2 ^ 40 }
-    ensures packet { packet.new ≡ packet_of (carousel_sends (section_bytes description.now t) slot
+    ensures packet { packet.new ≡ packet_of
+        (carousel_sends (section_bytes (texts_in texts.old.changed description.now) t) slot
         (slice_get carousels.old.items t)) }
     ensures carousels { carousels.new.items ≡ carousels_after
-        (section_bytes description.now t) slot carousels.old.items t (slice_get carousels.old.items t) }
+        (section_bytes (texts_in texts.old.changed description.now) t) slot
+        carousels.old.items t (slice_get carousels.old.items t) }
+    ensures sent { texts.new.sent ≡ sent_after (texts_in texts.old.changed description.now) t
+        texts.old.sent (slice_get carousels.old.items t) }
+    ensures texts { texts.new.changed ≡ texts.old.changed }
 {
     let Some(carousel) = carousels.get_mut(t as usize) else {
         return write_null(packet);
     };
+    texts.mark(description, t as usize, carousel.next_section());
     let sections = DescribedSections {
-        description,
+        description: texts.texts(description),
         table: t as usize,
     };
     carousel.write_next(&sections, slot, packet);

@@ -1,5 +1,6 @@
 use Rattle.unit_queue.specs.Causes.{refusal}
 use Rattle.mux_core.specs.MuxStates.{MuxState}
+use Rattle.mux_core.specs.SlotSteps.{texts_in}
 use Rattle.mux_core.proofs.FedUnits.{takes}
 use Rattle.mux_core.proofs.KnownRanges.{parameters_known}
 use Rattle.mux_core.proofs.MuxStates.{feed_laws, feeds, with_queues}
@@ -9,6 +10,8 @@ pub returns-clause-takes : goal.returns-clause-takes
 returns-clause-takes g c =
     let old : MuxState = record {
       schedule = c.self.inside.schedule;
+      texts = texts_in c.self.inside.texts.changed c.self.inside.schedule.description;
+      sent = c.self.inside.texts.sent;
       queues = c.self.inside.queues.items;
       carousels = c.self.inside.carousels.items;
       capacity = c.self.inside.capacity;

@@ -1,0 +1,14 @@
+use Rattle.mux_core.proofs.TakenTexts.{texts_taken, cause_is}
+use Rattle.mux_core.proofs.MuxStates.{gives}
+use Rattle.mux_core.proofs.FirstStates.{begins}
+use Rattle.mux_core.proofs.TextLaws.{others_untouched, same_table, whole_sections}
+use Rattle.mux_core.proofs.laws.texts.Goals as goal
+
+pub returns-clause-others : goal.returns-clause-others
+returns-clause-others c = others_untouched
+
+pub returns-clause-same : goal.returns-clause-same
+returns-clause-same c = same_table
+
+pub returns-clause-whole : goal.returns-clause-whole
+returns-clause-whole c = whole_sections
