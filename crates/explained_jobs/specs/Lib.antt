@@ -1,3 +1,4 @@
 pub mod UnitWords
 pub mod JobWords
 pub mod FaultLines
+pub mod TextWords
