@@ -1,12 +1,5 @@
 -- The results of the readers of a description and a plan, in the terms of a job
-use Rattle.std.proofs.Common.{◌≡◌, ℕ, ◌-◌, Bool, true, false, List, length, take, drop, sym, ap, ◌∙◌, Ok, Err}
-use Rattle.std.specs.Prelude.{if◌then◌else◌}
-use Rattle.std.specs.Str.{IsUtf8, is_utf8}
-use Rattle.std.proofs.lemmas.Str.{IsUtf8-from_is_utf8, is_utf8-from_IsUtf8}
-use Rattle.toml.specs.Parse.{parse_document}
-use Rattle.description.specs.Reading.{description_of}
-use Rattle.description_keys.specs.declared.fault.DescFault.TheVariants as fault
-use Rattle.description_keys.specs.declared.fault.DescError.TheVariants as refused_by
+use Rattle.std.proofs.Common.{◌≡◌, ℕ, ◌-◌, List, length, take, drop, ap, ◌∙◌, Ok, Err}
 use Rattle.slot_plan.specs.Planned.{Planned}
 use Rattle.slot_plan.specs.PlanTexts.{Refuses, BeginsWithPlan}
 use Rattle.slot_plan.specs.declared.reader.PlanTextError.{PlanTextError}
@@ -14,23 +7,7 @@ use Rattle.slot_plan.specs.declared.reader.PlanTextError.TheVariants as bad_text
 use Rattle.slot_plan.specs.Readers.{plan_at}
 use Rattle.slot_plan.proofs.TextPlans.{plan-complete}
 use Rattle.std.proofs.lemmas.List.{take_rest}
-use Rattle.checked_jobs.specs.Jobs.{NamesLine, described, planned}
-
--- A text that is UTF-8 is read as a description.
-pub described_text : (bytes text : List ℕ) → text ≡ bytes → IsUtf8 bytes → description_of (parse_document text) ≡ described bytes
-unfolding described
-described_text bytes text e u = ap (λ (x : List ℕ). description_of (parse_document x)) e
-    ∙ sym (ap (λ (b : Bool). if b then description_of (parse_document bytes) else Err (refused_by.Refused fault.Text)) (is_utf8-from_IsUtf8 bytes u))
-
-not_utf8 : (bytes : List ℕ) (b : Bool) → is_utf8 bytes ≡ b → ¬ (IsUtf8 bytes) → b ≡ false
-not_utf8 bytes true e n = absurd (n (IsUtf8-from_is_utf8 bytes e))
-not_utf8 bytes false e n = cc
-
-pub no_text : (bytes : List ℕ) → ¬ (IsUtf8 bytes) → Err (refused_by.Refused fault.Text) ≡ described bytes
-unfolding described
-no_text bytes n =
-    sym (ap (λ (b : Bool). if b then description_of (parse_document bytes) else Err (refused_by.Refused fault.Text))
-    (not_utf8 bytes (is_utf8 bytes) (let same : is_utf8 bytes ≡ is_utf8 bytes = cc in same) n))
+use Rattle.checked_jobs.specs.Jobs.{NamesLine, planned}
 
 pub planned_front : (text : List ℕ) (plan : Planned) (size : ℕ) → BeginsWithPlan text plan size → planned text ≡ Ok (plan, drop size text)
 unfolding planned

@@ -2,10 +2,8 @@
 use Rattle.std.specs.Prelude.{◌≡◌, ◌+◌, ◌==◌, ◌&&◌, ℕ, Bool, true, false, List, [], ◌∷◌, take, drop, Option, Some, None, Result, Ok, Err, codes, nat_eq}
 use Rattle.std.specs.Prelude.{if◌then◌else◌, option_map, ⊤}
 use Rattle.std.specs.List.{starts_with}
-use Rattle.std.specs.Str.{is_utf8}
-use Rattle.toml.specs.Parse.{parse_document}
 use Rattle.description_parts.specs.Described.{Described}
-use Rattle.description.specs.Reading.{description_of}
+use Rattle.changed_texts.specs.Reading.{description_in}
 use Rattle.description_keys.specs.declared.fault.DescFault.{DescFault}
 use Rattle.description_keys.specs.declared.fault.DescFault.TheVariants as fault
 use Rattle.description_keys.specs.declared.fault.DescError.{DescError}
@@ -35,9 +33,9 @@ parts_of xs = option_map (λ i. (take i xs, drop i xs)) (plan_offset 0 true xs)
 
 -- 2. What the parts are
 
--- the description; bytes that are no UTF-8 are no TOML
-unfoldable pub described : List ℕ → Result Described DescError
-described bytes = if is_utf8 bytes then description_of (parse_document bytes) else Err (refused_by.Refused fault.Text)
+-- the description
+abbrev pub described : List ℕ → Result Described DescError
+described bytes = description_in bytes
 
 -- the plan at the front of a text, and the bytes after it; or the first bad line
 unfoldable pub planned : List ℕ → Result (Planned × List ℕ) ℕ

@@ -9,11 +9,10 @@ ghost use Rattle.checked_jobs.specs.Jobs.{with_plan, with_second};
 use crate::job_fault::{JobFault, JobReadError};
 use crate::job_parts::parts_of;
 use description::Description;
-use description_keys::{DescError, DescFault};
+use description_keys::DescError;
 use plan_checker::{CheckedPlan, Refusal, check};
 use slot_plan::{Plan, PlanTextError};
 use std::alloc::Global;
-use std::str;
 use switch_checker::{CheckedSwitch, check_switch};
 
 /// The plans of a job.
@@ -36,10 +35,7 @@ pub struct CheckedJob<'a> {
 pub fn read_description(alloc: Global, bytes: &[u8]) -> Result<Description, DescError>
     ensures { (result ≡ Err DescError.Memory) ⊎ (result ≡ described bytes.now) }
 {
-    match str::from_utf8(bytes) {
-        Ok(text) => Description::read(alloc, text),
-        Err(_) => Err(DescError::Refused(DescFault::Text)),
-    }
+    changed_texts::read_description(alloc, bytes)
 }
 
 /// Returns the plan at the front of a text, and the bytes after it.

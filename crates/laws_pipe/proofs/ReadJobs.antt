@@ -11,6 +11,7 @@ use Rattle.description_parts.specs.Consistency.{joint_fault}
 use Rattle.description_parts.specs.Contents.{described as described_by}
 use Rattle.description_parts.specs.Described.{Described}
 use Rattle.description_parts.specs.Ranges.{IsInRange}
+use Rattle.changed_texts.specs.Reading.{description_in}
 use Rattle.description.specs.Reading.{description_of, fault, read_document}
 use Rattle.description_keys.specs.Refusals.{key_fault}
 use Rattle.description_parts.specs.Tables.{has_events_table, only_if, service_tables, table_count}
@@ -123,7 +124,7 @@ cut text rest p passes =
     ap (option_map (cut_at ((text ++ plan_text p) ++ rest))) (place text rest p passes) ∙ ap₂ both_parts front back
 
 described_again : (d : Described) (text : List ℕ) → IsUtf8 text → IsText d text → described text ≡ Ok d
-unfolding described
+unfolding description_in
 described_again d text utf8 is =
     ap (λ (b : Bool). if b then description_of (parse_document text) else Err (refused_by.Refused desc.Text)) (is_utf8-from_IsUtf8 text utf8) ∙ sym is
 
