@@ -1,48 +1,54 @@
 -- The state of a run after a record, and after the end
-use Rattle.std.proofs.Common.{◌≡◌, ℕ, ◌+◌, max, Bool, true, false, List, [], Option, Some, None, Result, refl, sym, ap, ◌∙◌, subst}
-use Rattle.std.specs.Prelude.{IfErr, OnOk}
+use Rattle.std.proofs.Common.{◌≡◌, ℕ, ◌+◌, max, Bool, true, false, cond, List, [], Option, Some, None, Result, Ok, refl, sym, ap, ◌∙◌, subst}
+use Rattle.std.specs.Prelude.{IfErr, OnOk, is_none}
 use Rattle.mux_core.specs.declared.output.OutputFault.{OutputFault}
+use Rattle.description_parts.specs.Described.{Described}
 use Rattle.description_parts.specs.Ranges.{IsInRange}
-use Rattle.slot_plan.specs.Promised.{Promised}
+use Rattle.description_keys.specs.declared.fault.DescError.{DescError}
+use Rattle.changed_texts.specs.Reading.{description_in}
 use Rattle.pes_packet.specs.AccessUnits.{AccessUnit}
 use Rattle.pes_packet.specs.Units.{units_of}
-use Rattle.slot_contents.specs.Contents.{run_bytes}
 use Rattle.mux_core.specs.Buffer.{waiting_of, Buffered, IsOutput, Took}
 use Rattle.mux_core.proofs.Written.{holds_none}
 use Rattle.mux_core.specs.Scheduled.{Scheduled}
-use Rattle.mux_core.specs.Headline.{Headline}
-use Rattle.mux_core.specs.Histories.{bytes_of, content_at, empty_history}
+use Rattle.mux_core.specs.Headline.{HeadlineOver, UnitsKept}
+use Rattle.mux_core.specs.Histories.{Change, bytes_of, empty_history}
 use Rattle.mux_core.specs.MuxStates.{MuxState}
-use Rattle.mux_core.specs.WholeJobs.{job_history, run_output, output_of}
-use Rattle.mux_core.proofs.Accepted.{any_state}
+use Rattle.mux_core.specs.WholeJobs.{run_output, output_of}
+use Rattle.mux_core.proofs.Accepted.{units_kept}
+use Rattle.mux_core.proofs.Whole.{headline_over}
 use Rattle.on_air.specs.declared.leap.Leap.{Leap}
 use Rattle.on_air.specs.declared.options.Terms.{Terms}
 use Rattle.on_air.specs.declared.refusals.AirRefusal.{AirRefusal}
-use Rattle.on_air.specs.declared.refusals.AirRefusal.TheVariants.{Feed, Ahead, Followed}
+use Rattle.on_air.specs.declared.refusals.AirRefusal.TheVariants.{Feed, Ahead, Followed, Texts}
 use Rattle.on_air.specs.declared.refusals.FarRecord.{FarRecord}
 use Rattle.on_air.specs.declared.refusals.RefusedUnit.{RefusedUnit}
-use Rattle.on_air.specs.Airing.{Run, Air, silence, job_of, air_output, lead_of, limit_of, settled, settled_at, last_of, last_at, on_to, air_cause, accepted_by}
-use Rattle.on_air.specs.Airing.{far_record, greatest_by, is_far_from, caught_up, judged, judged_by, leap_by, leap_left, slots_followed, with_count}
+use Rattle.on_air.specs.declared.refusals.TextsRefusal.{TextsRefusal}
+use Rattle.on_air.specs.Airing.{Run, Air, silence, history_by, job_of, air_output, lead_of, limit_of, settled, settled_at, last_of, last_at, on_to, air_cause}
+use Rattle.on_air.specs.Airing.{accepted_by, brings_texts, far_record, greatest_by, is_far_from, caught_up, changed, judged, judged_by, leap_by, leap_left}
+use Rattle.on_air.specs.Airing.{slots_followed, taken, with_count, with_read, with_texts}
 use Rattle.on_air.specs.Leaps.{is_far, is_followed, leap_with, no_leap}
 use Rattle.on_air.specs.AirStates.{AirState, Carries, with_slots, WroteOn, Promises, Admits, IsOnAir, run_with}
 use Rattle.on_air.specs.Hearing.{Fails}
 
--- If a multiplexer carries these units, the bytes of any number of slots keep every promise.
-keeps : (run : Run) (units : List (ℕ × AccessUnit)) (n slots : ℕ) (m : MuxState) → Promises run.scheduled → Carries run (job_history units n) m →
-    Headline run.scheduled (λ k. units_of k units) slots (bytes_of run.scheduled (job_history units slots))
-keeps run units n slots m promises c =
-    subst (λ (d : Scheduled). Headline d (λ k. units_of k units) slots (run_bytes (content_at d (λ k. units_of k units)) 0 slots)) c.scheduled
-    (any_state (job_history units n) m slots (subst (λ (d : Scheduled). IsInRange d.description) (sym c.scheduled) promises.ranges)
-    (subst (λ (d : Scheduled). Promised d.description d.schedule) (sym c.scheduled) promises.promised) c.represents)
+-- If a multiplexer carries these units, the bytes of any number of slots keep every promise, whatever texts change.
+pub keeps : (run : Run) (units : List (ℕ × AccessUnit)) (so_far changes : List Change) (n slots : ℕ) (m : MuxState) → Promises run.scheduled →
+    Carries run (history_by units n so_far) m →
+    HeadlineOver run.scheduled changes (λ k. units_of k units) slots (bytes_of run.scheduled (history_by units slots changes))
+keeps run units so_far changes n slots m promises c =
+    headline_over run.scheduled changes (λ k. units_of k units) slots promises.ranges promises.promised
+    (subst (λ (d : Scheduled). UnitsKept d (λ k. units_of k units)) c.scheduled
+    (units_kept (history_by units n so_far) m (subst (λ (d : Scheduled). IsInRange d.description) (sym c.scheduled) promises.ranges) c.represents))
 
 -- Two states that differ only in the fields that a record may change
 pub record Moves (old new : AirState) : Type 0 where
   pub terms : new.terms ≡ old.terms
   pub rate : new.rate ≡ old.rate
   pub lead : new.lead ≡ old.lead
+  pub one_plan : new.one_plan ≡ old.one_plan
 
 -- The state after a record is refused
-refused_by : (run : Run) (a : Air) (entry : ℕ × AccessUnit) (cause : AirRefusal) (start now : Option (List ℕ)) (old new : AirState) →
+pub refused_by : (run : Run) (a : Air) (entry : ℕ × AccessUnit) (cause : AirRefusal) (start now : Option (List ℕ)) (old new : AirState) →
     IsOnAir run a start now old → Moves old new →
     new.packets ≡ old.packets → new.greatest ≡ greatest_by a cause → new.leap ≡ leap_left run a entry cause → new.records ≡ old.records + 1 →
     Carries run (job_of a) new.mux →
@@ -58,6 +64,7 @@ refused_by run a entry cause start now old new h moves packets greatest leap rec
   greatest = greatest;
   leap = leap;
   records = records ∙ ap (λ (n : ℕ). n + 1) h.records;
+  one_plan = moves.one_plan ∙ h.one_plan;
   output = subst (λ (p : Buffered). IsOutput start now p (air_output run a)) (sym packets) h.output;
   headline = h.headline;
 }
@@ -135,6 +142,7 @@ admitted a entry = record {
   leap = no_leap;
   records = a.records + 1;
   refused = a.refused;
+  changes = a.changes;
 }
 
 pub admitted_on : (run : Run) (a : Air) (entry : ℕ × AccessUnit) (start now : Option (List ℕ)) (old new : AirState) → IsOnAir run a start now old →
@@ -153,32 +161,52 @@ admitted_on run a entry start now old new h moves packets greatest leap records 
   greatest = greatest ∙ ap (λ (n : ℕ). max n entry.1.dts) h.greatest;
   leap = leap;
   records = records ∙ ap (λ (n : ℕ). n + 1) h.records;
+  one_plan = moves.one_plan ∙ h.one_plan;
   output = subst (λ (l : List ℕ). IsOutput start now new.packets l) (sym admits.before)
       (subst (λ (p : Buffered). IsOutput start now p (air_output run a)) (sym packets) h.output);
-  headline = keeps run (accepted_by a entry None) a.slots a.slots new.mux h.promises admits.mux;
+  headline = keeps run (accepted_by a entry None) a.changes a.changes a.slots a.slots new.mux h.promises admits.mux;
 }
+
+-- The progress after a unit or a tick is taken, and after texts are
+pub judged_unit : (run : Run) (a : Air) (entry : ℕ × AccessUnit) → air_cause run a entry ≡ None → brings_texts run entry ≡ false →
+    judged run a entry ≡ taken run a entry (accepted_by a entry None) a.changes
+unfolding judged_by
+judged_unit run a entry none unit =
+    ap (λ (o : Option AirRefusal). judged_by run a entry o) none
+    ∙ ap (λ (b : Bool). cond b (changed run a entry) (taken run a entry (accepted_by a entry None) a.changes)) unit
+
+pub judged_texts : (run : Run) (a : Air) (entry : ℕ × AccessUnit) (texts : Described) → air_cause run a entry ≡ None → brings_texts run entry ≡ true →
+    description_in entry.1.bytes ≡ Ok texts → judged run a entry ≡ with_texts run (taken run a entry a.accepted a.changes) texts
+unfolding judged_by
+judged_texts run a entry texts none brings is =
+    ap (λ (o : Option AirRefusal). judged_by run a entry o) none
+    ∙ ap (λ (b : Bool). cond b (changed run a entry) (taken run a entry (accepted_by a entry None) a.changes)) brings
+    ∙ ap (λ (r : Result Described DescError). with_read run (taken run a entry a.accepted a.changes) r) is
 
 -- The state after the settled slots are written
 pub taken_on : (run : Run) (a : Air) (entry : ℕ × AccessUnit) (due : ℕ) (start later : Option (List ℕ)) (m : MuxState) (new : AirState) →
-    Admits run a entry None m → due ≡ entry.1.dts →
+    Admits run a entry None m → brings_texts run entry ≡ false → due ≡ entry.1.dts →
     IsOnAir run (with_count (admitted a entry) (on_to (admitted a entry).slots (settled_at run due))) start later new →
-    (air_cause run a entry ≡ None) × IsOnAir run (judged run a entry) start later new
-unfolding admitted judged_by
-taken_on run a entry due start later m new admits is on = (
+    (air_cause run a entry ≡ None) × ((brings_texts run entry ≡ false) × IsOnAir run (judged run a entry) start later new)
+unfolding admitted
+taken_on run a entry due start later m new admits unit is on = (
   sym admits.cause,
-  subst (λ (o : Option AirRefusal). IsOnAir run (judged_by run a entry o) start later new) admits.cause
-      (subst (λ (n : ℕ). IsOnAir run (with_count (admitted a entry) (on_to (admitted a entry).slots (settled_at run n))) start later new) is on),
+  (
+    unit,
+    subst (λ (b : Air). IsOnAir run b start later new) (sym (judged_unit run a entry (sym admits.cause) unit))
+        (subst (λ (n : ℕ). IsOnAir run (with_count (admitted a entry) (on_to (admitted a entry).slots (settled_at run n))) start later new) is on),
+  ),
 )
 
 -- The writer fails while the settled slots are written.
 pub fails_on : (run : Run) (a : Air) (entry : ℕ × AccessUnit) (due sent : ℕ) (start later : Option (List ℕ)) (m : MuxState) → Admits run a entry None m →
-    due ≡ entry.1.dts →
+    brings_texts run entry ≡ false → due ≡ entry.1.dts →
     Fails run (with_count (admitted a entry) (on_to (admitted a entry).slots (settled_at run due))) start later sent →
     (air_cause run a entry ≡ None) × Fails run (judged run a entry) start later sent
-unfolding admitted judged_by
-fails_on run a entry due sent start later m admits is fails = (
+unfolding admitted
+fails_on run a entry due sent start later m admits unit is fails = (
   sym admits.cause,
-  subst (λ (o : Option AirRefusal). Fails run (judged_by run a entry o) start later sent) admits.cause
+  subst (λ (b : Air). Fails run b start later sent) (sym (judged_unit run a entry (sym admits.cause) unit))
       (subst (λ (n : ℕ). Fails run (with_count (admitted a entry) (on_to (admitted a entry).slots (settled_at run n))) start later sent) is fails),
 )
 
@@ -196,6 +224,7 @@ flushed run a start now later old new h moves mux hex greatest leap records outp
   greatest = greatest ∙ h.greatest;
   leap = leap ∙ h.leap;
   records = records ∙ h.records;
+  one_plan = moves.one_plan ∙ h.one_plan;
   output = output;
   headline = h.headline;
 }
@@ -229,9 +258,10 @@ counted_on run a target hex start now later old new h moves like greatest leap r
   greatest = greatest ∙ h.greatest;
   leap = leap ∙ h.leap;
   records = records ∙ h.records;
+  one_plan = moves.one_plan ∙ h.one_plan;
   output = subst (λ (b : Bool). IsOutput start later new.packets (output_of b run.scheduled (job_of (with_count a (on_to a.slots target))))) (like ∙ h.hex)
       wrote.output;
-  headline = keeps run a.accepted a.slots (on_to a.slots target) old.mux h.promises h.mux;
+  headline = keeps run a.accepted a.changes a.changes a.slots (on_to a.slots target) old.mux h.promises h.mux;
 }
 
 pub count_fails : (run : Run) (a : Air) (target sent : ℕ) (hex : Bool) (start now later : Option (List ℕ)) (old : AirState) → IsOnAir run a start now old →
@@ -239,7 +269,7 @@ pub count_fails : (run : Run) (a : Air) (target sent : ℕ) (hex : Bool) (start 
     Fails run (with_count a (on_to a.slots target)) start later sent
 count_fails run a target sent hex start now later old h like took = record {
   took = subst (λ (b : Bool). Took start later sent (output_of b run.scheduled (job_of (with_count a (on_to a.slots target))))) (like ∙ h.hex) took;
-  headline = keeps run a.accepted a.slots (on_to a.slots target) old.mux h.promises h.mux;
+  headline = keeps run a.accepted a.changes a.changes a.slots (on_to a.slots target) old.mux h.promises h.mux;
 }
 
 -- The same by the number of slots that the caller asked for
@@ -282,6 +312,12 @@ pub stays_fed : (run : Run) (a : Air) (refusal : AirRefusal) (unit : RefusedUnit
 unfolding slots_followed
 stays_fed run a refusal unit start now s is on = subst (λ (r : AirRefusal). IsOnAir run (caught_up run a (Some r)) start now s) (sym is) on
 
+pub stays_texts : (run : Run) (a : Air) (refusal : AirRefusal) (cause : TextsRefusal) (start now : Option (List ℕ)) (s : AirState) → refusal ≡ Texts cause →
+    IsOnAir run a start now s →
+    IsOnAir run (caught_up run a (Some refusal)) start now s
+unfolding slots_followed
+stays_texts run a refusal cause start now s is on = subst (λ (r : AirRefusal). IsOnAir run (caught_up run a (Some r)) start now s) (sym is) on
+
 -- ---- The numbers that the calls count with
 
 pub last_same : (run : Run) (a : Air) (start now : Option (List ℕ)) (old : AirState) (rate greatest : ℕ) (terms : Terms) → IsOnAir run a start now old →
@@ -318,9 +354,10 @@ pub begins : (d : Scheduled) (terms : Terms) (hex : Bool) (start : Option (List 
     Promises d →
     waiting_of s.packets ≡ [] → s.packets.sent ≡ 0 → s.packets.hex ≡ hex → s.terms ≡ terms → s.rate ≡ d.description.rate →
     s.lead ≡ lead_of (run_with d terms hex) →
-    s.greatest ≡ 0 → s.leap ≡ no_leap → s.records ≡ 0 → IsOnAir (run_with d terms hex) silence start start s
+    s.greatest ≡ 0 → s.leap ≡ no_leap → s.records ≡ 0 → s.one_plan ≡ is_none d.schedule.following →
+    IsOnAir (run_with d terms hex) silence start start s
 unfolding run_output
-begins d terms hex start s carries promises none unsent same t r l g leap n = record {
+begins d terms hex start s carries promises none unsent same t r l g leap n one = record {
   mux = carries;
   promises = promises;
   terms = t;
@@ -330,6 +367,7 @@ begins d terms hex start s carries promises none unsent same t r l g leap n = re
   greatest = g;
   leap = leap;
   records = n;
+  one_plan = one;
   output = holds_none start s.packets none unsent;
-  headline = keeps (run_with d terms hex) [] 0 0 s.mux promises carries;
+  headline = keeps (run_with d terms hex) [] [] [] 0 0 s.mux promises carries;
 }

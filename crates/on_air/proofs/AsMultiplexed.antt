@@ -1,6 +1,6 @@
 -- Units without any refusal are aired exactly as a whole job of them is multiplexed.
 use Rattle.std.proofs.Common.{◌≡◌, ℕ, zero, suc, ◌-◌, ◌*◌, ◌≤◌, ◌==◌, ◌&&◌, min, max, Bool, true, false, List, [], ◌∷◌, ◌++◌, length, Option, Some, None}
-use Rattle.std.proofs.Common.{Result, Ok, Err, refl, sym, ap, ◌∙◌, arith, inl, inr, append_assoc, append-nil}
+use Rattle.std.proofs.Common.{Result, Ok, Err, refl, sym, ap, ◌∙◌, subst, cond, arith, inl, inr, append_assoc, append-nil}
 use Rattle.std.specs.Prelude.{slice_get}
 use Rattle.std.proofs.Math.Nat.{mul-le-mul_right}
 use Rattle.std.proofs.lemmas.Bool.{ne_eqb, cases_lt}
@@ -16,13 +16,13 @@ use Rattle.unit_records.specs.Records.{record_at}
 use Rattle.unit_records.specs.declared.reading.UnitFileError.{UnitFileError}
 use Rattle.mux_core.specs.RecordRuns.{after_records}
 use Rattle.mux_core.specs.Scheduled.{Scheduled}
-use Rattle.mux_core.specs.Histories.{owned_stream}
+use Rattle.mux_core.specs.Histories.{Change, owned_stream}
 use Rattle.mux_core.specs.MuxStates.{feed_cause}
 use Rattle.mux_core.specs.WholeJobs.{job_history, output_of, or_cause, unit_refused, cause_after, first_refused}
 use Rattle.mux_core.specs.declared.multiplexing.MuxError.{MuxError}
 use Rattle.on_air.specs.declared.refusals.AirRefusal.{AirRefusal}
 use Rattle.on_air.specs.Airing.{Run, Air, silence, lead_of, settled_at, limit_of, last_by, last_at, on_to, is_tick, air_cause, accepted_by, caught_up}
-use Rattle.on_air.specs.Airing.{judged_by, slots_followed, with_record, heard, ended}
+use Rattle.on_air.specs.Airing.{brings_texts, changed, history_by, judged_by, slots_followed, taken, with_record, heard, ended}
 use Rattle.on_air.specs.Laws.{with_entry, records_of, greatest_of, AiredAsMultiplexed}
 
 -- ---- Slots of releases
@@ -123,6 +123,7 @@ pub record Taken (run : Run) (a : Air) (units : List (ℕ × AccessUnit)) : Type
   pub accepted : a.accepted ≡ units
   pub greatest : a.greatest ≡ greatest_of units
   pub slots : a.slots ≡ settled_at run (greatest_of units)
+  pub changes : a.changes ≡ []
 
 pub none_taken : (run : Run) → Taken run silence []
 none_taken run = record {
@@ -131,17 +132,21 @@ none_taken run = record {
   slots =
       let first : release run.scheduled.description.rate (lead_of run) 0 ≡ 0 = release_zero run.scheduled.description.rate (lead_of run) in
       omega (arith, first);
+  changes = refl;
 }
 
 pub taken_more : (run : Run) (a : Air) (units : List (ℕ × AccessUnit)) (entry : ℕ × AccessUnit) → Taken run a units → is_tick entry ≡ false →
-    Taken run (caught_up run (judged_by run a entry None) None) (units ++ (entry ∷ []))
+    brings_texts run entry ≡ false → Taken run (caught_up run (judged_by run a entry None) None) (units ++ (entry ∷ []))
 unfolding judged_by accepted_by slots_followed
-taken_more run a units entry so tick = record {
-  accepted = rw tick (ap (λ (l : List (ℕ × AccessUnit)). l ++ (entry ∷ [])) so.accepted);
-  greatest = ap (λ (g : ℕ). max g entry.1.dts) so.greatest ∙ sym (greatest_more units entry);
-  slots = ap (λ (n : ℕ). on_to n (settled_at run entry.1.dts)) so.slots ∙ more_settled run (greatest_of units) entry.1.dts
-      ∙ ap (λ (g : ℕ). settled_at run g) (sym (greatest_more units entry));
-}
+taken_more run a units entry so tick alone =
+    subst (λ (b : Bool). Taken run (caught_up run (cond b (changed run a entry) (taken run a entry (accepted_by a entry None) a.changes)) None)
+    (units ++ (entry ∷ []))) (sym alone) (record {
+      accepted = rw tick (ap (λ (l : List (ℕ × AccessUnit)). l ++ (entry ∷ [])) so.accepted);
+      greatest = ap (λ (g : ℕ). max g entry.1.dts) so.greatest ∙ sym (greatest_more units entry);
+      slots = ap (λ (n : ℕ). on_to n (settled_at run entry.1.dts)) so.slots ∙ more_settled run (greatest_of units) entry.1.dts
+          ∙ ap (λ (g : ℕ). settled_at run g) (sym (greatest_more units entry));
+      changes = so.changes;
+    })
 
 -- A unit that is multiplexed has bytes, so it is no tick.
 pub some_bytes : (d : Scheduled) (other : ℕ) (units : List (ℕ × AccessUnit)) (entry : ℕ × AccessUnit) → cause_after d other units entry ≡ None →
@@ -151,16 +156,27 @@ some_bytes d other units entry none =
     let own = own_facts _ _ _ entry.1 (or_none _ _ found.cause).0 in
     no_tick entry own.some
 
+-- It has a stream, so it brings no texts.
+pub own_stream_alone : (run : Run) (other : ℕ) (units : List (ℕ × AccessUnit)) (entry : ℕ × AccessUnit) → cause_after run.scheduled other units entry ≡ None →
+    brings_texts run entry ≡ false
+own_stream_alone run other units entry none =
+    let found = stream_of run.scheduled other units entry (slice_get run.scheduled.description.streams entry.0) none in
+    rw found.is refl
+
 not_empty : {V : Type 0} (xs : List V) (x : V) → xs ++ (x ∷ []) ≡ [] → ⊥
 not_empty [] x e = cc
 not_empty (y ∷ xs) x e = cc
 
+none_added : (run : Run) (a : Air) (entry : ℕ × AccessUnit) → brings_texts run entry ≡ false → (judged_by run a entry None).refused ≡ a.refused
+unfolding judged_by
+none_added run a entry alone = ap (λ (b : Bool). (cond b (changed run a entry) (taken run a entry (accepted_by a entry None) a.changes)).refused) alone
+
 -- A refusal remains in the list of refusals.
 taken_by : (run : Run) (a : Air) (units : List (ℕ × AccessUnit)) (entry : ℕ × AccessUnit) (cause : Option AirRefusal) → (a.refused ≡ [] → Taken run a units) →
-    is_tick entry ≡ false → (judged_by run a entry cause).refused ≡ [] → Taken run (caught_up run (judged_by run a entry cause) cause) (units ++ (entry ∷ []))
+    is_tick entry ≡ false → brings_texts run entry ≡ false → (judged_by run a entry cause).refused ≡ [] → Taken run (caught_up run (judged_by run a entry cause) cause) (units ++ (entry ∷ []))
 unfolding judged_by
-taken_by run a units entry None so tick none = taken_more run a units entry (so none) tick
-taken_by run a units entry (Some cause) so tick none = absurd (not_empty a.refused (a.records, cause) none)
+taken_by run a units entry None so tick alone none = taken_more run a units entry (so (sym (none_added run a entry alone) ∙ none)) tick alone
+taken_by run a units entry (Some cause) so tick alone none = absurd (not_empty a.refused (a.records, cause) none)
 
 taken_with : (run : Run) (a : Air) (other : ℕ) (units : List (ℕ × AccessUnit)) (found : Result (Option (ℕ × AccessUnit)) UnitFileError) →
     (first_refused run.scheduled other [] units ≡ None → a.refused ≡ [] → Taken run a units) →
@@ -171,7 +187,8 @@ taken_with run a other units (Err fault) so job none = so job none
 taken_with run a other units (Ok None) so job none = so job none
 taken_with run a other units (Ok (Some entry)) so job none =
     let last = last_taken run.scheduled other [] units entry job in
-    taken_by run a units entry (air_cause run a entry) (so last.0) (some_bytes run.scheduled other units entry last.1) none
+    taken_by run a units entry (air_cause run a entry) (so last.0) (some_bytes run.scheduled other units entry last.1)
+    (own_stream_alone run other units entry last.1) none
 
 all_taken : (run : Run) (other n : ℕ) (xs : List ℕ) → first_refused run.scheduled other [] (records_of n xs) ≡ None → (heard run n xs).refused ≡ [] →
     Taken run (heard run n xs) (records_of n xs)
@@ -197,5 +214,6 @@ aired_as_multiplexed run other n xs job none =
     let later = no_later run (greatest_of (records_of n xs)) (limit_of run.terms) run.terms.slots in
     let slots : on_to (heard run n xs).slots (last_at run (heard run n xs).greatest) ≡ last_at run (greatest_of (records_of n xs)) =
     omega (arith, last, later, so.slots) in
-    ap (λ (us : List (ℕ × AccessUnit)). output_of run.hex run.scheduled (job_history us (ended run (heard run n xs)).slots)) so.accepted
+    ap (λ (cs : List Change). output_of run.hex run.scheduled (history_by (heard run n xs).accepted (ended run (heard run n xs)).slots cs)) so.changes
+    ∙ ap (λ (us : List (ℕ × AccessUnit)). output_of run.hex run.scheduled (job_history us (ended run (heard run n xs)).slots)) so.accepted
     ∙ ap (λ (k : ℕ). output_of run.hex run.scheduled (job_history (records_of n xs) k)) slots

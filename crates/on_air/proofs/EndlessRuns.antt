@@ -1,34 +1,36 @@
 -- What was written, accepted and refused stays, whatever records come later.
 use Rattle.std.proofs.Common.{◌≡◌, ℕ, zero, suc, ◌+◌, ◌-◌, ◌≤◌, Bool, true, false, List, [], ◌∷◌, ◌++◌, Option, Some, None, Result, Ok, Err, refl, sym, ap}
-use Rattle.std.proofs.Common.{◌∙◌, subst, arith, append_assoc, append-nil}
+use Rattle.std.proofs.Common.{◌∙◌, subst, cond, arith, append_assoc, append-nil}
+use Rattle.std.specs.Prelude.{slice_get}
 use Rattle.pes_packet.specs.AccessUnits.{AccessUnit}
 use Rattle.pes_packet.specs.Units.{units_of}
 use Rattle.slot_contents.specs.Contents.{Content, packet_of}
 use Rattle.slot_contents.specs.RunLaws.{Fits}
 use Rattle.description_parts.specs.Ranges.{IsInRange}
+use Rattle.changed_texts.specs.Reading.{description_in}
 use Rattle.unit_records.specs.Records.{record_at}
 use Rattle.unit_records.specs.declared.reading.UnitFileError.{UnitFileError}
 use Rattle.mux_core.specs.RecordRuns.{after_records}
 use Rattle.mux_core.specs.Formats.{formatted}
 use Rattle.mux_core.specs.Scheduled.{Scheduled}
 use Rattle.mux_core.specs.Headline.{UnitsKept}
-use Rattle.mux_core.specs.Histories.{bytes_of, content_at}
-use Rattle.mux_core.specs.WholeJobs.{job_history, run_output, output_of}
+use Rattle.mux_core.specs.Histories.{Change, bytes_of, content_over}
+use Rattle.mux_core.specs.WholeJobs.{run_output, output_of}
 use Rattle.mux_core.proofs.FedUnits.{bytes_kept}
 use Rattle.mux_core.proofs.JobWriting.{output_more}
 use Rattle.mux_core.proofs.KnownRanges.{parameters_known}
 use Rattle.mux_core.proofs.MuxStates.{feed_laws}
-use Rattle.mux_core.proofs.Whole.{contents_fit, headline}
+use Rattle.mux_core.proofs.Whole.{contents_fit_over, headline_over}
 use Rattle.on_air.specs.declared.refusals.AirRefusal.{AirRefusal}
-use Rattle.on_air.specs.declared.refusals.AirRefusal.TheVariants.{Feed, Ahead, Followed}
-use Rattle.on_air.specs.Airing.{Run, Air, silence, job_of, air_output, is_tick, is_far_from, far_cause, unit_refusal, air_cause, accepted_by, judged_by}
-use Rattle.on_air.specs.Airing.{caught_up, slots_followed, aired, with_record, heard, ended, settled_at, last_at, on_to}
-use Rattle.on_air.specs.AirStates.{Promises}
+use Rattle.on_air.specs.declared.refusals.AirRefusal.TheVariants.{Feed, Ahead, Followed, Texts}
+use Rattle.on_air.specs.Airing.{Run, Air, silence, history_by, job_of, air_output, brings_texts, is_tick, unit_refusal, air_cause, accepted_by, judged_by}
+use Rattle.on_air.specs.Airing.{caught_up, changed, slots_followed, aired, taken, with_count, with_record, heard, ended, settled_at, last_at, on_to}
 use Rattle.on_air.specs.Laws.{with_entry, records_of}
 use Rattle.on_air.specs.EndlessRuns.{aired_from, aired_all, BeginsWith, StaysIn, EndlessRecords, EndlessInput}
-use Rattle.on_air.proofs.FedRecords.{joined, same_output}
+use Rattle.on_air.proofs.FedRecords.{joined, same_output, unit_cause_by}
 use Rattle.on_air.proofs.InOrder.{AllKept, kept_more}
-use Rattle.on_air.proofs.Near.{Steady, fed_none, steady_by, steady_first}
+use Rattle.on_air.proofs.Near.{Steady, fed_of, steady_by, steady_first}
+use Rattle.on_air.proofs.TextsOn.{read_output}
 
 -- ---- Lists that begin with other lists
 
@@ -56,9 +58,10 @@ slots_more hex content n (suc k) =
       is = ap (λ (m : ℕ). run_output hex content 0 m) next ∙ output_more hex content (n + k);
     })
 
-on_more : (run : Run) (units : List (ℕ × AccessUnit)) (slots target : ℕ) →
-    BeginsWith (output_of run.hex run.scheduled (job_history units (on_to slots target))) (output_of run.hex run.scheduled (job_history units slots))
-on_more run units slots target = slots_more run.hex (content_at run.scheduled (λ k. units_of k units)) slots (target - slots)
+on_more : (run : Run) (units : List (ℕ × AccessUnit)) (changes : List Change) (slots target : ℕ) →
+    BeginsWith (output_of run.hex run.scheduled (history_by units (on_to slots target) changes))
+    (output_of run.hex run.scheduled (history_by units slots changes))
+on_more run units changes slots target = slots_more run.hex (content_over run.scheduled changes (λ k. units_of k units)) slots (target - slots)
 
 on_later : (slots target : ℕ) → slots ≤ on_to slots target
 on_later slots target = omega arith
@@ -67,45 +70,74 @@ on_later slots target = omega arith
 units_within : (d : Scheduled) (units : List (ℕ × AccessUnit)) → IsInRange d.description → AllKept d units → UnitsKept d (λ k. units_of k units)
 units_within d units ranges kept = record { parameters = parameters_known d ranges; kept = kept }
 
-units_fit : (d : Scheduled) (units : List (ℕ × AccessUnit)) → IsInRange d.description → AllKept d units → Fits (content_at d (λ k. units_of k units))
-units_fit d units ranges kept = contents_fit d (λ k. units_of k units) ranges (units_within d units ranges kept)
+units_fit : (d : Scheduled) (changes : List Change) (units : List (ℕ × AccessUnit)) → IsInRange d.description → AllKept d units →
+    Fits (content_over d changes (λ k. units_of k units))
+units_fit d changes units ranges kept = contents_fit_over d changes (λ k. units_of k units) ranges (units_within d units ranges kept)
 
 unit_stays : (run : Run) (a : Air) (entry : ℕ × AccessUnit) → IsInRange run.scheduled.description → AllKept run.scheduled a.accepted →
     unit_refusal run a entry ≡ None →
-    output_of run.hex run.scheduled (job_history (a.accepted ++ (entry ∷ [])) a.slots) ≡ air_output run a
+    output_of run.hex run.scheduled (history_by (a.accepted ++ (entry ∷ [])) a.slots a.changes) ≡ air_output run a
 unit_stays run a entry ranges kept none =
-    same_output run.hex (content_at run.scheduled (λ k. units_of k (a.accepted ++ (entry ∷ [])))) (content_at run.scheduled (λ k. units_of k a.accepted)) 0 a.slots
-    (units_fit run.scheduled (a.accepted ++ (entry ∷ [])) ranges
+    same_output run.hex (content_over run.scheduled a.changes (λ k. units_of k (a.accepted ++ (entry ∷ []))))
+    (content_over run.scheduled a.changes (λ k. units_of k a.accepted)) 0 a.slots
+    (units_fit run.scheduled a.changes (a.accepted ++ (entry ∷ [])) ranges
     (kept_more run.scheduled a.slots run.capacity a.accepted entry ranges none kept))
-    (units_fit run.scheduled a.accepted ranges kept)
-    (ap (bytes_of run.scheduled) (sym (joined a entry)) ∙ bytes_kept feed_laws.later run.scheduled (job_of a) run.capacity entry.0 entry.1 none)
+    (units_fit run.scheduled a.changes a.accepted ranges kept)
+    (ap (bytes_of run.scheduled) (sym (joined a entry)) ∙ bytes_kept feed_laws.later run.scheduled (job_of a) run.capacity entry.0 entry.1
+    (unit_cause_by run a entry (slice_get run.scheduled.description.streams entry.0) ∙ none))
 
 -- ---- One record
 
-taken_stays : (run : Run) (a : Air) (entry : ℕ × AccessUnit) (tick : Bool) → is_tick entry ≡ tick → IsInRange run.scheduled.description →
-    air_cause run a entry ≡ None → AllKept run.scheduled a.accepted →
-    (output_of run.hex run.scheduled (job_history (accepted_by a entry None) a.slots) ≡ air_output run a) × BeginsWith (accepted_by a entry None) a.accepted
+taken_stays : (run : Run) (a : Air) (entry : ℕ × AccessUnit) (tick : Bool) → is_tick entry ≡ tick → brings_texts run entry ≡ false →
+    IsInRange run.scheduled.description → air_cause run a entry ≡ None → AllKept run.scheduled a.accepted →
+    (output_of run.hex run.scheduled (history_by (accepted_by a entry None) a.slots a.changes) ≡ air_output run a)
+    × BeginsWith (accepted_by a entry None) a.accepted
 unfolding accepted_by
-taken_stays run a entry true is ranges none kept = rw is (refl, begins_same a.accepted a.accepted refl)
-taken_stays run a entry false is ranges none kept =
-    let fed = fed_none (is_far_from run a entry) (is_tick entry) (far_cause run a entry) entry (unit_refusal run a entry) none is in
-    rw is (unit_stays run a entry ranges kept fed, record { more = entry ∷ []; is = refl })
+taken_stays run a entry true is alone ranges none kept = rw is (refl, begins_same a.accepted a.accepted refl)
+taken_stays run a entry false is alone ranges none kept =
+    rw is (unit_stays run a entry ranges kept (fed_of run a entry none is alone), record { more = entry ∷ []; is = refl })
+
+-- A unit, a tick or texts are taken.
+accepted_stays : (run : Run) (a : Air) (entry : ℕ × AccessUnit) (brings : Bool) → brings_texts run entry ≡ brings → IsInRange run.scheduled.description →
+    air_cause run a entry ≡ None → AllKept run.scheduled a.accepted →
+    StaysIn run a (cond brings (changed run a entry) (taken run a entry (accepted_by a entry None) a.changes))
+accepted_stays run a entry true brings ranges none kept = record {
+  output = begins_more (air_output run a) (air_output run (taken run a entry a.accepted a.changes)) (air_output run (changed run a entry))
+      (on_more run a.accepted a.changes a.slots (settled_at run entry.1.dts))
+      (begins_same (air_output run (taken run a entry a.accepted a.changes)) (air_output run (changed run a entry))
+      (read_output run (taken run a entry a.accepted a.changes) (description_in entry.1.bytes)));
+  accepted = begins_same a.accepted a.accepted refl;
+  refused = begins_same a.refused a.refused refl;
+  slots = on_later a.slots (settled_at run entry.1.dts);
+}
+accepted_stays run a entry false brings ranges none kept =
+    let units = taken_stays run a entry (is_tick entry) refl brings ranges none kept in
+    let before = output_of run.hex run.scheduled (history_by (accepted_by a entry None) a.slots a.changes) in
+    let after = output_of run.hex run.scheduled (history_by (accepted_by a entry None) (on_to a.slots (settled_at run entry.1.dts)) a.changes) in
+    record {
+      output = begins_more (air_output run a) before after (begins_same (air_output run a) before units.0)
+          (on_more run (accepted_by a entry None) a.changes a.slots (settled_at run entry.1.dts));
+      accepted = units.1;
+      refused = begins_same a.refused a.refused refl;
+      slots = on_later a.slots (settled_at run entry.1.dts);
+    }
+
+counted_stays : (run : Run) (a b : Air) → StaysIn run a b → StaysIn run a (with_count b b.slots)
+counted_stays run a b stays = record { output = stays.output; accepted = stays.accepted; refused = stays.refused; slots = stays.slots }
 
 stays_by : (run : Run) (a : Air) (entry : ℕ × AccessUnit) (cause : Option AirRefusal) → IsInRange run.scheduled.description → air_cause run a entry ≡ cause →
     AllKept run.scheduled a.accepted →
     StaysIn run a (caught_up run (judged_by run a entry cause) cause)
 unfolding judged_by slots_followed
 stays_by run a entry None ranges is kept =
-    let units = taken_stays run a entry (is_tick entry) refl ranges is kept in
-    let before = output_of run.hex run.scheduled (job_history (accepted_by a entry None) a.slots) in
-    let after = output_of run.hex run.scheduled (job_history (accepted_by a entry None) (on_to a.slots (settled_at run entry.1.dts))) in
-    record {
-      output = begins_more (air_output run a) before after (begins_same (air_output run a) before units.0)
-          (on_more run (accepted_by a entry None) a.slots (settled_at run entry.1.dts));
-      accepted = units.1;
-      refused = begins_same a.refused a.refused refl;
-      slots = on_later a.slots (settled_at run entry.1.dts);
-    }
+    counted_stays run a (cond (brings_texts run entry) (changed run a entry) (taken run a entry (accepted_by a entry None) a.changes))
+    (accepted_stays run a entry (brings_texts run entry) refl ranges is kept)
+stays_by run a entry (Some (Texts refusal)) ranges is kept = record {
+  output = begins_same (air_output run a) (air_output run a) refl;
+  accepted = begins_same a.accepted a.accepted refl;
+  refused = record { more = (a.records, Texts refusal) ∷ []; is = refl };
+  slots = omega arith;
+}
 stays_by run a entry (Some (Feed unit)) ranges is kept = record {
   output = begins_same (air_output run a) (air_output run a) refl;
   accepted = begins_same a.accepted a.accepted refl;
@@ -119,7 +151,7 @@ stays_by run a entry (Some (Ahead far)) ranges is kept = record {
   slots = omega arith;
 }
 stays_by run a entry (Some (Followed packet from to)) ranges is kept = record {
-  output = on_more run a.accepted a.slots (settled_at run to);
+  output = on_more run a.accepted a.changes a.slots (settled_at run to);
   accepted = begins_same a.accepted a.accepted refl;
   refused = record { more = (a.records, Followed packet from to) ∷ []; is = refl };
   slots = on_later a.slots (settled_at run to);
@@ -175,7 +207,7 @@ stays_all run entries more ranges =
 -- The end of an input adds slots alone.
 stays_ended : (run : Run) (a : Air) → StaysIn run a (ended run a)
 stays_ended run a = record {
-  output = on_more run a.accepted a.slots (last_at run a.greatest);
+  output = on_more run a.accepted a.changes a.slots (last_at run a.greatest);
   accepted = begins_same a.accepted a.accepted refl;
   refused = begins_same a.refused a.refused refl;
   slots = on_later a.slots (last_at run a.greatest);
@@ -186,7 +218,8 @@ endless_records run entries promises =
     let so = steady_from run silence entries promises.ranges (steady_first run) in
     record {
       slots = so.slots;
-      headline = headline run.scheduled (λ k. units_of k (aired_all run entries).accepted) (aired_all run entries).slots promises.ranges promises.promised
+      headline = headline_over run.scheduled (aired_all run entries).changes (λ k. units_of k (aired_all run entries).accepted) (aired_all run entries).slots
+          promises.ranges promises.promised
           (units_within run.scheduled (aired_all run entries).accepted promises.ranges so.kept);
       later = λ more. stays_all run entries more promises.ranges;
       last = λ more. stays_more run (aired_all run entries) (aired_all run (entries ++ more)) (ended run (aired_all run (entries ++ more)))

@@ -6,18 +6,20 @@ use Rattle.pes_packet.specs.AccessUnits.{AccessUnit}
 use Rattle.slot_contents.specs.Contents.{Content, packet_of, run_bytes}
 use Rattle.slot_contents.specs.RunLaws.{Fits}
 use Rattle.slot_contents.proofs.Runs.{content_again}
+use Rattle.description_parts.specs.Described.{DescribedStream}
 use Rattle.description_parts.specs.Ranges.{IsInRange}
 use Rattle.unit_queue.specs.declared.refusal.FeedError.{FeedError}
 use Rattle.mux_core.specs.Formats.{formatted}
 use Rattle.mux_core.specs.Scheduled.{Scheduled}
-use Rattle.mux_core.specs.Histories.{History, content_at, with_unit}
+use Rattle.mux_core.specs.Histories.{History, content_over, with_unit}
 use Rattle.mux_core.specs.MuxStates.{MuxState, Represents, Takes, feed_cause, refusal_of}
 use Rattle.mux_core.specs.WholeJobs.{job_history, run_output, output_of}
 use Rattle.mux_core.proofs.Accepted.{units_kept}
 use Rattle.mux_core.proofs.JobFeeding.{history_more}
-use Rattle.mux_core.proofs.Whole.{contents_fit}
+use Rattle.mux_core.proofs.Whole.{contents_fit_over}
 use Rattle.on_air.specs.declared.refusals.AirRefusal.TheVariants.{Feed}
-use Rattle.on_air.specs.Airing.{Run, Air, job_of, is_tick, is_far_from, unit_refusal, fed_refusal, refused_unit, air_cause, accepted_by}
+use Rattle.on_air.specs.Airing.{Run, Air, history_by, job_of, brings_texts, is_tick, is_far_from, unit_refusal, fed_refusal, refused_unit, air_cause}
+use Rattle.on_air.specs.Airing.{accepted_by}
 use Rattle.on_air.specs.AirStates.{Carries, Promises, Admits}
 
 -- Contents with the same bytes have the same output.
@@ -34,10 +36,10 @@ same_output hex f g s (suc n) ff gg e =
     ap (λ (l : List ℕ). formatted hex l ++ run_output hex f (suc s) n) heads
     ∙ ap (λ (l : List ℕ). formatted hex (packet_of (g s)) ++ l) (same_output hex f g (suc s) n ff gg tails)
 
-fits_of : (h : History) (m : MuxState) (d : Scheduled) → m.schedule ≡ d → IsInRange d.description → Represents h m → Fits (content_at d h.units)
+fits_of : (h : History) (m : MuxState) (d : Scheduled) → m.schedule ≡ d → IsInRange d.description → Represents h m → Fits (content_over d h.changes h.units)
 fits_of h m d same ranges st =
     let there = subst (λ (x : Scheduled). IsInRange x.description) (sym same) ranges in
-    subst (λ (x : Scheduled). Fits (content_at x h.units)) same (contents_fit m.schedule h.units there (units_kept h m there st))
+    subst (λ (x : Scheduled). Fits (content_over x h.changes h.units)) same (contents_fit_over m.schedule h.changes h.units there (units_kept h m there st))
 
 -- A further unit does not change the output that is already written.
 written_stays : (run : Run) (h : History) (old new : MuxState) (k : ℕ) (u : AccessUnit) → Carries run h old → Promises run.scheduled →
@@ -47,24 +49,33 @@ written_stays run h old new k u c promises takes =
     same_output run.hex _ _ 0 h.slots
     (fits_of (with_unit h k u) new run.scheduled (takes.same_schedule ∙ c.scheduled) promises.ranges (takes.represents refl))
     (fits_of h old run.scheduled c.scheduled promises.ranges c.represents)
-    (subst (λ (d : Scheduled). run_bytes (content_at d (with_unit h k u).units) 0 h.slots ≡ run_bytes (content_at d h.units) 0 h.slots) c.scheduled
+    (subst (λ (d : Scheduled). run_bytes (content_over d h.changes (with_unit h k u).units) 0 h.slots ≡ run_bytes (content_over d h.changes h.units) 0 h.slots)
+    c.scheduled
     (takes.before refl))
 
 -- The job with one more unit of a stream
-pub joined : (a : Air) (entry : ℕ × AccessUnit) → with_unit (job_of a) entry.0 entry.1 ≡ job_history (a.accepted ++ (entry ∷ [])) a.slots
-joined a entry = ap (λ (h : History). record { units = h.units; slots = a.slots }) (history_more a.accepted entry)
+pub joined : (a : Air) (entry : ℕ × AccessUnit) → with_unit (job_of a) entry.0 entry.1 ≡ history_by (a.accepted ++ (entry ∷ [])) a.slots a.changes
+joined a entry = ap (λ (h : History). record { units = h.units; changes = a.changes; slots = a.slots }) (history_more a.accepted entry)
 
 -- ---- The causes of refusal
+
+-- Changes of the texts refuse no unit.
+pub unit_cause_by : (run : Run) (a : Air) (entry : ℕ × AccessUnit) (s : Option DescribedStream) →
+    feed_cause run.scheduled run.capacity (job_of a) entry.0 entry.1 s ≡ feed_cause run.scheduled run.capacity (job_history a.accepted a.slots) entry.0 entry.1 s
+unfolding feed_cause
+unit_cause_by run a entry None = refl
+unit_cause_by run a entry (Some s) = refl
 
 cause_is : (run : Run) (a : Air) (old : MuxState) (entry : ℕ × AccessUnit) → Carries run (job_of a) old →
     refusal_of old (job_of a) entry.0 entry.1 ≡ unit_refusal run a entry
 cause_is run a old entry c =
     ap (λ (d : Scheduled). feed_cause d old.capacity (job_of a) entry.0 entry.1 (slice_get d.description.streams entry.0)) c.scheduled
     ∙ ap (λ (n : ℕ). feed_cause run.scheduled n (job_of a) entry.0 entry.1 (slice_get run.scheduled.description.streams entry.0)) c.capacity
+    ∙ unit_cause_by run a entry (slice_get run.scheduled.description.streams entry.0)
 
 fed_cause : (run : Run) (a : Air) (entry : ℕ × AccessUnit) (refused : Option FeedError) → is_far_from run a entry ≡ false → is_tick entry ≡ false →
-    refused ≡ unit_refusal run a entry → option_map (fed_refusal entry) refused ≡ air_cause run a entry
-fed_cause run a entry refused near unit is = rw (near, unit) (ap (option_map (fed_refusal entry)) is)
+    brings_texts run entry ≡ false → refused ≡ unit_refusal run a entry → option_map (fed_refusal entry) refused ≡ air_cause run a entry
+fed_cause run a entry refused near unit alone is = rw (near, unit, alone) (ap (option_map (fed_refusal entry)) is)
 
 -- ---- The state after a call
 
@@ -74,21 +85,21 @@ unfolding accepted_by
 ticked run a m entry c near tick = record { cause = rw (near, tick) refl; mux = rw tick c; before = rw tick refl }
 
 pub unfed : (run : Run) (a : Air) (old new : MuxState) (entry : ℕ × AccessUnit) (cause : FeedError) → Carries run (job_of a) old →
-    is_far_from run a entry ≡ false → is_tick entry ≡ false →
+    is_far_from run a entry ≡ false → is_tick entry ≡ false → brings_texts run entry ≡ false →
     Takes (job_of a) old entry.0 entry.1 (Some cause) new → new ≡ old → Admits run a entry (Some (Feed (refused_unit entry cause))) new
 unfolding accepted_by
-unfed run a old new entry cause c near unit takes same = record {
-  cause = fed_cause run a entry (Some cause) near unit (takes.first ∙ cause_is run a old entry c);
+unfed run a old new entry cause c near unit alone takes same = record {
+  cause = fed_cause run a entry (Some cause) near unit alone (takes.first ∙ cause_is run a old entry c);
   mux = subst (λ (m : MuxState). Carries run (job_of a) m) (sym same) c;
   before = refl;
 }
 
 pub fed : (run : Run) (a : Air) (old new : MuxState) (entry : ℕ × AccessUnit) → Carries run (job_of a) old → Promises run.scheduled →
-    is_far_from run a entry ≡ false → is_tick entry ≡ false →
+    is_far_from run a entry ≡ false → is_tick entry ≡ false → brings_texts run entry ≡ false →
     Takes (job_of a) old entry.0 entry.1 None new → Admits run a entry None new
 unfolding accepted_by
-fed run a old new entry c promises near unit takes = record {
-  cause = fed_cause run a entry None near unit (takes.first ∙ cause_is run a old entry c);
+fed run a old new entry c promises near unit alone takes = record {
+  cause = fed_cause run a entry None near unit alone (takes.first ∙ cause_is run a old entry c);
   mux = rw unit (record {
     represents = subst (λ (h : History). Represents h new) (joined a entry) (takes.represents refl);
     scheduled = takes.same_schedule ∙ c.scheduled;

@@ -1,6 +1,6 @@
 -- Units in order, with ticks among them, are all accepted.
 use Rattle.std.proofs.Common.{◌≡◌, ℕ, zero, suc, ◌+◌, ◌-◌, ◌*◌, ◌<◌, ◌≤◌, ◌==◌, min, max, Bool, true, false, List, [], ◌∷◌, ◌++◌, length, map, Option, Some}
-use Rattle.std.proofs.Common.{None, Result, Ok, Err, refl, sym, ap, ◌∙◌, subst, arith, All, inl, inr, append_assoc, append-nil}
+use Rattle.std.proofs.Common.{None, Result, Ok, Err, refl, sym, ap, ◌∙◌, subst, cond, arith, All, inl, inr, append_assoc, append-nil}
 use Rattle.std.specs.Prelude.{slice_get, fold, not}
 use Rattle.std.proofs.Math.Nat.{mul-le-mul_right, mul-le-mul_left}
 use Rattle.std.specs.Int.{div_ceil}
@@ -32,12 +32,14 @@ use Rattle.mux_core.proofs.KnownRanges.{parameters_known, stream_range}
 use Rattle.mux_core.proofs.UnitCounts.{own_units, other_units, units_append}
 use Rattle.on_air.specs.declared.refusals.AirRefusal.{AirRefusal}
 use Rattle.on_air.specs.Airing.{Run, Air, silence, greatest_lead, least_interval, needed_room, lead_of, settled_at, on_to, is_tick, is_far_from, unit_refusal}
-use Rattle.on_air.specs.Airing.{air_cause, accepted_by, aired, caught_up, judged_by, slots_followed, with_record, heard}
+use Rattle.on_air.specs.Airing.{air_cause, accepted_by, aired, caught_up, changed, judged_by, slots_followed, taken, with_record, heard}
 use Rattle.on_air.specs.AirStates.{Promises}
 use Rattle.on_air.specs.Laws.{with_entry, records_of, without_ticks, greatest_of, IsJobInOrder, AiredInOrder}
 use Rattle.on_air.proofs.InTime.{taken_in_time}
 use Rattle.on_air.proofs.Room.{waiting_few}
-use Rattle.on_air.proofs.AsMultiplexed.{first_taken, greatest_more, last_taken, more_settled, none_taken, release_begins, release_rises, stream_of}
+use Rattle.on_air.proofs.AsMultiplexed.{first_taken, greatest_more, last_taken, more_settled, none_taken, own_stream_alone, release_begins, release_rises}
+use Rattle.on_air.proofs.AsMultiplexed.{stream_of}
+use Rattle.on_air.proofs.TextsOn.{tick_alone}
 
 -- ---- The units of each stream
 
@@ -212,7 +214,8 @@ none_refused run a other records entry so job tick last =
     ap (λ (us : List (ℕ × AccessUnit)). feed_cause run.scheduled run.capacity (job_history us a.slots) entry.0 entry.1
     (slice_get run.scheduled.description.streams entry.0)) so.accepted
     ∙ ap (λ (o : Option DescribedStream). feed_cause run.scheduled run.capacity (job_history units a.slots) entry.0 entry.1 o) found.is ∙ none in
-    rw (near, tick, unit) refl
+    let alone = own_stream_alone run other units entry last.1 in
+    rw (near, tick, alone, unit) refl
 
 -- The slots that a record settles, added to the slots of earlier records
 more_slots : (run : Run) (a : Air) (records : List (ℕ × AccessUnit)) (entry : ℕ × AccessUnit) → SoFar run a records →
@@ -229,14 +232,17 @@ so_far_unit run a other records entry so job tick =
     let more = with_unit records entry tick in
     let last = last_taken run.scheduled other [] (without_ticks records) entry
     (ap (λ (us : List (ℕ × AccessUnit)). first_refused run.scheduled other [] us) (sym more) ∙ job.accepted) in
+    let alone = own_stream_alone run other (without_ticks records) entry last.1 in
     subst (λ (o : Option AirRefusal). SoFar run (caught_up run (judged_by run a entry o) o) (records ++ (entry ∷ [])))
-    (sym (none_refused run a other records entry so job tick last)) (record {
+    (sym (none_refused run a other records entry so job tick last))
+    (subst (λ (b : Bool). SoFar run (caught_up run (cond b (changed run a entry) (taken run a entry (accepted_by a entry None) a.changes)) None)
+    (records ++ (entry ∷ []))) (sym alone) (record {
       accepted = rw tick (ap (λ (l : List (ℕ × AccessUnit)). l ++ (entry ∷ [])) so.accepted ∙ sym more);
       greatest = ap (λ (g : ℕ). max g entry.1.dts) so.greatest ∙ sym (greatest_more records entry);
       slots = more_slots run a records entry so;
       refused = so.refused;
       kept = subst (AllKept run.scheduled) (sym more) (kept_more run.scheduled 0 other (without_ticks records) entry job.promises.ranges last.1 so.kept);
-    })
+    }))
 
 so_far_tick : (run : Run) (a : Air) (other : ℕ) (records : List (ℕ × AccessUnit)) (entry : ℕ × AccessUnit) → SoFar run a records →
     IsJobInOrder run other (records ++ (entry ∷ [])) →
@@ -245,13 +251,15 @@ unfolding judged_by accepted_by slots_followed
 so_far_tick run a other records entry so job tick =
     let same = with_tick records entry tick in
     let none : air_cause run a entry ≡ None = rw (is_near run a other records entry so job, tick) refl in
-    subst (λ (o : Option AirRefusal). SoFar run (caught_up run (judged_by run a entry o) o) (records ++ (entry ∷ []))) (sym none) (record {
+    subst (λ (o : Option AirRefusal). SoFar run (caught_up run (judged_by run a entry o) o) (records ++ (entry ∷ []))) (sym none)
+    (subst (λ (b : Bool). SoFar run (caught_up run (cond b (changed run a entry) (taken run a entry (accepted_by a entry None) a.changes)) None)
+    (records ++ (entry ∷ []))) (sym (tick_alone run entry tick)) (record {
       accepted = rw tick (so.accepted ∙ sym same);
       greatest = ap (λ (g : ℕ). max g entry.1.dts) so.greatest ∙ sym (greatest_more records entry);
       slots = more_slots run a records entry so;
       refused = so.refused;
       kept = subst (AllKept run.scheduled) (sym same) so.kept;
-    })
+    }))
 
 so_far_more : (run : Run) (a : Air) (other : ℕ) (records : List (ℕ × AccessUnit)) (entry : ℕ × AccessUnit) (tick : Bool) → SoFar run a records →
     IsJobInOrder run other (records ++ (entry ∷ [])) →

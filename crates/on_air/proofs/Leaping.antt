@@ -6,11 +6,12 @@ use Rattle.pes_packet.specs.AccessUnits.{AccessUnit}
 use Rattle.unit_queue.specs.declared.refusal.FeedError.{FeedError}
 use Rattle.on_air.specs.declared.leap.Leap.{Leap}
 use Rattle.on_air.specs.declared.refusals.AirRefusal.{AirRefusal}
-use Rattle.on_air.specs.declared.refusals.AirRefusal.TheVariants.{Ahead, Followed}
+use Rattle.on_air.specs.declared.refusals.AirRefusal.TheVariants.{Ahead, Followed, Texts}
+use Rattle.on_air.specs.declared.refusals.TextsRefusal.{TextsRefusal}
 use Rattle.on_air.specs.declared.refusals.FarRecord.{FarRecord}
 use Rattle.on_air.specs.Leaps.{is_followed, is_near, leap_with, leap_records}
 use Rattle.on_air.specs.Airing.{Run, Air, is_tick, is_far_from, leap_by, leap_left, unit_refusal, air_cause, greatest_by, judged_by, aired, caught_up, on_to}
-use Rattle.on_air.specs.Airing.{far_record, fed_refusal, settled_at, slots_followed}
+use Rattle.on_air.specs.Airing.{brings_texts, far_record, fed_refusal, settled_at, slots_followed, taken_cause, texts_refusal}
 use Rattle.on_air.specs.Laws.{NearEach, AllFar, LeapFollowed, LeapMovesOn}
 
 -- ---- One record that is too far ahead
@@ -108,21 +109,29 @@ pub record ReportsLeap (far many : Bool) (slots greatest due packet from to : �
   pub from_is : from ≡ greatest
   pub to_is : to ≡ due
 
-reported_by : (far many tick : Bool) (other : FarRecord) (entry : ℕ × AccessUnit) (refused : Option FeedError) (slots greatest due packet from to : ℕ) →
-    cond far (Some (cond many (Followed slots greatest due) (Ahead other))) (cond tick None (option_map (fed_refusal entry) refused)) ≡ Some (Followed packet from to) →
+reported_by : (far many tick : Bool) (other : FarRecord) (rest : Option AirRefusal) (slots greatest due packet from to : ℕ) →
+    (rest ≡ Some (Followed packet from to) → ⊥) →
+    cond far (Some (cond many (Followed slots greatest due) (Ahead other))) (cond tick None rest) ≡ Some (Followed packet from to) →
     ReportsLeap far many slots greatest due packet from to
-reported_by true true tick other entry refused slots greatest due packet from to e = record { is_far = refl; is_many = refl; packet_is = cc; from_is = cc; to_is = cc }
-reported_by true false tick other entry refused slots greatest due packet from to e = absurd cc
-reported_by false many true other entry refused slots greatest due packet from to e = absurd cc
-reported_by false many false other entry None slots greatest due packet from to e = absurd cc
-reported_by false many false other entry (Some cause) slots greatest due packet from to e = absurd cc
+reported_by true true tick other rest slots greatest due packet from to never e = record { is_far = refl; is_many = refl; packet_is = cc; from_is = cc; to_is = cc }
+reported_by true false tick other rest slots greatest due packet from to never e = absurd cc
+reported_by false many true other rest slots greatest due packet from to never e = absurd cc
+reported_by false many false other rest slots greatest due packet from to never e = absurd (never e)
+
+-- A record that is not too far ahead is never followed.
+not_reported : (brings : Bool) (texts : Option TextsRefusal) (entry : ℕ × AccessUnit) (refused : Option FeedError) (packet from to : ℕ) →
+    cond brings (option_map Texts texts) (option_map (fed_refusal entry) refused) ≡ Some (Followed packet from to) → ⊥
+not_reported true None entry refused packet from to e = cc
+not_reported true (Some r) entry refused packet from to e = cc
+not_reported false texts entry None packet from to e = cc
+not_reported false texts entry (Some cause) packet from to e = cc
 
 pub leap_reported : (run : Run) (a : Air) (entry : ℕ × AccessUnit) (packet from to : ℕ) → air_cause run a entry ≡ Some (Followed packet from to) →
     ReportsLeap (is_far_from run a entry) (is_followed (leap_by run a entry)) a.slots a.greatest entry.1.dts packet from to
 leap_reported run a entry packet from to e =
-    reported_by (is_far_from run a entry) (is_followed (leap_by run a entry)) (is_tick entry) (far_record run a entry) entry (unit_refusal run a entry) a.slots a.greatest entry.1.dts packet
-    from
-    to e
+    reported_by (is_far_from run a entry) (is_followed (leap_by run a entry)) (is_tick entry) (far_record run a entry) (taken_cause run a entry) a.slots
+    a.greatest entry.1.dts packet from to
+    (not_reported (brings_texts run entry) (texts_refusal run a entry) entry (unit_refusal run a entry) packet from to) e
 
 pub leap_moves_on : LeapMovesOn
 unfolding judged_by greatest_by slots_followed

@@ -2,9 +2,10 @@ pub mod InTime
 pub mod Room
 pub mod SlotsOn
 pub mod FedRecords
+pub mod Aired
+pub mod TextsOn
 pub mod AsMultiplexed
 pub mod InOrder
-pub mod Aired
 pub mod HeardRecords
 pub mod FirstStates
 pub mod Leaping

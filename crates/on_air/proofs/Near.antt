@@ -25,9 +25,10 @@ use Rattle.mux_core.specs.Histories.{owned_stream}
 use Rattle.mux_core.specs.MuxStates.{feed_cause}
 use Rattle.mux_core.specs.WholeJobs.{job_history}
 use Rattle.on_air.specs.declared.refusals.AirRefusal.{AirRefusal}
-use Rattle.on_air.specs.declared.refusals.AirRefusal.TheVariants.{Feed, Ahead, Followed}
+use Rattle.on_air.specs.declared.refusals.AirRefusal.TheVariants.{Feed, Ahead, Followed, Texts}
+use Rattle.on_air.specs.declared.refusals.TextsRefusal.{TextsRefusal}
 use Rattle.on_air.specs.Airing.{Run, Air, silence, lead_of, needed_room, settled_at, is_tick, is_far_from, far_cause, unit_refusal, air_cause, accepted_by}
-use Rattle.on_air.specs.Airing.{fed_refusal}
+use Rattle.on_air.specs.Airing.{brings_texts, changed, fed_refusal, taken, texts_refusal}
 use Rattle.on_air.specs.Airing.{greatest_by, judged_by, caught_up, slots_followed, with_record, heard}
 use Rattle.on_air.specs.AirStates.{Promises}
 use Rattle.on_air.specs.Laws.{ComesNear, IsJudgedAlone, IsOwnCause, NearIsJudgedAlone}
@@ -49,21 +50,28 @@ later : (g h : ℕ) (units : List (ℕ × AccessUnit)) → g ≤ h → All (λ e
 later g h units le all = All-weaker (λ e. e.1.dts ≤ g) (λ e. e.1.dts ≤ h) (λ e few. omega (arith, le, few)) units all
 
 -- An accepted unit has no cause of refusal.
-pub fed_none : (far tick : Bool) (cause : AirRefusal) (entry : ℕ × AccessUnit) (refused : Option FeedError) →
-    cond far (Some cause) (cond tick None (option_map (fed_refusal entry) refused)) ≡ None →
-    tick ≡ false → refused ≡ None
-fed_none true tick cause entry refused e unit = absurd cc
-fed_none false true cause entry refused e unit = absurd cc
-fed_none false false cause entry None e unit = refl
-fed_none false false cause entry (Some c) e unit = absurd cc
+pub fed_none : (far tick brings : Bool) (cause : AirRefusal) (texts : Option TextsRefusal) (entry : ℕ × AccessUnit) (refused : Option FeedError) →
+    cond far (Some cause) (cond tick None (cond brings (option_map Texts texts) (option_map (fed_refusal entry) refused))) ≡ None →
+    tick ≡ false → brings ≡ false → refused ≡ None
+fed_none true tick brings cause texts entry refused e unit alone = absurd cc
+fed_none false true brings cause texts entry refused e unit alone = absurd cc
+fed_none false false true cause texts entry refused e unit alone = absurd cc
+fed_none false false false cause texts entry None e unit alone = refl
+fed_none false false false cause texts entry (Some c) e unit alone = absurd cc
 
-taken_units : (run : Run) (a : Air) (entry : ℕ × AccessUnit) (tick : Bool) → is_tick entry ≡ tick → IsInRange run.scheduled.description →
-    air_cause run a entry ≡ None → Steady run a →
+pub fed_of : (run : Run) (a : Air) (entry : ℕ × AccessUnit) → air_cause run a entry ≡ None → is_tick entry ≡ false → brings_texts run entry ≡ false →
+    unit_refusal run a entry ≡ None
+fed_of run a entry none tick alone =
+    fed_none (is_far_from run a entry) (is_tick entry) (brings_texts run entry) (far_cause run a entry) (texts_refusal run a entry) entry
+    (unit_refusal run a entry) none tick alone
+
+taken_units : (run : Run) (a : Air) (entry : ℕ × AccessUnit) (tick : Bool) → is_tick entry ≡ tick → brings_texts run entry ≡ false →
+    IsInRange run.scheduled.description → air_cause run a entry ≡ None → Steady run a →
     All (λ e. e.1.dts ≤ max a.greatest entry.1.dts) (accepted_by a entry None) × AllKept run.scheduled (accepted_by a entry None)
 unfolding accepted_by
-taken_units run a entry true is ranges none so = rw is (later a.greatest (max a.greatest entry.1.dts) a.accepted (omega arith) so.within, so.kept)
-taken_units run a entry false is ranges none so =
-    let fed = fed_none (is_far_from run a entry) (is_tick entry) (far_cause run a entry) entry (unit_refusal run a entry) none is in
+taken_units run a entry true is alone ranges none so = rw is (later a.greatest (max a.greatest entry.1.dts) a.accepted (omega arith) so.within, so.kept)
+taken_units run a entry false is alone ranges none so =
+    let fed = fed_of run a entry none is alone in
     rw is (
       All-append (λ e. e.1.dts ≤ max a.greatest entry.1.dts) a.accepted (entry ∷ [])
           (later a.greatest (max a.greatest entry.1.dts) a.accepted (omega arith) so.within)
@@ -71,17 +79,29 @@ taken_units run a entry false is ranges none so =
       kept_more run.scheduled a.slots run.capacity a.accepted entry ranges fed so.kept,
     )
 
-pub steady_by : (run : Run) (a : Air) (entry : ℕ × AccessUnit) (cause : Option AirRefusal) → IsInRange run.scheduled.description → air_cause run a entry ≡ cause →
-    Steady run a →
-    Steady run (caught_up run (judged_by run a entry cause) cause)
-unfolding judged_by slots_followed greatest_by
-steady_by run a entry None ranges is so =
-    let units = taken_units run a entry (is_tick entry) refl ranges is so in
+steady_taken : (run : Run) (a : Air) (entry : ℕ × AccessUnit) (brings : Bool) → brings_texts run entry ≡ brings → IsInRange run.scheduled.description →
+    air_cause run a entry ≡ None → Steady run a →
+    Steady run (caught_up run (cond brings (changed run a entry) (taken run a entry (accepted_by a entry None) a.changes)) None)
+unfolding slots_followed
+steady_taken run a entry true brings ranges is so = record {
+  slots = ap (λ (n : ℕ). n + (settled_at run entry.1.dts - n)) so.slots ∙ more_settled run a.greatest entry.1.dts;
+  within = later a.greatest (max a.greatest entry.1.dts) a.accepted (omega arith) so.within;
+  kept = so.kept;
+}
+steady_taken run a entry false brings ranges is so =
+    let units = taken_units run a entry (is_tick entry) refl brings ranges is so in
     record {
       slots = ap (λ (n : ℕ). n + (settled_at run entry.1.dts - n)) so.slots ∙ more_settled run a.greatest entry.1.dts;
       within = units.0;
       kept = units.1;
     }
+
+pub steady_by : (run : Run) (a : Air) (entry : ℕ × AccessUnit) (cause : Option AirRefusal) → IsInRange run.scheduled.description → air_cause run a entry ≡ cause →
+    Steady run a →
+    Steady run (caught_up run (judged_by run a entry cause) cause)
+unfolding judged_by slots_followed greatest_by
+steady_by run a entry None ranges is so = steady_taken run a entry (brings_texts run entry) refl ranges is so
+steady_by run a entry (Some (Texts refusal)) ranges is so = record { slots = so.slots; within = so.within; kept = so.kept }
 steady_by run a entry (Some (Feed unit)) ranges is so = record { slots = so.slots; within = so.within; kept = so.kept }
 steady_by run a entry (Some (Ahead far)) ranges is so = record { slots = so.slots; within = so.within; kept = so.kept }
 steady_by run a entry (Some (Followed packet from to)) ranges is so =
@@ -182,17 +202,21 @@ own_stream run a entry (Some s) is promises room comes so =
     let full = has_room run entry.0 a.slots a.greatest a.accepted s promises room is so.kept written so.within in
     own_unit (owned_stream run.scheduled entry.0 s) a.slots run.capacity (units_of entry.0 a.accepted) entry.1 late full
 
-alone_by : (far tick : Bool) (cause : AirRefusal) (entry : ℕ × AccessUnit) (refused : Option FeedError) → far ≡ false → IsOwn refused →
-    IsJudgedAlone (cond far (Some cause) (cond tick None (option_map (fed_refusal entry) refused)))
-alone_by true tick cause entry refused near own = absurd cc
-alone_by false true cause entry refused near own = tt
-alone_by false false cause entry None near own = tt
-alone_by false false cause entry (Some c) near own = own
+alone_by : (far tick brings : Bool) (cause : AirRefusal) (texts : Option TextsRefusal) (entry : ℕ × AccessUnit) (refused : Option FeedError) → far ≡ false →
+    IsOwn refused →
+    IsJudgedAlone (cond far (Some cause) (cond tick None (cond brings (option_map Texts texts) (option_map (fed_refusal entry) refused))))
+alone_by true tick brings cause texts entry refused near own = absurd cc
+alone_by false true brings cause texts entry refused near own = tt
+alone_by false false true cause None entry refused near own = tt
+alone_by false false true cause (Some r) entry refused near own = tt
+alone_by false false false cause texts entry None near own = tt
+alone_by false false false cause texts entry (Some c) near own = own
 
 pub near_is_judged_alone : NearIsJudgedAlone
 near_is_judged_alone run n xs entry promises room comes =
     let a = heard run n xs in
     let so = steady run n xs promises.ranges in
     let near : is_far_from run (heard run n xs) entry ≡ false = le-ltb run.terms.ahead (entry.1.dts - (heard run n xs).greatest) (omega (arith, comes.near)) in
-    alone_by (is_far_from run a entry) (is_tick entry) (far_cause run a entry) entry (unit_refusal run a entry) near
+    alone_by (is_far_from run a entry) (is_tick entry) (brings_texts run entry) (far_cause run a entry) (texts_refusal run a entry) entry
+    (unit_refusal run a entry) near
     (own_stream run (heard run n xs) entry (slice_get run.scheduled.description.streams entry.0) refl promises room comes so)

@@ -3,7 +3,7 @@ use Rattle.std.proofs.Common.{◌≡◌, ℕ, ◌+◌, ◌<◌, Bool, List, ◌+
 use Rattle.mux_core.specs.Buffer.{Buffered, IsOutput, Took}
 use Rattle.mux_core.specs.Formats.{formatted}
 use Rattle.mux_core.specs.Scheduled.{Scheduled}
-use Rattle.mux_core.specs.Histories.{History, content_at}
+use Rattle.mux_core.specs.Histories.{History, content_over}
 use Rattle.mux_core.specs.MuxStates.{MuxState, Represents, Gives}
 use Rattle.mux_core.specs.WholeJobs.{run_output, output_of}
 use Rattle.mux_core.proofs.JobWriting.{SlotsWritten, at_slot, written_more, written_failed}
@@ -24,7 +24,7 @@ way_begins h old hex start now packets n same represents holds =
 pub way_goes_on : (h : History) (old mid new : MuxState) (hex phex : Bool) (n : ℕ) (start now later : Option (List ℕ)) (packets after : Buffered)
     (packet : List ℕ) →
     OnWay h old mid hex n start now packets → phex ≡ hex → Gives (at_slot h n) mid (Ok packet) new →
-    IsOutput start later after (run_output hex (content_at old.schedule h.units) 0 n ++ formatted phex packet) → OnWay h old new hex (n + 1) start later after
+    IsOutput start later after (run_output hex (content_over old.schedule h.changes h.units) 0 n ++ formatted phex packet) → OnWay h old new hex (n + 1) start later after
 way_goes_on h old mid new hex phex n start now later packets after packet w same gives holds = record {
   written = written_more h old mid new hex phex n start now later packets after packet w.written same gives holds;
   capacity = gives.4 ∙ w.capacity;
@@ -42,8 +42,8 @@ pub way_ends : (run : Run) (h : History) (old mid : MuxState) (hex : Bool) (n ta
     Carries run h old → OnWay h old mid hex n start now packets → n ≡ on_to h.slots target → packets.hex ≡ hex →
     WroteOn run (with_slots h (on_to h.slots target)) hex start now mid packets
 way_ends run h old mid hex n target start now packets c w is same =
-    let whole : run_output hex (content_at old.schedule h.units) 0 n ≡ output_of hex run.scheduled (with_slots h (on_to h.slots target)) =
-    ap (λ (k : ℕ). run_output hex (content_at old.schedule h.units) 0 k) is ∙ ap (λ (d : Scheduled). output_of hex d (with_slots h (on_to h.slots target)))
+    let whole : run_output hex (content_over old.schedule h.changes h.units) 0 n ≡ output_of hex run.scheduled (with_slots h (on_to h.slots target)) =
+    ap (λ (k : ℕ). run_output hex (content_over old.schedule h.changes h.units) 0 k) is ∙ ap (λ (d : Scheduled). output_of hex d (with_slots h (on_to h.slots target)))
     c.scheduled in
     record {
       mux = record {
@@ -59,7 +59,7 @@ way_ends run h old mid hex n target start now packets c w is same =
 pub way_failed : (run : Run) (h : History) (old mid new : MuxState) (hex phex : Bool) (n target sent : ℕ) (start now later : Option (List ℕ))
     (packets : Buffered) (packet : List ℕ) →
     Carries run h old → OnWay h old mid hex n start now packets → n < on_to h.slots target → phex ≡ hex → Gives (at_slot h n) mid (Ok packet) new →
-    Took start later sent (run_output hex (content_at old.schedule h.units) 0 n ++ formatted phex packet) →
+    Took start later sent (run_output hex (content_over old.schedule h.changes h.units) 0 n ++ formatted phex packet) →
     Took start later sent (output_of hex run.scheduled (with_slots h (on_to h.slots target)))
 way_failed run h old mid new hex phex n target sent start now later packets packet c w below same gives took =
     subst (λ (d : Scheduled). Took start later sent (output_of hex d (with_slots h (on_to h.slots target)))) c.scheduled

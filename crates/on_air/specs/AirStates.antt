@@ -1,5 +1,5 @@
 -- The state of a run in memory, and the run that it represents.
-use Rattle.std.specs.Prelude.{◌≡◌, ◌+◌, ℕ, Bool, false, nat_le, if◌then◌else◌, List, [], length, Option, Some, None, Result, Ok, Err}
+use Rattle.std.specs.Prelude.{◌≡◌, ◌+◌, ℕ, Bool, false, nat_le, if◌then◌else◌, List, [], length, Option, Some, None, is_none, Result, Ok, Err}
 use Rattle.description_parts.specs.Ranges.{IsInRange}
 use Rattle.pes_packet.specs.AccessUnits.{AccessUnit}
 use Rattle.pes_packet.specs.Units.{units_of}
@@ -8,21 +8,21 @@ use Rattle.unit_records.specs.Records.{head_size, size_at}
 use Rattle.plan_checker.specs.Served.{Served}
 use Rattle.switch_checker.specs.Followed.{Followed}
 use Rattle.slot_plan.specs.Promised.{Promised}
-use Rattle.mux_core.specs.Headline.{Headline}
+use Rattle.mux_core.specs.Headline.{HeadlineOver}
 use Rattle.mux_core.specs.Histories.{History, bytes_of}
 use Rattle.mux_core.specs.MuxStates.{MuxState, Represents}
 use Rattle.mux_core.specs.NewMux.{is_periods}
 use Rattle.mux_core.specs.declared.done.NewError.{NewError}
 use Rattle.mux_core.specs.declared.done.NewError.TheVariants.{Periods}
 use Rattle.mux_core.specs.Scheduled.{Scheduled}
-use Rattle.mux_core.specs.WholeJobs.{job_history, output_of, plan_schedule, switch_schedule}
+use Rattle.mux_core.specs.WholeJobs.{output_of, plan_schedule, switch_schedule}
 use Rattle.on_air.specs.declared.leap.Leap.{Leap}
 use Rattle.on_air.specs.declared.options.Terms.{Terms}
 use Rattle.on_air.specs.declared.refusals.AirRefusal.{AirRefusal}
-use Rattle.on_air.specs.Airing.{Run, Air, job_of, air_output, lead_of, greatest_lead, room_by, room_of, air_cause, accepted_by}
+use Rattle.on_air.specs.Airing.{Run, Air, history_by, job_of, air_output, lead_of, greatest_lead, room_by, room_of, air_cause, accepted_by}
 
 -- the multiplexer, the packets that wait to be written, the terms, the rate and the lead that settle slots, the greatest DTS taken, the records that leap,
--- and the number of records read
+-- the number of records read, and whether there is one plan, so that texts may change
 pub record AirState : Type 0 where
   pub mux : MuxState
   pub packets : Buffered
@@ -32,6 +32,7 @@ pub record AirState : Type 0 where
   pub greatest : ℕ
   pub leap : Leap
   pub records : ℕ
+  pub one_plan : Bool
 
 -- the multiplexer of this run represents a history
 pub record Carries (run : Run) (h : History) (m : MuxState) : Type 0 where
@@ -41,7 +42,7 @@ pub record Carries (run : Run) (h : History) (m : MuxState) : Type 0 where
 
 -- a history with this number of slots
 abbrev pub with_slots : History → ℕ → History
-with_slots h n = record { units = h.units; slots = n }
+with_slots h n = record { units = h.units; changes = h.changes; slots = n }
 
 -- the state after slots were written
 pub record WroteOn (run : Run) (h : History) (hex : Bool) (start now : Option (List ℕ)) (m : MuxState) (packets : Buffered) : Type 0 where
@@ -57,12 +58,12 @@ pub record Promises (d : Scheduled) : Type 0 where
 -- the state after a record was judged, and its unit fed if it was accepted: the output so far does not change
 pub record Admits (run : Run) (a : Air) (entry : ℕ × AccessUnit) (refused : Option AirRefusal) (m : MuxState) : Type 0 where
   pub cause : refused ≡ air_cause run a entry
-  pub mux : Carries run (job_history (accepted_by a entry refused) a.slots) m
-  pub before : output_of run.hex run.scheduled (job_history (accepted_by a entry refused) a.slots) ≡ air_output run a
+  pub mux : Carries run (history_by (accepted_by a entry refused) a.slots a.changes) m
+  pub before : output_of run.hex run.scheduled (history_by (accepted_by a entry refused) a.slots a.changes) ≡ air_output run a
 
 -- all bytes of the slots so far keep every promise
 abbrev pub KeepsHeadline : Run → Air → Type 0
-KeepsHeadline run a = Headline run.scheduled (λ k. units_of k a.accepted) a.slots (bytes_of run.scheduled (job_of a))
+KeepsHeadline run a = HeadlineOver run.scheduled a.changes (λ k. units_of k a.accepted) a.slots (bytes_of run.scheduled (job_of a))
 
 -- the state of a run at `a`: the multiplexer represents the accepted units and the written slots; the writer, which held `start` at the beginning, holds the
 -- output of these slots except the waiting bytes; and the bytes of these slots keep every promise
@@ -76,6 +77,7 @@ pub record IsOnAir (run : Run) (a : Air) (start now : Option (List ℕ)) (s : Ai
   pub greatest : s.greatest ≡ a.greatest
   pub leap : s.leap ≡ a.leap
   pub records : s.records ≡ a.records
+  pub one_plan : s.one_plan ≡ is_none run.scheduled.schedule.following
   pub output : IsOutput start now s.packets (air_output run a)
   pub headline : KeepsHeadline run a
 

@@ -1,18 +1,24 @@
 -- The rule of a run without end: which records are taken, and which slots are written after each of them and at the end.
 use Rattle.std.specs.Prelude.{ℕ, zero, suc, ◌+◌, ◌-◌, ◌^◌, ◌==◌, ◌&&◌, min, max, Bool, cond, if◌then◌else◌, List, [], ◌∷◌, ◌++◌, length, slice_get, fold}
-use Rattle.std.specs.Prelude.{Option, Some, None, option_map, Result, Ok, Err}
+use Rattle.std.specs.Prelude.{Option, Some, None, is_none, option_map, Result, Ok, Err}
 use Rattle.std.specs.Int.{div_ceil}
 use Rattle.clock27.specs.Release.{release}
 use Rattle.pes_packet.specs.AccessUnits.{AccessUnit}
 use Rattle.pes_packet.specs.Marks.{marks_size}
-use Rattle.description_parts.specs.Described.{DescribedStream}
-use Rattle.unit_queue.specs.Codes.{feed_code}
+use Rattle.pes_packet.specs.Units.{units_of}
+use Rattle.description_parts.specs.Described.{Described, DescribedStream}
+use Rattle.description_keys.specs.declared.fault.DescFault.TheVariants as key
+use Rattle.description_keys.specs.declared.fault.DescError.{DescError}
+use Rattle.description_keys.specs.declared.fault.DescError.TheVariants as unread
+use Rattle.changed_texts.specs.Reading.{description_in}
+use Rattle.changed_texts.specs.TextFaults.{text_fault}
 use Rattle.unit_queue.specs.declared.refusal.FeedError.{FeedError}
 use Rattle.unit_records.specs.Records.{record_at}
 use Rattle.unit_records.specs.declared.reading.UnitFileError.{UnitFileError}
 use Rattle.mux_core.specs.RecordRuns.{after_records}
 use Rattle.mux_core.specs.Scheduled.{Scheduled}
-use Rattle.mux_core.specs.Histories.{History}
+use Rattle.mux_core.specs.Histories.{Change, History, last_texts}
+use Rattle.mux_core.specs.TextChanges.{next_change}
 use Rattle.mux_core.specs.MuxStates.{feed_cause}
 use Rattle.mux_core.specs.WholeJobs.{job_history, output_of}
 use Rattle.on_air.specs.declared.leap.Leap.{Leap}
@@ -20,7 +26,9 @@ use Rattle.on_air.specs.declared.options.Terms.{Terms}
 use Rattle.on_air.specs.declared.refusals.AirRefusal.{AirRefusal}
 use Rattle.on_air.specs.declared.refusals.FarRecord.{FarRecord}
 use Rattle.on_air.specs.declared.refusals.RefusedUnit.{RefusedUnit}
-use Rattle.on_air.specs.declared.refusals.AirRefusal.TheVariants.{Feed, Ahead, Followed}
+use Rattle.on_air.specs.declared.refusals.TextsRefusal.{TextsRefusal}
+use Rattle.on_air.specs.declared.refusals.TextsRefusal.TheVariants.{Unread, Fault}
+use Rattle.on_air.specs.declared.refusals.AirRefusal.TheVariants.{Feed, Ahead, Followed, Texts}
 use Rattle.on_air.specs.Leaps.{is_far, is_followed, leap_with, no_leap}
 
 -- the schedule, the number of units of a stream that may wait, the terms, and whether packets are written as lines of digits
@@ -31,7 +39,8 @@ pub record Run : Type 0 where
   pub hex : Bool
 
 -- the progress of a run: the accepted units, each with the number of its stream, in order; the number of slots written; the greatest DTS taken, in units of
--- 90 kHz; the records that leap, up to the last record read; the number of records read; the numbers of the refused records, with the causes
+-- 90 kHz; the records that leap, up to the last record read; the number of records read; the numbers of the refused records, with the causes; the changes of
+-- the texts, the newest first
 pub record Air : Type 0 where
   pub accepted : List (ℕ × AccessUnit)
   pub slots : ℕ
@@ -39,13 +48,17 @@ pub record Air : Type 0 where
   pub leap : Leap
   pub records : ℕ
   pub refused : List (ℕ × AirRefusal)
+  pub changes : List Change
 
 abbrev pub silence : Air
-silence = record { accepted = []; slots = 0; greatest = 0; leap = no_leap; records = 0; refused = [] }
+silence = record { accepted = []; slots = 0; greatest = 0; leap = no_leap; records = 0; refused = []; changes = [] }
 
 -- the history of the multiplexer, and its output
+abbrev pub history_by : List (ℕ × AccessUnit) → ℕ → List Change → History
+history_by units slots changes = record { units = λ k. units_of k units; changes = changes; slots = slots }
+
 abbrev pub job_of : Air → History
-job_of a = job_history a.accepted a.slots
+job_of a = history_by a.accepted a.slots a.changes
 
 abbrev pub air_output : Run → Air → List ℕ
 air_output run a = output_of run.hex run.scheduled (job_of a)
@@ -99,6 +112,11 @@ on_to slots target = slots + (target - slots)
 abbrev pub is_tick : ℕ × AccessUnit → Bool
 is_tick entry = (entry.0 == 255) && (length entry.1.bytes == 0)
 
+-- the record brings texts: stream 254, in a run of one plan whose description has no such stream
+abbrev pub brings_texts : Run → ℕ × AccessUnit → Bool
+brings_texts run entry =
+    is_none (slice_get run.scheduled.description.streams entry.0) && (is_none run.scheduled.schedule.following && (entry.0 == 254))
+
 -- the DTS of the record is further after the greatest DTS so far than the terms allow
 abbrev pub is_far_from : Run → Air → ℕ × AccessUnit → Bool
 is_far_from run a entry = is_far run.terms.ahead a.greatest entry.1.dts
@@ -116,9 +134,10 @@ far_record run a entry = record { stream = entry.0; from = a.greatest; to = entr
 abbrev pub far_cause : Run → Air → ℕ × AccessUnit → AirRefusal
 far_cause run a entry = if is_followed (leap_by run a entry) then Followed a.slots a.greatest entry.1.dts else Ahead (far_record run a entry)
 
--- why the multiplexer refuses the unit of the record
+-- why the multiplexer refuses the unit of the record, by the units and the slots so far
 abbrev pub unit_refusal : Run → Air → ℕ × AccessUnit → Option FeedError
-unit_refusal run a entry = feed_cause run.scheduled run.capacity (job_of a) entry.0 entry.1 (slice_get run.scheduled.description.streams entry.0)
+unit_refusal run a entry =
+    feed_cause run.scheduled run.capacity (job_history a.accepted a.slots) entry.0 entry.1 (slice_get run.scheduled.description.streams entry.0)
 
 -- a refused unit: the number of its stream, its bytes with the bytes of its marks, its stamps, and the cause
 abbrev pub refused_unit : ℕ × AccessUnit → FeedError → RefusedUnit
@@ -128,10 +147,28 @@ refused_unit entry cause =
 abbrev pub fed_refusal : ℕ × AccessUnit → FeedError → AirRefusal
 fed_refusal entry cause = Feed (refused_unit entry cause)
 
+-- why texts are refused that bytes are read as, after the texts in force: the bytes are no description, or the texts can't follow. A description is never
+-- refused when out of memory
+unfoldable pub texts_cause : Described → Described → Result Described DescError → Option TextsRefusal
+texts_cause frame now (Ok texts) = option_map Fault (text_fault frame now texts)
+texts_cause frame now (Err (unread.Refused fault)) = Some (Unread fault)
+texts_cause frame now (Err unread.Memory) = Some (Unread key.Text)
+
+-- the texts in force after the slots so far
+abbrev pub texts_now : Run → Air → Described
+texts_now run a = last_texts run.scheduled.description a.changes
+
+abbrev pub texts_refusal : Run → Air → ℕ × AccessUnit → Option TextsRefusal
+texts_refusal run a entry = texts_cause run.scheduled.description (texts_now run a) (description_in entry.1.bytes)
+
+-- why a record that is neither far ahead nor a tick is refused
+abbrev pub taken_cause : Run → Air → ℕ × AccessUnit → Option AirRefusal
+taken_cause run a entry =
+    if brings_texts run entry then option_map Texts (texts_refusal run a entry) else option_map (fed_refusal entry) (unit_refusal run a entry)
+
 -- why the record is refused; a tick is not fed
 abbrev pub air_cause : Run → Air → ℕ × AccessUnit → Option AirRefusal
-air_cause run a entry =
-    if is_far_from run a entry then Some (far_cause run a entry) else (if is_tick entry then None else option_map (fed_refusal entry) (unit_refusal run a entry))
+air_cause run a entry = if is_far_from run a entry then Some (far_cause run a entry) else (if is_tick entry then None else taken_cause run a entry)
 
 -- the accepted units after this record
 unfoldable pub accepted_by : Air → ℕ × AccessUnit → Option AirRefusal → List (ℕ × AccessUnit)
@@ -143,14 +180,52 @@ unfoldable pub greatest_by : Air → AirRefusal → ℕ
 greatest_by a (Feed unit) = a.greatest
 greatest_by a (Ahead far) = a.greatest
 greatest_by a (Followed packet from to) = to
+greatest_by a (Texts refusal) = a.greatest
 
 -- the records that leap after a refused record: unchanged if the record is not too far ahead, none if the run follows the record, otherwise with the record
 unfoldable pub leap_left : Run → Air → ℕ × AccessUnit → AirRefusal → Leap
 leap_left run a entry (Feed unit) = a.leap
 leap_left run a entry (Ahead far) = leap_by run a entry
 leap_left run a entry (Followed packet from to) = no_leap
+leap_left run a entry (Texts refusal) = a.leap
 
--- a refused record writes no slot; after a record that is taken the slots that its DTS settles are written
+-- a unit, a tick or texts are taken: the slots that its DTS settles are written
+abbrev pub taken : Run → Air → ℕ × AccessUnit → List (ℕ × AccessUnit) → List Change → Air
+taken run a entry accepted changes = record {
+  accepted = accepted;
+  slots = on_to a.slots (settled_at run entry.1.dts);
+  greatest = max a.greatest entry.1.dts;
+  leap = no_leap;
+  records = a.records + 1;
+  refused = a.refused;
+  changes = changes;
+}
+
+-- the changes with the texts that bytes are read as, which are in force from the next slot on
+unfoldable pub changes_with : Run → Air → Result Described DescError → List Change
+changes_with run a (Ok texts) = next_change run.scheduled (job_of a) texts ∷ a.changes
+changes_with run a (Err refusal) = a.changes
+
+-- the progress with the texts that bytes are read as on air
+abbrev pub with_read : Run → Air → Result Described DescError → Air
+with_read run a texts = record {
+  accepted = a.accepted;
+  slots = a.slots;
+  greatest = a.greatest;
+  leap = a.leap;
+  records = a.records;
+  refused = a.refused;
+  changes = changes_with run a texts;
+}
+
+abbrev pub with_texts : Run → Air → Described → Air
+with_texts run a texts = with_read run a (Ok texts)
+
+-- texts are taken, and are in force after the slots that the record settles
+abbrev pub changed : Run → Air → ℕ × AccessUnit → Air
+changed run a entry = with_read run (taken run a entry a.accepted a.changes) (description_in entry.1.bytes)
+
+-- a refused record writes no slot
 unfoldable pub judged_by : Run → Air → ℕ × AccessUnit → Option AirRefusal → Air
 judged_by run a entry (Some cause) = record {
   accepted = a.accepted;
@@ -159,15 +234,9 @@ judged_by run a entry (Some cause) = record {
   leap = leap_left run a entry cause;
   records = a.records + 1;
   refused = a.refused ++ (a.records, cause) ∷ [];
+  changes = a.changes;
 }
-judged_by run a entry None = record {
-  accepted = accepted_by a entry None;
-  slots = on_to a.slots (settled_at run entry.1.dts);
-  greatest = max a.greatest entry.1.dts;
-  leap = no_leap;
-  records = a.records + 1;
-  refused = a.refused;
-}
+judged_by run a entry None = cond (brings_texts run entry) (changed run a entry) (taken run a entry (accepted_by a entry None) a.changes)
 
 abbrev pub judged : Run → Air → ℕ × AccessUnit → Air
 judged run a entry = judged_by run a entry (air_cause run a entry)
@@ -181,6 +250,7 @@ with_count a slots = record {
   leap = a.leap;
   records = a.records;
   refused = a.refused;
+  changes = a.changes;
 }
 
 -- the slots after a record that the run follows: the slots that its DTS settles are written, as after a record that is taken
@@ -189,6 +259,7 @@ slots_followed run a None = a.slots
 slots_followed run a (Some (Feed unit)) = a.slots
 slots_followed run a (Some (Ahead far)) = a.slots
 slots_followed run a (Some (Followed packet from to)) = on_to a.slots (settled_at run to)
+slots_followed run a (Some (Texts refusal)) = a.slots
 
 abbrev pub caught_up : Run → Air → Option AirRefusal → Air
 caught_up run a refused = with_count a (slots_followed run a refused)
@@ -214,12 +285,7 @@ heard run (suc n) xs = with_record run (record_at (after_records n xs)) (heard r
 abbrev pub ended : Run → Air → Air
 ended run a = with_count a (on_to a.slots (last_at run a.greatest))
 
--- ---- the number of a refusal, and the room for units
-
-abbrev pub air_code : AirRefusal → ℕ
-air_code (Feed unit) = feed_code unit.cause
-air_code (Ahead far) = 11
-air_code (Followed packet from to) = 11
+-- ---- the room for units
 
 -- the number of units of a stream that may wait: the units due within a lead, plus the next unit; at most 1,048,576
 abbrev pub needed_room : ℕ → List DescribedStream → ℕ

@@ -12,7 +12,7 @@ use Rattle.unit_records.specs.declared.reading.UnitFileError.{UnitFileError}
 use Rattle.mux_core.specs.RecordRuns.{after_records}
 use Rattle.mux_core.specs.WholeJobs.{job_history, output_of, first_refused}
 use Rattle.on_air.specs.declared.refusals.AirRefusal.{AirRefusal}
-use Rattle.on_air.specs.declared.refusals.AirRefusal.TheVariants.{Feed, Ahead, Followed}
+use Rattle.on_air.specs.declared.refusals.AirRefusal.TheVariants.{Feed, Ahead, Followed, Texts}
 use Rattle.on_air.specs.Leaps.{is_near, leap_records}
 use Rattle.on_air.specs.Airing.{Run, Air, greatest_lead, is_tick, is_far_from, lead_of, limit_of, last_at, needed_room, settled_at, on_to, air_cause, aired}
 use Rattle.on_air.specs.Airing.{heard, ended, air_output}
@@ -139,6 +139,7 @@ IsJudgedAlone None = ⊤
 IsJudgedAlone (Some (Feed unit)) = IsOwnCause unit.cause
 IsJudgedAlone (Some (Ahead far)) = ⊥
 IsJudgedAlone (Some (Followed packet from to)) = ⊥
+IsJudgedAlone (Some (Texts refusal)) = ⊤
 
 -- after any input, however damaged, such a record is refused for no other cause: neither for its time nor for the room, if the run has the room that its
 -- streams need

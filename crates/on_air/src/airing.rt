@@ -1,28 +1,35 @@
 //! A run without end: its calls.
 
-ghost use Rattle.std.specs.Prelude.{◌≡◌, ◌<◌, ◌≤◌, ◌-◌, ◌+◌, ◌^◌, ℕ, List, [], Option, Some, true, IfOk, IfErr, OnOk, OnErr};
+ghost use Rattle.std.specs.Prelude.{◌≡◌, ◌<◌, ◌≤◌, ◌-◌, ◌+◌, ◌^◌, ◌==◌, ◌&&◌, ℕ, List, [], Option, Some, None, Ok, Err, true, IfOk, IfErr, OnOk, OnErr};
 ghost use Rattle.counted_io.specs.Device.{Failed};
 ghost use Rattle.mux_core.specs.Buffer.{waiting_of};
 ghost use Rattle.pes_packet.specs.AccessUnits.{AccessUnit};
-ghost use Rattle.on_air.specs.Airing.{Run, Air, air_cause, caught_up, ended, is_far_from, judged, on_to, settled_at, with_count};
+ghost use Rattle.on_air.specs.Airing.{Run, Air, air_cause, caught_up, ended, is_far_from, judged, on_to, settled_at, texts_cause};
+ghost use Rattle.on_air.specs.Airing.{texts_now, with_count, with_texts};
 ghost use Rattle.on_air.specs.AirStates.{IsOnAir, IsOut};
-ghost use Rattle.on_air.specs.Hearing.{Fails, Hears, TakesUnit, CountsRecord, CountsRecords, LetsOut, NamesDevice, HasHeard, HearsOn};
+ghost use Rattle.on_air.specs.Hearing.{Fails, Hears, IsNearTexts, JudgesTexts, TakesUnit, CountsRecord, CountsRecords, CountsTaken};
+ghost use Rattle.on_air.specs.Hearing.{LetsOut, NamesDevice, HasHeard, HearsOn};
 
 use crate::admission::admit;
-use crate::answers::{Ending, Heard};
+use crate::answers::{Ending, Heard, Verdict};
 use crate::leap::{Leap, is_far};
 use crate::options::Terms;
 use crate::refusals::{AirRefusal, FarRecord};
 use crate::slots::{last_slot, settled, write_on};
+use crate::texts::{TextsError, judged_texts};
 use crate::waiting::holds_record;
 use clock27::Rate;
 use counted_io::Sink;
+use description::Description;
 use held_input::HeldInput;
 use mux_core::{Mux, OutputFault, PacketOutput};
 use pes_packet::Unit;
 use std::alloc::{Allocator, Global};
 use std::marker::Model;
 use unit_records::read_unit;
+
+/// The stream of records that bring texts.
+const TEXTS: u8 = 254;
 
 /// A run without end. It takes its memory when it is made; a record takes memory for its unit's bytes, until the unit
 /// is sent.
@@ -36,6 +43,7 @@ pub struct OnAir<A: Allocator = Global> {
     pub(crate) greatest: u64,
     pub(crate) leap: Leap,
     pub(crate) records: u64,
+    pub(crate) one_plan: bool,
 }
 
 impl<A: Allocator> Model for OnAir<A> {
@@ -52,6 +60,7 @@ impl<A: Allocator> Model for OnAir<A> {
       greatest = o.greatest;
       leap = o.leap;
       records = o.records;
+      one_plan = o.one_plan;
     } };
 }
 
@@ -80,76 +89,6 @@ impl<A: Allocator + Copy> OnAir<A> {
         self.flush(to)
     }
 
-    /// Takes the next record: judges it, and writes the slots that it settles, to the last byte if a read of the
-    /// record after it may wait. A refused record changes nothing; if the run follows it, `follow` writes the slots
-    /// between.
-    pub fn hear<R: HeldInput, W: Sink>(
-        &mut self,
-        alloc: A,
-        input: &mut R,
-        to: &mut W,
-    ) -> Result<Heard, OutputFault>
-        // Where a read may wait, nothing waits to be written.
-        requires out { IsOut (R.held input.old) self.old }
-        ensures out { IfOk result (LetsOut (R.held input.new) self.new) }
-        ensures heard { (run : Run) (a : Air) (start : Option (List ℕ)) →
-            IsOnAir run a start (W.contents to.old) self.old →
-            Hears run a (R.remaining input.old) (R.remaining input.new) start (W.contents to.new) result self.new }
-        ensures counts { IfOk result (CountsRecord self.old.records self.new.records) }
-        ensures fault { NamesDevice result (R.fault_count input.old) (R.fault_count input.new)
-            (W.fault_count to.old) (W.fault_count to.new) }
-    {
-        if self.mux.now() >= self.terms.limit() {
-            return Ok(Heard::Ended(Ending::Slots));
-        }
-        if self.records == u64::MAX {
-            return Ok(Heard::Ended(Ending::Records));
-        }
-        let index = self.records;
-        match read_unit(alloc, input) {
-            Ok(None) => Ok(Heard::Ended(Ending::Input)),
-            Err(fault) => Ok(Heard::Ended(Ending::Unread(fault))),
-            Ok(Some((stream, unit))) => match self.take(stream, unit, to) {
-                Ok(None) => match self.let_out(input, to) {
-                    Ok(()) => Ok(Heard::Taken),
-                    Err(fault) => Err(fault),
-                },
-                Ok(Some(cause)) => Ok(Heard::Refused { index, cause }),
-                Err(fault) => Err(fault),
-            },
-        }
-    }
-
-    /// Takes records up to a refused record, or to the end. Before a read that may wait it writes all settled slots.
-    pub fn hear_on<R: HeldInput, W: Sink>(
-        &mut self,
-        alloc: A,
-        input: &mut R,
-        to: &mut W,
-    ) -> Result<Heard, OutputFault>
-        ensures heard { (run : Run) (n : ℕ) (a : Air) (origin start : Option (List ℕ)) →
-            IsOnAir run a start (W.contents to.old) self.old → HasHeard run n a origin (R.remaining input.old) →
-            HearsOn run a origin (R.remaining input.new) start (W.contents to.new) result self.new }
-        ensures counts { IfOk result (CountsRecords self.old.records self.new.records) }
-        ensures fault { NamesDevice result (R.fault_count input.old) (R.fault_count input.new)
-            (W.fault_count to.old) (W.fault_count to.new) }
-    {
-        match self.let_out(input, to) {
-            Ok(()) => {}
-            Err(fault) => return Err(fault),
-        }
-        'records: loop {
-            match self.hear(alloc, input, to) {
-                Ok(Heard::Taken) => {}
-                Ok(Heard::Refused { index, cause }) => {
-                    return Ok(Heard::Refused { index, cause });
-                }
-                Ok(Heard::Ended(why)) => return Ok(Heard::Ended(why)),
-                Err(fault) => return Err(fault),
-            }
-        }
-    }
-
     /// Follows a refused record, if the refusal says so: writes the slots up to its time. Without units they are null
     /// packets, tables and clock references.
     ///
@@ -169,6 +108,7 @@ impl<A: Allocator + Copy> OnAir<A> {
             AirRefusal::Followed { to: due, .. } => self.write_until(due, to),
             AirRefusal::Ahead(_) => Ok(()),
             AirRefusal::Feed(_) => Ok(()),
+            AirRefusal::Texts(_) => Ok(()),
         }
     }
 
@@ -198,6 +138,21 @@ impl<A: Allocator + Copy> OnAir<A> {
         ensures { result ≡ self.now.records }
     {
         self.records
+    }
+
+    /// Returns the texts in force.
+    pub fn texts(&self) -> &Description
+        ensures { (run : Run) (a : Air) (start now : Option (List ℕ)) → IsOnAir run a start now self.now →
+            result.now ≡ texts_now run a }
+    {
+        self.mux.texts()
+    }
+
+    // Returns whether records of a stream bring texts.
+    fn brings_texts(&self, stream: u8) -> bool
+        ensures { result ≡ (self.now.one_plan && (stream == 254)) }
+    {
+        self.one_plan && stream == TEXTS
     }
 
     // Writes what waits. Nothing waits then.
@@ -265,38 +220,204 @@ impl<A: Allocator + Copy> OnAir<A> {
             to: due,
         }
     }
+}
+
+impl OnAir {
+    /// Takes the next record: judges it, and writes the slots that it settles, to the last byte if a read of the
+    /// record after it may wait. A refused record changes nothing; if the run follows it, `follow` writes the slots
+    /// between. Texts are in force from the slot after these.
+    pub fn hear<R: HeldInput, W: Sink>(
+        &mut self,
+        alloc: Global,
+        input: &mut R,
+        to: &mut W,
+    ) -> Result<Heard, OutputFault>
+        // Where a read may wait, nothing waits to be written.
+        requires out { IsOut (R.held input.old) self.old }
+        ensures out { IfOk result (LetsOut (R.held input.new) self.new) }
+        ensures heard { (run : Run) (a : Air) (start : Option (List ℕ)) →
+            IsOnAir run a start (W.contents to.old) self.old →
+            Hears run a (R.remaining input.old) (R.remaining input.new) start (W.contents to.new) result self.new }
+        ensures counts { IfOk result (CountsRecord self.old.records self.new.records) }
+        ensures fault { NamesDevice result (R.fault_count input.old) (R.fault_count input.new)
+            (W.fault_count to.old) (W.fault_count to.new) }
+    {
+        if self.mux.now() >= self.terms.limit() {
+            return Ok(Heard::Ended(Ending::Slots));
+        }
+        if self.records == u64::MAX {
+            return Ok(Heard::Ended(Ending::Records));
+        }
+        let index = self.records;
+        match read_unit(alloc, input) {
+            Ok(None) => Ok(Heard::Ended(Ending::Input)),
+            Err(fault) => Ok(Heard::Ended(Ending::Unread(fault))),
+            Ok(Some((stream, unit))) => match self.take(alloc, stream, unit, to) {
+                Ok(Verdict::Accepted) => match self.let_out(input, to) {
+                    Ok(()) => Ok(Heard::Taken),
+                    Err(fault) => Err(fault),
+                },
+                Ok(Verdict::TextsFrom(slot)) => Ok(Heard::Changed { index, slot }),
+                Ok(Verdict::RefusedFor(cause)) => Ok(Heard::Refused { index, cause }),
+                Ok(Verdict::NoMemory) => Ok(Heard::Ended(Ending::TextsMemory)),
+                Err(fault) => Err(fault),
+            },
+        }
+    }
+
+    /// Takes records up to a refused record, a change of the texts, or the end. Before a read that may wait it writes all settled slots.
+    pub fn hear_on<R: HeldInput, W: Sink>(
+        &mut self,
+        alloc: Global,
+        input: &mut R,
+        to: &mut W,
+    ) -> Result<Heard, OutputFault>
+        ensures heard { (run : Run) (n : ℕ) (a : Air) (origin start : Option (List ℕ)) →
+            IsOnAir run a start (W.contents to.old) self.old → HasHeard run n a origin (R.remaining input.old) →
+            HearsOn run a origin (R.remaining input.new) start (W.contents to.new) result self.new }
+        ensures counts { IfOk result (CountsRecords self.old.records self.new.records) }
+        ensures fault { NamesDevice result (R.fault_count input.old) (R.fault_count input.new)
+            (W.fault_count to.old) (W.fault_count to.new) }
+    {
+        match self.let_out(input, to) {
+            Ok(()) => {}
+            Err(fault) => return Err(fault),
+        }
+        'records: loop {
+            match self.hear(alloc, input, to) {
+                Ok(Heard::Taken) => {}
+                Ok(Heard::Refused { index, cause }) => {
+                    return Ok(Heard::Refused { index, cause });
+                }
+                Ok(Heard::Changed { index, slot }) => return Ok(Heard::Changed { index, slot }),
+                Ok(Heard::Ended(why)) => return Ok(Heard::Ended(why)),
+                Err(fault) => return Err(fault),
+            }
+        }
+    }
 
     // Judges a record, and writes the slots that it settles; an incomplete last part waits.
     fn take<W: Sink>(
         &mut self,
+        alloc: Global,
         stream: u8,
-        unit: Unit<A>,
+        unit: Unit,
         to: &mut W,
-    ) -> Result<Option<AirRefusal>, OutputFault>
+    ) -> Result<Verdict, OutputFault>
         requires { self.old.records < 2 ^ 64 - 1 }
         ensures takes { (run : Run) (a : Air) (start : Option (List ℕ)) →
             IsOnAir run a start (W.contents to.old) self.old →
             TakesUnit run a (stream, unit) start (W.contents to.new) result self.new }
-        ensures records { OnOk result (self.new.records ≡ self.old.records + 1) }
+        ensures records { IfOk result (CountsTaken self.old.records self.new.records) }
         ensures clean { OnOk result (W.fault_count to.new ≡ W.fault_count to.old) }
         ensures fault { OnErr result (Failed (W.fault_count to.old) (W.fault_count to.new)) }
     {
         let due = unit.dts;
         if is_far(self.terms.ahead, self.greatest, due) {
             drop(unit);
-            return Ok(Some(self.pass_over(stream, due)));
+            return Ok(Verdict::RefusedFor(self.pass_over(stream, due)));
+        }
+        if self.brings_texts(stream) {
+            return self.take_texts(alloc, stream, unit, to);
         }
         self.records += 1;
         match admit(&mut self.mux, stream, unit) {
             None => {}
-            Some(unit) => return Ok(Some(AirRefusal::Feed(unit))),
+            Some(unit) => return Ok(Verdict::RefusedFor(AirRefusal::Feed(unit))),
         }
         self.leap = Leap::none();
         let greatest = self.greatest.max(due);
         self.greatest = greatest;
         match self.write_until(due, to) {
-            Ok(()) => Ok(None),
+            Ok(()) => Ok(Verdict::Accepted),
             Err(fault) => Err(fault),
         }
+    }
+
+    // Judges the texts of a record that is not too far ahead.
+    fn take_texts<W: Sink>(
+        &mut self,
+        alloc: Global,
+        stream: u8,
+        unit: Unit,
+        to: &mut W,
+    ) -> Result<Verdict, OutputFault>
+        requires { self.old.records < 2 ^ 64 - 1 }
+        ensures takes { (run : Run) (a : Air) (start : Option (List ℕ)) →
+            IsOnAir run a start (W.contents to.old) self.old → IsNearTexts run a (stream, unit) →
+            TakesUnit run a (stream, unit) start (W.contents to.new) result self.new }
+        ensures records { IfOk result (CountsTaken self.old.records self.new.records) }
+        ensures clean { OnOk result (W.fault_count to.new ≡ W.fault_count to.old) }
+        ensures fault { OnErr result (Failed (W.fault_count to.old) (W.fault_count to.new)) }
+    {
+        let due = unit.dts;
+        let judged = judged_texts(alloc, &self.mux, &unit.bytes);
+        drop(unit);
+        match judged {
+            Ok(texts) => self.change(texts, due, to),
+            Err(error) => Ok(self.refuse(error)),
+        }
+    }
+
+    // Refuses the texts of a record, or tells that there is no memory for them.
+    fn refuse(&mut self, error: TextsError) -> Verdict
+        requires { self.old.records < 2 ^ 64 - 1 }
+        ensures takes { (run : Run) (a : Air) (entry : ℕ × AccessUnit) (start now : Option (List ℕ)) →
+            IsOnAir run a start now self.old → IsNearTexts run a entry → JudgesTexts run a entry.1.bytes (Err error) →
+            TakesUnit run a entry start now (Ok result) self.new }
+        ensures records { CountsTaken self.old.records self.new.records result }
+    {
+        match error {
+            TextsError::Memory => Verdict::NoMemory,
+            TextsError::Refused(cause) => {
+                self.records += 1;
+                Verdict::RefusedFor(AirRefusal::Texts(cause))
+            }
+        }
+    }
+
+    // Writes the slots that a DTS settles, and puts texts on air after them; an incomplete last part waits.
+    fn change<W: Sink>(
+        &mut self,
+        texts: Description,
+        due: u64,
+        to: &mut W,
+    ) -> Result<Verdict, OutputFault>
+        requires { self.old.records < 2 ^ 64 - 1 }
+        ensures takes { (run : Run) (a : Air) (entry : ℕ × AccessUnit) (start : Option (List ℕ)) →
+            IsOnAir run a start (W.contents to.old) self.old → IsNearTexts run a entry → due ≡ entry.1.dts →
+            JudgesTexts run a entry.1.bytes (Ok texts) →
+            TakesUnit run a entry start (W.contents to.new) result self.new }
+        ensures records { IfOk result (CountsTaken self.old.records self.new.records) }
+        ensures clean { OnOk result (W.fault_count to.new ≡ W.fault_count to.old) }
+        ensures fault { OnErr result (Failed (W.fault_count to.old) (W.fault_count to.new)) }
+    {
+        self.records += 1;
+        self.leap = Leap::none();
+        let greatest = self.greatest.max(due);
+        self.greatest = greatest;
+        match self.write_until(due, to) {
+            Ok(()) => {}
+            Err(fault) => {
+                drop(texts);
+                return Err(fault);
+            }
+        }
+        Ok(Verdict::TextsFrom(self.put_on_air(texts)))
+    }
+
+    // Puts texts on air from the next slot on, and returns this slot.
+    fn put_on_air(&mut self, texts: Description) -> u64
+        ensures slot { (run : Run) (a : Air) (start now : Option (List ℕ)) → IsOnAir run a start now self.old →
+            result ≡ a.slots }
+        ensures changes { (run : Run) (a : Air) (start now : Option (List ℕ)) → IsOnAir run a start now self.old →
+            texts_cause run.scheduled.description (texts_now run a) (Ok texts) ≡ None →
+            IsOnAir run (with_texts run a texts) start now self.new }
+        ensures records { self.new.records ≡ self.old.records }
+    {
+        let slot = self.mux.now();
+        // These texts were judged before, and are not refused.
+        let _ = self.mux.change_texts(texts);
+        slot
     }
 }

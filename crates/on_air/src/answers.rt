@@ -10,8 +10,22 @@ pub enum Heard {
     Taken,
     /// The record of this number, counted from 0, was refused, and moved nothing.
     Refused { index: u64, cause: AirRefusal },
-    /// No record was heard, and none will be.
+    /// The record of this number changed the texts: they are in force from this slot on.
+    Changed { index: u64, slot: u64 },
+    /// No record was taken, and none will be.
     Ended(Ending),
+}
+
+/// What became of a record that was read.
+#[derive(Clone, Copy)]
+pub(crate) enum Verdict {
+    /// Its unit was accepted, or time went on.
+    Accepted,
+    /// Its texts are in force from this slot on.
+    TextsFrom(u64),
+    RefusedFor(AirRefusal),
+    /// There was no memory for its texts; nothing changed.
+    NoMemory,
 }
 
 /// Why no more records are taken.
@@ -25,4 +39,6 @@ pub enum Ending {
     Slots,
     /// 2^64 - 1 records were heard.
     Records,
+    /// There was no memory for the texts of a record.
+    TextsMemory,
 }

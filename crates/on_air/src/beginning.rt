@@ -1,6 +1,6 @@
 //! How a run begins: the one place where it takes memory of its own.
 
-ghost use Rattle.std.specs.Prelude.{◌≡◌, ◌≤◌, ◌+◌, ℕ, List, [], Option, None, IfOk};
+ghost use Rattle.std.specs.Prelude.{◌≡◌, ◌≤◌, ◌+◌, ℕ, List, [], Option, None, is_none, IfOk};
 ghost use Rattle.mux_core.specs.Buffer.{waiting_of};
 ghost use Rattle.mux_core.specs.NewMux.{Judges};
 ghost use Rattle.mux_core.specs.Scheduled.{Scheduled};
@@ -38,7 +38,7 @@ impl<A: Allocator + Copy> OnAir<A> {
         let _ = plan.plan();
         slot_plan::timing_laws::accepted_plan();
         match Mux::new(alloc, plan, of.room) {
-            Ok(mux) => begun(alloc, mux, terms, of, hex),
+            Ok(mux) => begun(alloc, mux, true, terms, of, hex),
             Err((cause, plan)) => {
                 drop(plan);
                 Err(cause)
@@ -65,7 +65,7 @@ impl<A: Allocator + Copy> OnAir<A> {
         let _ = switch.second();
         slot_plan::timing_laws::accepted_switch();
         match Mux::with_switch(alloc, switch, periods, of.room) {
-            Ok(mux) => begun(alloc, mux, terms, of, hex),
+            Ok(mux) => begun(alloc, mux, false, terms, of, hex),
             Err((cause, switch)) => {
                 drop(switch);
                 Err(cause)
@@ -103,6 +103,7 @@ fn numbers_of(description: &Description, terms: Terms) -> Numbers
 fn begun<A: Allocator + Copy>(
     alloc: A,
     mux: Mux<A>,
+    one_plan: bool,
     terms: Terms,
     of: Numbers,
     hex: bool,
@@ -110,7 +111,7 @@ fn begun<A: Allocator + Copy>(
     ensures memory { Judges None (begin_refusal result) }
     ensures begun { (d : Scheduled) (start : Option (List ℕ)) →
         Carries (run_with d terms hex) empty_history mux → Promises d →
-        of.rate ≡ d.description.rate → of.lead ≡ greatest_lead d.description.streams + terms.wait →
+        one_plan ≡ is_none d.schedule.following → of.rate ≡ d.description.rate → of.lead ≡ greatest_lead d.description.streams + terms.wait →
         IfOk result (IsOnAir (run_with d terms hex) silence start start) }
     ensures out { IfOk result (λ run. waiting_of run.packets ≡ []) }
 {
@@ -124,6 +125,7 @@ fn begun<A: Allocator + Copy>(
             greatest: 0,
             leap: Leap::none(),
             records: 0,
+            one_plan,
         }),
         Err(_) => {
             drop(mux);

@@ -8,7 +8,7 @@
 //!
 //! The modules in reading order: the terms of a run, why a record is refused, what a call answers, the rooms and leads
 //! of a description, a leap of the stamps, the slots that are settled, whether a read may wait, a unit judged and fed,
-//! the run and its calls, how it begins; the laws.
+//! texts judged, the run and its calls, how it begins; the laws.
 #![tactic(auto)]
 
 mod admission;
@@ -21,6 +21,7 @@ mod leap;
 mod options;
 mod refusals;
 mod slots;
+mod texts;
 mod waiting;
 
 pub use airing::OnAir;
@@ -28,4 +29,4 @@ pub use answers::{Ending, Heard};
 pub use leap::Leap;
 pub use mux_core::{NewError, OutputFault};
 pub use options::Terms;
-pub use refusals::{AirRefusal, FarRecord, RefusedUnit, refused_unit};
+pub use refusals::{AirRefusal, FarRecord, RefusedUnit, TextsRefusal, refused_unit};

@@ -3,6 +3,8 @@
 ghost use Rattle.std.specs.Prelude.{◌≡◌};
 ghost use Rattle.on_air.specs.Airing as spec;
 
+use changed_texts::TextFault;
+use description_keys::DescFault;
 use pes_packet::Unit;
 use std::alloc::Allocator;
 use unit_queue::FeedError;
@@ -47,6 +49,15 @@ pub struct FarRecord {
     pub ahead: u64,
 }
 
+/// Why texts are refused.
+#[derive(Clone, Copy)]
+pub enum TextsRefusal {
+    /// They are no description.
+    Unread(DescFault),
+    /// They differ from the description of the run, or from the texts on air, in more than texts.
+    Fault(TextFault),
+}
+
 /// Why a record is refused. It moves nothing, except if the run follows it.
 #[derive(Clone, Copy)]
 pub enum AirRefusal {
@@ -58,17 +69,6 @@ pub enum AirRefusal {
     /// follows them. `packet` slots were written before it, and time jumps from the DTS `from` to the DTS of the
     /// record, `to`.
     Followed { packet: u64, from: u64, to: u64 },
-}
-
-impl AirRefusal {
-    /// Returns the number of this refusal in fault lines.
-    pub fn code(self) -> u8
-        ensures { result ≡ spec.air_code self }
-    {
-        match self {
-            AirRefusal::Feed(unit) => unit.cause.code(),
-            AirRefusal::Ahead(_) => 11,
-            AirRefusal::Followed { .. } => 11,
-        }
-    }
+    /// Its texts can't be put on air.
+    Texts(TextsRefusal),
 }

@@ -5,7 +5,7 @@ use super::services::{ONE, SMALL, Series, units};
 use counted_io::Counted;
 use held_input::{BufferedInput, HeldInput};
 use mux_core::multiplex_as;
-use on_air::{Ending, Heard, OnAir, Terms};
+use on_air::{AirRefusal, Ending, Heard, OnAir, Terms};
 use std::alloc::Global;
 use std::io::BufReader;
 
@@ -151,10 +151,19 @@ fn begun(alloc: Global, terms: Terms, hex: bool) -> Option<OnAir> {
     OnAir::new(alloc, plan, terms, hex).ok()
 }
 
+/// The number of a refusal in the line of a refused unit; 0 for refused texts.
+fn code_of(cause: AirRefusal) -> u8 {
+    match cause {
+        AirRefusal::Feed(unit) => unit.cause.code(),
+        AirRefusal::Ahead(_) | AirRefusal::Followed { .. } => 11,
+        AirRefusal::Texts(_) => 0,
+    }
+}
+
 fn is_answer(heard: Heard, wanted: &Answer) -> bool {
     match (heard, wanted) {
         (Heard::Taken, Answer::Taken) => true,
-        (Heard::Refused { cause, .. }, Answer::Refused(code)) => cause.code() == *code,
+        (Heard::Refused { cause, .. }, Answer::Refused(code)) => code_of(cause) == *code,
         (Heard::Ended(Ending::Input), Answer::Input) => true,
         (Heard::Ended(Ending::Slots), Answer::Slots) => true,
         _ => false,

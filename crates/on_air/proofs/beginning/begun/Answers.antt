@@ -4,5 +4,5 @@ use Rattle.on_air.proofs.beginning.begun.Goals as goal
 
 pub returns-in-Ok-clause-begun : goal.returns-in-Ok-clause-begun
 returns-in-Ok-clause-begun g c =
-    λ d start carries promises rate lead. begins d c.args.terms c.args.hex start _ carries promises c.in-Ok.ensures.empty c.in-Ok.ensures.sent
-    c.in-Ok.ensures.hex refl rate lead refl c.none.ensures refl
+    λ d start carries promises one rate lead. begins d c.args.terms c.args.hex start _ carries promises c.in-Ok.ensures.empty c.in-Ok.ensures.sent
+    c.in-Ok.ensures.hex refl rate lead refl c.none.ensures refl one

@@ -17,7 +17,7 @@ returns-in-Ok-clause-ok g c = λ run a start h.
     c.flush.ensures.ok run (ended run a) start
     (counted_same run a _ _ start _ _ is
     (counted_on run a c.last_slot-target.result c.self.inside.packets.hex start _ _ c.args.self.now _ h
-    (record { terms = terms; rate = rate; lead = ap (λ (x : AirState). x.lead) c.self.view_is })
+    (record { terms = terms; rate = rate; lead = ap (λ (x : AirState). x.lead) c.self.view_is; one_plan = ap (λ (x : AirState). x.one_plan) c.self.view_is })
     (ap (λ (x : AirState). x.packets.hex) c.self.view_is) greatest (ap (λ (x : AirState). x.leap) c.self.view_is)
     (ap (λ (x : AirState). x.records) c.self.view_is)
     (c.in-Ok.ensures.ok run (job_of a) start carries (end_output run a start _ c.args.self.now c.self.inside.packets h packets))))
@@ -34,7 +34,7 @@ returns-in-Ok-clause-err g c = λ run a start h.
     c.flush.ensures.err run (ended run a) start
     (counted_same run a _ _ start _ _ is
     (counted_on run a c.last_slot-target.result c.self.inside.packets.hex start _ _ c.args.self.now _ h
-    (record { terms = terms; rate = rate; lead = ap (λ (x : AirState). x.lead) c.self.view_is })
+    (record { terms = terms; rate = rate; lead = ap (λ (x : AirState). x.lead) c.self.view_is; one_plan = ap (λ (x : AirState). x.one_plan) c.self.view_is })
     (ap (λ (x : AirState). x.packets.hex) c.self.view_is) greatest (ap (λ (x : AirState). x.leap) c.self.view_is)
     (ap (λ (x : AirState). x.records) c.self.view_is)
     (c.in-Ok.ensures.ok run (job_of a) start carries (end_output run a start _ c.args.self.now c.self.inside.packets h packets))))

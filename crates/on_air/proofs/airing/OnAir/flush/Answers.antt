@@ -15,8 +15,8 @@ returns-clause-ok g c = λ run a start h.
     (record {
       terms = ap (λ (x : AirState). x.terms) c.self.view_is;
       rate = ap (λ (x : AirState). x.rate) c.self.view_is;
-      lead =
-          ap (λ (x : AirState). x.lead) c.self.view_is;
+      lead = ap (λ (x : AirState). x.lead) c.self.view_is;
+      one_plan = ap (λ (x : AirState). x.one_plan) c.self.view_is;
     })
     (ap (λ (x : AirState). x.mux) c.self.view_is) (c.flush.ensures.hex ∙ ap (λ (p : Buffered). p.hex) packets)
     (ap (λ (x : AirState). x.greatest) c.self.view_is) (ap (λ (x : AirState). x.leap) c.self.view_is) (ap (λ (x : AirState). x.records) c.self.view_is) out)

@@ -1,4 +1,4 @@
-use Rattle.on_air.proofs.Aired.{follow_fails, followed_on, stays_ahead, stays_fed}
+use Rattle.on_air.proofs.Aired.{follow_fails, followed_on, stays_ahead, stays_fed, stays_texts}
 use Rattle.on_air.proofs.airing.OnAir.follow.Goals as goal
 
 pub returns-in-Followed-clause-ok : goal.returns-in-Followed-clause-ok
@@ -14,3 +14,6 @@ returns-in-Ahead-clause-ok g c = λ run a start h. stays_ahead run a c.args.refu
 
 pub returns-in-Feed-clause-ok : goal.returns-in-Feed-clause-ok
 returns-in-Feed-clause-ok g c = λ run a start h. stays_fed run a c.args.refusal c.in-Feed.field-0 start _ _ c.in-Feed.is h
+
+pub returns-in-Texts-clause-ok : goal.returns-in-Texts-clause-ok
+returns-in-Texts-clause-ok g c = λ run a start h. stays_texts run a c.args.refusal c.in-Texts.field-0 start _ _ c.in-Texts.is h

@@ -1,6 +1,6 @@
 use Rattle.std.proofs.Common.{Ok, refl, ◌∙◌, arith}
 use Rattle.on_air.specs.declared.answers.Heard.TheVariants.{Ended}
-use Rattle.on_air.proofs.HeardRecords.{midway_begins, next_taken, next_refused, next_ended, next_failed, names_same}
+use Rattle.on_air.proofs.HeardRecords.{midway_begins, next_taken, next_changed, next_refused, next_ended, next_failed, names_same}
 use Rattle.on_air.proofs.airing.OnAir.hear_on.Goals as goal
 
 pub records-init : goal.records-init
@@ -35,6 +35,13 @@ returns-in-Ok-Refused-clause-heard g c = λ run n a origin start h has.
     (g.W.Write.contents c.hear.new.to) c.records.self c.hear.new.self c.in-Ok-Refused.index c.in-Ok-Refused.cause w
     (rw c.in-Ok-Refused.field-0-is at (c.in-Ok-Refused.ensures.heard run w.so_far start w.state))
 
+pub returns-in-Ok-Changed-clause-heard : goal.returns-in-Ok-Changed-clause-heard
+returns-in-Ok-Changed-clause-heard g c = λ run n a origin start h has.
+    let w = c.records.invariant.known run n a origin start h has in
+    next_changed run a origin start (g.R.Read.remaining c.records.input) (g.R.Read.remaining c.hear.new.input) (g.W.Write.contents c.records.to)
+    (g.W.Write.contents c.hear.new.to) c.records.self c.hear.new.self c.in-Ok-Changed.index c.in-Ok-Changed.slot w
+    (rw c.in-Ok-Changed.field-0-is at (c.in-Ok-Changed.ensures.heard run w.so_far start w.state))
+
 pub returns-in-Ok-Ended-clause-heard : goal.returns-in-Ok-Ended-clause-heard
 returns-in-Ok-Ended-clause-heard g c = λ run n a origin start h has.
     let w = c.records.invariant.known run n a origin start h has in
@@ -51,6 +58,11 @@ returns-in-Err-hear-clause-heard g c = λ run n a origin start h has.
 pub returns-in-Ok-Refused-clause-counts : goal.returns-in-Ok-Refused-clause-counts
 returns-in-Ok-Refused-clause-counts g c =
     let counts = rw c.in-Ok-Refused.field-0-is at c.in-Ok-Refused.ensures.counts in
+    (omega (arith, c.records.invariant.rises, counts.1), omega (arith, counts.0, counts.1))
+
+pub returns-in-Ok-Changed-clause-counts : goal.returns-in-Ok-Changed-clause-counts
+returns-in-Ok-Changed-clause-counts g c =
+    let counts = rw c.in-Ok-Changed.field-0-is at c.in-Ok-Changed.ensures.counts in
     (omega (arith, c.records.invariant.rises, counts.1), omega (arith, counts.0, counts.1))
 
 pub returns-in-Ok-Ended-clause-counts : goal.returns-in-Ok-Ended-clause-counts

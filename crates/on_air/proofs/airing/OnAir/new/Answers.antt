@@ -1,4 +1,4 @@
-use Rattle.std.proofs.Common.{◌+◌, ap, ◌∙◌, subst}
+use Rattle.std.proofs.Common.{◌+◌, refl, ap, ◌∙◌, subst}
 use Rattle.description_parts.specs.Described.{Described}
 use Rattle.description_parts.specs.Ranges.{IsInRange}
 use Rattle.mux_core.specs.Histories.{empty_history}
@@ -17,6 +17,6 @@ returns-in-Ok-clause-begun g c = λ start.
     let ranges = subst (λ (d : Described). IsInRange d) c.description-2.ensures.description c.keeps_ranges.ensures in
     let promises : Promises (plan_schedule c.args.plan) =
     record { ranges = ranges; promised = c.accepted_plan.ensures c.args.plan.description c.args.plan.plan ranges c.description.ensures.serving } in
-    c.begun.ensures.begun (plan_schedule c.args.plan) start carries promises
+    c.begun.ensures.begun (plan_schedule c.args.plan) start carries promises refl
     (c.numbers_of-of.ensures.rate ∙ ap (λ (d : Described). d.rate) same)
     (c.numbers_of-of.ensures.lead ∙ ap (λ (d : Described). greatest_lead d.streams + c.args.terms.wait) same)

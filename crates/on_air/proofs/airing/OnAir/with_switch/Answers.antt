@@ -1,4 +1,4 @@
-use Rattle.std.proofs.Common.{◌+◌, length, ap, ◌∙◌, subst}
+use Rattle.std.proofs.Common.{◌+◌, length, refl, ap, ◌∙◌, subst}
 use Rattle.description_parts.specs.Described.{Described}
 use Rattle.description_parts.specs.Ranges.{IsInRange}
 use Rattle.slot_plan.specs.Conditions.{IsServing}
@@ -32,6 +32,6 @@ returns-in-Ok-clause-begun g c = λ start.
       promised = c.accepted_switch.ensures c.args.switch.first.description c.args.switch.first.plan c.args.switch.second c.args.periods ranges serving
           c.first.ensures.switchable;
     } in
-    c.begun.ensures.begun (switch_schedule c.args.switch c.args.periods) start carries promises
+    c.begun.ensures.begun (switch_schedule c.args.switch c.args.periods) start carries promises refl
     (c.numbers_of-of.ensures.rate ∙ ap (λ (d : Described). d.rate) same)
     (c.numbers_of-of.ensures.lead ∙ ap (λ (d : Described). greatest_lead d.streams + c.args.terms.wait) same)

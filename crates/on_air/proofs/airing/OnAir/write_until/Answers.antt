@@ -18,7 +18,7 @@ returns-clause-ok g c = λ run a start h.
     lead terms c.limit-limit.ensures.value refl in
     on_ok_weaker c.write_on.result
     (λ wrote. counted_same run a _ _ start _ _ is
-    (counted_on run a c.settled-target.result c.self.inside.packets.hex start _ _ c.args.self.now _ h (record { terms = terms; rate = rate; lead = lead })
+    (counted_on run a c.settled-target.result c.self.inside.packets.hex start _ _ c.args.self.now _ h (record { terms = terms; rate = rate; lead = lead; one_plan = ap (λ (x : AirState). x.one_plan) c.self.view_is })
     (ap (λ (x : AirState). x.packets.hex) c.self.view_is) (ap (λ (x : AirState). x.greatest) c.self.view_is) (ap (λ (x : AirState). x.leap) c.self.view_is)
     (ap (λ (x : AirState). x.records) c.self.view_is) wrote))
     (c.write_on.ensures.ok run (job_of a) start carries (end_output run a start _ c.args.self.now c.self.inside.packets h packets))
