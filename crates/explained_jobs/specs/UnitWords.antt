@@ -9,10 +9,14 @@ use Rattle.unit_queue.specs.declared.refusal.FeedError.{FeedError}
 use Rattle.unit_queue.specs.declared.refusal.FeedError.TheVariants.{UnknownStream, Empty, TooLarge, TooSoon, BadPts, Late, TooFar, Full, Group, Pace}
 use Rattle.on_air.specs.Airing.{refused_unit}
 use Rattle.on_air.specs.declared.refusals.AirRefusal.{AirRefusal}
-use Rattle.on_air.specs.declared.refusals.AirRefusal.TheVariants.{Feed, Ahead, Followed}
+use Rattle.on_air.specs.declared.refusals.AirRefusal.TheVariants.{Feed, Ahead, Followed, Texts}
 use Rattle.on_air.specs.declared.refusals.FarRecord.{FarRecord}
 use Rattle.on_air.specs.declared.refusals.RefusedUnit.{RefusedUnit}
+use Rattle.on_air.specs.declared.refusals.TextsRefusal.{TextsRefusal}
+use Rattle.on_air.specs.declared.refusals.TextsRefusal.TheVariants.{Unread, Fault}
+use Rattle.description_keys.specs.Codes.{fault_code, fault_item}
 use Rattle.explained_jobs.specs.declared.unit_limits.UnitLimits.{UnitLimits}
+use Rattle.explained_jobs.specs.TextWords.{text_words}
 
 -- 1. The limit
 
@@ -113,8 +117,20 @@ unfoldable pub leap_line : ℕ → ℕ → ℕ → ℕ → List ℕ
 leap_line index packet from to =
     codes "leap " ++ decimal index ++ codes " " ++ decimal packet ++ codes " " ++ decimal from ++ codes " " ++ decimal to ++ codes "\n"
 
+-- a record whose texts are refused: its index; then the number and the item of the description's refusal, or why the texts can't follow
+unfoldable pub switch_head : ℕ → List ℕ
+switch_head index = codes "switch " ++ decimal index ++ codes " "
+
+unfoldable pub unread_words : ℕ → ℕ → List ℕ
+unread_words code item = codes "description " ++ decimal code ++ codes " " ++ decimal item ++ codes ": tsjob explain DESCRIPTION says why\n"
+
+unfoldable pub refused_texts_words : TextsRefusal → List ℕ
+refused_texts_words (Unread fault) = unread_words (fault_code fault) (fault_item fault)
+refused_texts_words (Fault fault) = text_words fault
+
 -- the line for a refused record, by what the streams declare
 unfoldable pub air_line : List UnitLimits → ℕ → AirRefusal → List ℕ
 air_line streams index (Feed u) = stream_words index u (slice_get streams u.stream)
 air_line streams index (Ahead far) = far_head index far (slice_get streams far.stream) ++ ahead_words far.ahead far.from
 air_line streams index (Followed packet from to) = leap_line index packet from to
+air_line streams index (Texts refusal) = switch_head index ++ refused_texts_words refusal

@@ -3,9 +3,10 @@
 ghost use Rattle.std.specs.Prelude.{◌≡◌, ◌≤◌, ◌++◌, OnOk, string_bytes};
 ghost use Rattle.explained_jobs.specs.UnitWords as spec;
 
+use crate::text_words::write_text_fault;
 use crate::unit_limits::{UnitLimits, declared_limits, limits_at};
 use description::Description;
-use on_air::{AirRefusal, FarRecord, RefusedUnit, refused_unit};
+use on_air::{AirRefusal, FarRecord, RefusedUnit, TextsRefusal, refused_unit};
 use pes_packet::Unit;
 use std::alloc::AllocError;
 use std::fmt::Write;
@@ -250,6 +251,34 @@ fn write_leap(
     write!(text, "leap {index} {packet} {from} {to}\n")
 }
 
+// Appends whose texts are refused.
+fn write_switch_head(index: u64, text: &mut String) -> Result<(), AllocError>
+    ensures { OnOk result (string_bytes text.new ≡ string_bytes text.old ++ spec.switch_head index) }
+{
+    write!(text, "switch {index} ")
+}
+
+// Appends which refusal of a description it is.
+fn write_unread(code: u8, item: usize, text: &mut String) -> Result<(), AllocError>
+    ensures { OnOk result (string_bytes text.new ≡ string_bytes text.old ++ spec.unread_words code item) }
+{
+    write!(
+        text,
+        "description {code} {item}: tsjob explain DESCRIPTION says why\n"
+    )
+}
+
+// Appends why texts are refused.
+#[tactic(auto, unfolding(crate::specs::UnitWords::refused_texts_words))]
+fn write_refused_texts(refusal: TextsRefusal, text: &mut String) -> Result<(), AllocError>
+    ensures { OnOk result (string_bytes text.new ≡ string_bytes text.old ++ spec.refused_texts_words refusal) }
+{
+    match refusal {
+        TextsRefusal::Unread(fault) => write_unread(fault.code(), fault.item(), text),
+        TextsRefusal::Fault(fault) => write_text_fault(fault, text),
+    }
+}
+
 /// Appends why a record is refused on air, by the limits of the streams.
 #[tactic(auto, unfolding(crate::specs::UnitWords::air_line))]
 pub fn write_air(
@@ -272,5 +301,9 @@ pub fn write_air(
             write_ahead(far.ahead, far.from, text)
         }
         AirRefusal::Followed { packet, from, to } => write_leap(index, packet, from, to, text),
+        AirRefusal::Texts(refusal) => {
+            write_switch_head(index, text)?;
+            write_refused_texts(refusal, text)
+        }
     }
 }
