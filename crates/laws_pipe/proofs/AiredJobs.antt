@@ -22,7 +22,7 @@ use Rattle.checked_jobs.specs.FaultLines.{record_outcome}
 use Rattle.checked_jobs.specs.JobSchedules.{schedule_by}
 use Rattle.checked_jobs.proofs.LongerJobs.{job_kept}
 use Rattle.on_air.specs.declared.answers.Ending.{Ending}
-use Rattle.on_air.specs.declared.answers.Ending.TheVariants.{Input, Unread, Slots, Records}
+use Rattle.on_air.specs.declared.answers.Ending.TheVariants.{Input, Unread, Slots, Records, TextsMemory}
 use Rattle.on_air.specs.declared.refusals.AirRefusal.{AirRefusal}
 use Rattle.on_air.specs.Airing.{Air, Run, air_output, is_tick, ended, heard, last_at, last_by, last_of, lead_of, needed_room, slots_or}
 use Rattle.on_air.specs.Laws.{ComeInOrder, greatest_of, records_of, without_ticks}
@@ -165,6 +165,7 @@ finished records refused (Some Input) stopped e = record { is = refl; none = not
 finished records refused (Some (Unread fault)) stopped e = absurd (unread_status records fault e)
 finished records refused (Some Slots) stopped e = absurd cc
 finished records refused (Some Records) stopped e = absurd cc
+finished records refused (Some TextsMemory) stopped e = absurd (unread_status records Memory e)
 
 -- If the number of refused records is 0, no record was refused.
 none_in : (refused : List (ℕ × AirRefusal)) → nat_lt 0 (length refused) ≡ false → refused ≡ []

@@ -67,6 +67,7 @@ run_ended o run input begin mid end before so_far after why s t records status e
       end = why;
       ends = e.ends;
       stops = e.stops;
+      changed = e.changed;
       refused = e.refused;
       reader = e.reader;
       written = whole_output begin.bytes end.bytes t.packets (air_output run (ended run e.airs.came)) none h.output;

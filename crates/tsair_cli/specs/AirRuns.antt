@@ -22,7 +22,7 @@ use Rattle.tsair_cli.specs.declared.arguments.AirOptions.{AirOptions}
 use Rattle.tsair_cli.specs.declared.front.FrontError.{FrontError}
 use Rattle.tsair_cli.specs.declared.hearing.RecordsEnd.{RecordsEnd}
 use Rattle.tsair_cli.specs.Fronts.{ReadsFront, front_outcome}
-use Rattle.tsair_cli.specs.HeardRecords.{Airs, EndsBy, NamesReader, StopsAtFirst, has_refused}
+use Rattle.tsair_cli.specs.HeardRecords.{Airs, EndsBy, NamesReader, StopsAtFirst, change_slots, changed_among, has_refused}
 use Rattle.tsair_cli.specs.Endings.{end_outcome}
 
 -- 1. The run that a job asks for
@@ -60,6 +60,7 @@ pub record EndsRun (o : AirOptions) (run : Run) (input output faults : Device) (
   pub end : RecordsEnd
   pub ends : EndsBy run airs.came o.stop rest input.after.bytes end.why
   pub stops : o.stop ≡ true → StopsAtFirst airs.came end.why
+  pub changed : changed_among airs.reported ≡ change_slots airs.came
   pub refused : end.has_refused ≡ has_refused airs.came
   pub reader : NamesReader input end.why
   pub written : Appends output.before.bytes output.after.bytes (air_output run (ended run airs.came))

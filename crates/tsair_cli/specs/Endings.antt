@@ -4,7 +4,8 @@ use Rattle.devices.specs.Lines.{line_text}
 use Rattle.devices.specs.Outcomes.{Outcome, printed, reported}
 use Rattle.checked_jobs.specs.FaultLines.{record_outcome}
 use Rattle.on_air.specs.declared.answers.Ending.{Ending}
-use Rattle.on_air.specs.declared.answers.Ending.TheVariants.{Input, Unread, Slots, Records}
+use Rattle.on_air.specs.declared.answers.Ending.TheVariants.{Input, Unread, Slots, Records, TextsMemory}
+use Rattle.unit_records.specs.declared.reading.UnitFileError.TheVariants.{Memory}
 use Rattle.tsair_cli.specs.declared.hearing.RecordsEnd.{RecordsEnd}
 
 -- no report: status 1 if a record was refused
@@ -22,6 +23,7 @@ why_outcome slots records refused (Some Input) = quiet refused
 why_outcome slots records refused (Some (Unread fault)) = record_outcome records fault
 why_outcome slots records refused (Some Slots) = slots_outcome slots refused
 why_outcome slots records refused (Some Records) = reported (line_text (codes "records") [])
+why_outcome slots records refused (Some TextsMemory) = record_outcome records Memory
 
 -- by the slots that were asked for, and the number of records heard
 unfoldable pub end_outcome : Option ℕ → ℕ → RecordsEnd → Outcome

@@ -1,14 +1,17 @@
--- The records of a run, taken one after another, and a line for each refused record.
-use Rattle.std.specs.Prelude.{◌≡◌, ◌⊎◌, ◌≤◌, ◌<◌, ℕ, Bool, true, nat_lt, List, [], ◌∷◌, length, map, Option, Some, None, Result, Ok, Err, codes}
+-- The records of a run, taken one after another, and a line for each refused record and each change of the texts.
+use Rattle.std.specs.Prelude.{◌≡◌, ◌⊎◌, ◌≤◌, ◌<◌, ℕ, Bool, true, nat_lt, List, [], ◌∷◌, ◌++◌, fold, length, map, Option, Some, None, Result, Ok, Err, codes}
 use Rattle.devices.specs.Devices.{Device, Port, HasFailed, IsClean, between}
 use Rattle.devices.specs.Lines.{Reports, line_text}
 use Rattle.mux_core.specs.declared.output.OutputFault.{OutputFault}
 use Rattle.unit_records.specs.declared.reading.UnitFileError.TheVariants.{Cut, Size, Device as AtReader, Memory}
 use Rattle.on_air.specs.declared.refusals.AirRefusal.{AirRefusal}
-use Rattle.on_air.specs.declared.refusals.AirRefusal.TheVariants.{Feed, Ahead, Followed}
+use Rattle.on_air.specs.declared.refusals.AirRefusal.TheVariants.{Feed, Ahead, Followed, Texts}
+use Rattle.unit_queue.specs.Codes.{feed_code}
+use Rattle.on_air.specs.declared.answers.Heard.{Heard}
+use Rattle.on_air.specs.declared.answers.Heard.TheVariants.{Taken, Refused, Changed, Ended}
 use Rattle.on_air.specs.declared.answers.Ending.{Ending}
-use Rattle.on_air.specs.declared.answers.Ending.TheVariants.{Input, Unread, Slots, Records}
-use Rattle.on_air.specs.Airing.{Run, Air, air_code}
+use Rattle.on_air.specs.declared.answers.Ending.TheVariants.{Input, Unread, Slots, Records, TextsMemory}
+use Rattle.on_air.specs.Airing.{Run, Air}
 use Rattle.on_air.specs.AirStates.{AirState, IsOnAir}
 use Rattle.on_air.specs.Hearing.{EndsAt, Fails, HeardOn}
 use Rattle.explained_jobs.specs.UnitWords.{air_line, limits_of}
@@ -24,9 +27,10 @@ limits_in run = map limits_of run.scheduled.description.streams
 -- the record's number, and why; for a record that the run follows in spite of a leap: its number, the number of packets before it, and the DTS before and after
 -- the leap
 unfoldable pub numbers_by : ℕ → AirRefusal → List ℕ
-numbers_by index (Feed unit) = line_text (codes "unit") (index ∷ air_code (Feed unit) ∷ [])
-numbers_by index (Ahead far) = line_text (codes "unit") (index ∷ air_code (Ahead far) ∷ [])
+numbers_by index (Feed unit) = line_text (codes "unit") (index ∷ feed_code unit.cause ∷ [])
+numbers_by index (Ahead far) = line_text (codes "unit") (index ∷ 11 ∷ [])
 numbers_by index (Followed packet from to) = line_text (codes "leap") (index ∷ packet ∷ from ∷ to ∷ [])
+numbers_by index (Texts refusal) = line_text (codes "switch refused") (index ∷ [])
 
 abbrev pub numbers_line : ℕ × AirRefusal → List ℕ
 numbers_line refused = numbers_by refused.0 refused.1
@@ -35,11 +39,45 @@ numbers_line refused = numbers_by refused.0 refused.1
 abbrev pub ReportsRefusal : List UnitLimits → ℕ × AirRefusal → Device → Type 0
 ReportsRefusal streams refused faults = Reports faults (air_line streams refused.0 refused.1) ⊎ Reports faults (numbers_line refused)
 
--- refused records were reported one after another
-unfoldable pub ReportsRefusals : List UnitLimits → Port → Port → List (ℕ × AirRefusal) → Type 0
-ReportsRefusals streams before after [] = after ≡ before
-ReportsRefusals streams before after (refused ∷ more) =
-    (mid : Port) × ReportsRefusal streams refused (between before mid) × ReportsRefusals streams mid after more
+-- the record's number, and the slot from which on its texts are in force
+abbrev pub change_line : ℕ → ℕ → List ℕ
+change_line index slot = line_text (codes "switch") (index ∷ slot ∷ [])
+
+-- a refused record or a change of the texts was reported
+abbrev pub ReportsRecord : List UnitLimits → Heard → Device → Type 0
+ReportsRecord streams (Refused index cause) faults = ReportsRefusal streams (index, cause) faults
+ReportsRecord streams (Changed index slot) faults = Reports faults (change_line index slot)
+ReportsRecord streams Taken faults = ⊥
+ReportsRecord streams (Ended why) faults = ⊥
+
+-- records were reported one after another
+unfoldable pub ReportsRecords : List UnitLimits → Port → Port → List Heard → Type 0
+ReportsRecords streams before after [] = after ≡ before
+ReportsRecords streams before after (heard ∷ more) =
+    (mid : Port) × ReportsRecord streams heard (between before mid) × ReportsRecords streams mid after more
+
+-- the refused records among them, in order; and the slots of the changes, the last first
+unfoldable pub with_refused : List (ℕ × AirRefusal) → Heard → List (ℕ × AirRefusal)
+with_refused refused (Refused index cause) = refused ++ ((index, cause) ∷ [])
+with_refused refused (Changed index slot) = refused
+with_refused refused Taken = refused
+with_refused refused (Ended why) = refused
+
+abbrev pub refused_among : List Heard → List (ℕ × AirRefusal)
+refused_among heard = fold (λ refused h. with_refused refused h) [] heard
+
+unfoldable pub with_changed : List ℕ → Heard → List ℕ
+with_changed slots (Changed index slot) = slot ∷ slots
+with_changed slots (Refused index cause) = slots
+with_changed slots Taken = slots
+with_changed slots (Ended why) = slots
+
+abbrev pub changed_among : List Heard → List ℕ
+changed_among heard = fold (λ slots h. with_changed slots h) [] heard
+
+-- the slots from which on texts are in force, the last first
+abbrev pub change_slots : Air → List ℕ
+change_slots a = map (λ c. c.from) a.changes
 
 abbrev pub has_refused : Air → Bool
 has_refused a = nat_lt 0 (length a.refused)
@@ -50,7 +88,9 @@ has_refused a = nat_lt 0 (length a.refused)
 pub record Airs (run : Run) (origin left : Option (List ℕ)) (faults : Device) : Type 0 where
   pub came : Air
   pub heard_is : HeardOn run origin left came
-  pub so_far : ReportsRefusals (limits_in run) faults.before faults.after came.refused
+  pub reported : List Heard
+  pub so_far : ReportsRecords (limits_in run) faults.before faults.after reported
+  pub refused : refused_among reported ≡ came.refused
 
 -- why the run takes no further record: a record was refused, if that ends a run; or the end of the input, of the slots or of the records
 abbrev pub EndsBy : Run → Air → Bool → Option (List ℕ) → Option (List ℕ) → Option Ending → Type 0
@@ -73,13 +113,15 @@ NamesReader input (Some (Unread AtReader)) = HasFailed input
 NamesReader input (Some (Unread Memory)) = IsClean input
 NamesReader input (Some Slots) = IsClean input
 NamesReader input (Some Records) = IsClean input
+NamesReader input (Some TextsMemory) = IsClean input
 
--- the records ended
+-- the records ended, and each change of the texts was reported
 pub record EndsRecords (run : Run) (stop : Bool) (start : Option (List ℕ)) (input output faults : Device) (end : RecordsEnd) (s : AirState) : Type 0 where
   pub rest : Option (List ℕ)
   pub airs : Airs run input.before.bytes rest faults
   pub ends : EndsBy run airs.came stop rest input.after.bytes end.why
   pub stops : stop ≡ true → StopsAtFirst airs.came end.why
+  pub changed : changed_among airs.reported ≡ change_slots airs.came
   pub refused : end.has_refused ≡ has_refused airs.came
   pub state : IsOnAir run airs.came start output.after.bytes s
   pub reader : NamesReader input end.why

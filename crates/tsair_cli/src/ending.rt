@@ -9,6 +9,7 @@ use crate::hearing::RecordsEnd;
 use checked_jobs::{report_record, report_refusal};
 use counted_io::Sink;
 use on_air::Ending;
+use unit_records::UnitFileError;
 
 /// Returns the status of a run that ends without a report.
 fn quiet_status(has_refused: bool) -> u8
@@ -31,5 +32,6 @@ pub fn report_end<E: Sink>(faults: &mut E, slots: Option<u64>, records: u64, end
             None => report_refusal(faults, "slots", &[]),
         },
         Some(Ending::Records) => report_refusal(faults, "records", &[]),
+        Some(Ending::TextsMemory) => report_record(faults, records, UnitFileError::Memory),
     }
 }

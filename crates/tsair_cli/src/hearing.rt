@@ -6,7 +6,7 @@ ghost use Rattle.devices.specs.Lines.{Reports};
 ghost use Rattle.on_air.specs.Airing.{Run, silence};
 ghost use Rattle.on_air.specs.AirStates.{IsOnAir};
 ghost use Rattle.explained_jobs.specs.UnitWords.{air_line};
-ghost use Rattle.tsair_cli.specs.HeardRecords.{HearsAll, ReportsRefusal, limits_in, numbers_line};
+ghost use Rattle.tsair_cli.specs.HeardRecords.{HearsAll, ReportsRefusal, change_line, limits_in, numbers_line};
 
 use counted_io::Sink;
 use devices::{report_line, report_text};
@@ -44,15 +44,17 @@ fn report_numbers<E: Sink>(faults: &mut E, index: u64, cause: AirRefusal)
     ensures { Reports (writes E.Sink faults.old faults.new) (numbers_line (index, cause)) }
 {
     let index = u128::from(index);
-    let code = u128::from(cause.code());
     match cause {
         AirRefusal::Followed { packet, from, to } => report_line(
             faults,
             "leap",
             &[index, u128::from(packet), u128::from(from), u128::from(to)],
         ),
-        AirRefusal::Feed(_) => report_line(faults, "unit", &[index, code]),
-        AirRefusal::Ahead(_) => report_line(faults, "unit", &[index, code]),
+        AirRefusal::Feed(unit) => {
+            report_line(faults, "unit", &[index, u128::from(unit.cause.code())])
+        }
+        AirRefusal::Ahead(_) => report_line(faults, "unit", &[index, 11]),
+        AirRefusal::Texts(_) => report_line(faults, "switch refused", &[index]),
     }
 }
 
@@ -72,9 +74,16 @@ fn report_refused<E: Sink>(
     }
 }
 
+/// Reports from which slot on the texts of a record are in force.
+fn report_change<E: Sink>(faults: &mut E, index: u64, slot: u64)
+    ensures { Reports (writes E.Sink faults.old faults.new) (change_line index slot) }
+{
+    report_line(faults, "switch", &[u128::from(index), u128::from(slot)]);
+}
+
 /// Takes all records of a run, and reports each refused record before the next is read, and before the slots up to it
-/// are written if the run follows it, by what its streams declare. If `stop`, the first refused record ends the run, after
-/// those slots.
+/// are written if the run follows it, by what its streams declare; and each change of the texts. If `stop`, the first
+/// refused record ends the run, after those slots.
 pub fn hear_all<R: HeldInput, W: Sink, E: Sink>(
     alloc: Global,
     stop: bool,
@@ -104,6 +113,7 @@ pub fn hear_all<R: HeldInput, W: Sink, E: Sink>(
                     return Ok(RecordsEnd { has_refused, why });
                 }
             }
+            Ok(Heard::Changed { index, slot }) => report_change(faults, index, slot),
             Ok(Heard::Ended(why)) => {
                 let why = Some(why);
                 return Ok(RecordsEnd { has_refused, why });

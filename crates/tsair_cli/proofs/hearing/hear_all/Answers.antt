@@ -3,7 +3,7 @@ use Rattle.counted_io.specs.Device.{Failed}
 use Rattle.devices.specs.Devices.{Device, Port, between}
 use Rattle.on_air.specs.declared.answers.Heard.TheVariants.{Ended}
 use Rattle.on_air.proofs.HeardRecords.{names_same}
-use Rattle.tsair_cli.proofs.HeardRecords.{by_limits, ends, fails, first, follow_fails, next, stops}
+use Rattle.tsair_cli.proofs.HeardRecords.{by_limits, ends, fails, first, follow_fails, next, next_change, stops}
 use Rattle.tsair_cli.proofs.hearing.hear_all.Goals as goal
 
 pub records-init : goal.records-init
@@ -36,6 +36,27 @@ records-preserved-else-stop g c =
           m.airs.heard_is.heard_is))
           (λ a on. c.in-Ok.ensures.ok run a start on)
           (by_limits run c.args.streams.now (c.in-Ok-Refused.index, c.in-Ok-Refused.cause) _ limits c.report_refused.ensures);
+    }
+
+pub records-preserved-in-Ok-Changed : goal.records-preserved-in-Ok-Changed
+records-preserved-in-Ok-Changed g c =
+    let clean = rw c.in-Ok-Changed.field-0-is at c.in-Ok-Changed.ensures.fault in
+    record {
+      reads = clean.0 ∙ c.records.invariant.reads;
+      writes = clean.1 ∙ c.records.invariant.writes;
+      stops = c.records.invariant.stops;
+      known = λ run start limits h.
+          let m = c.records.invariant.known run start limits h in
+          next_change run (g.R.Read.remaining c.args.input.now) (g.R.Read.remaining c.records.input) (g.R.Read.remaining c.hear_on.new.input) start
+          (g.W.Write.contents c.records.output) (g.W.Write.contents c.hear_on.new.to)
+          (record { bytes = g.E.Write.contents c.args.faults.now; failed = g.E.Sink.fault_count c.args.faults.now })
+          (record { bytes = g.E.Write.contents c.records.faults; failed = g.E.Sink.fault_count c.records.faults })
+          (record { bytes = g.E.Write.contents c.report_change.new.faults; failed = g.E.Sink.fault_count c.report_change.new.faults })
+          c.records.has_refused c.records.on_air c.hear_on.new.self c.in-Ok-Changed.index c.in-Ok-Changed.slot m
+          (rw c.in-Ok-Changed.field-0-is at
+          (c.in-Ok-Changed.ensures.heard run m.airs.heard_is.count m.airs.came (g.R.Read.remaining c.args.input.now) start m.state
+          m.airs.heard_is.heard_is))
+          c.report_change.ensures;
     }
 
 pub returns-then-stop : goal.returns-then-stop
