@@ -359,7 +359,7 @@ impl OnAir {
         }
     }
 
-    // Refuses the texts of a record, or tells that there is no memory for them.
+    // Returns the answer about texts that are not put on air; counts their record if they are refused.
     fn refuse(&mut self, error: TextsError) -> Verdict
         requires { self.old.records < 2 ^ 64 - 1 }
         ensures takes { (run : Run) (a : Air) (entry : ℕ × AccessUnit) (start now : Option (List ℕ)) →

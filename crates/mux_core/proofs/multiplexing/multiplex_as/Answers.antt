@@ -12,6 +12,9 @@ pub returns-then-slots-gt-MAX_SLOTS-clause-refused : goal.returns-then-slots-gt-
 returns-then-slots-gt-MAX_SLOTS-clause-refused g c =
     early_is (slots_cause c.args.slots) (plan_schedule c.args.plan) c.args.units.items _ (many_slots c.args.slots (omega (arith, c.if-slots-gt-MAX_SLOTS.true)))
 
+pub returns-in_default-clause-refused : goal.returns-in_default-clause-refused
+returns-in_default-clause-refused g c = few_slots c.args.slots (omega (arith, c.if-slots-gt-MAX_SLOTS.false))
+
 pub returns-clause-refused : goal.returns-clause-refused
 returns-clause-refused g c =
     refuses_as (slots_cause c.args.slots) c.in-Ok.mux.schedule (plan_schedule c.args.plan) c.args.units.items c.write_job-written.result
