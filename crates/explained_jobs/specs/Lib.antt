@@ -2,3 +2,4 @@ pub mod UnitWords
 pub mod JobWords
 pub mod FaultLines
 pub mod TextWords
+pub mod TextAnswers

@@ -60,9 +60,9 @@ fn units_text(alloc: Global, switch: bool, bytes: &[u8]) -> Result<String, Alloc
     }
 }
 
-// Returns the bytes before the first plan.
+/// Returns the bytes before the first plan.
 #[tactic(auto, unfolding(crate::specs::JobWords::description_part))]
-fn description_part(bytes: &[u8]) -> &[u8]
+pub(crate) fn description_part(bytes: &[u8]) -> &[u8]
     ensures { result.now ≡ spec.description_part bytes.now (parts_of bytes.now) }
 {
     match parts_of(bytes) {

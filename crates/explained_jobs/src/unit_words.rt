@@ -268,9 +268,12 @@ fn write_unread(code: u8, item: usize, text: &mut String) -> Result<(), AllocErr
     )
 }
 
-// Appends why texts are refused.
+/// Appends why texts are refused.
 #[tactic(auto, unfolding(crate::specs::UnitWords::refused_texts_words))]
-fn write_refused_texts(refusal: TextsRefusal, text: &mut String) -> Result<(), AllocError>
+pub(crate) fn write_refused_texts(
+    refusal: TextsRefusal,
+    text: &mut String,
+) -> Result<(), AllocError>
     ensures { OnOk result (string_bytes text.new ≡ string_bytes text.old ++ spec.refused_texts_words refusal) }
 {
     match refusal {

@@ -9,11 +9,12 @@ use Rattle.devices.specs.Files.{Files, IsAsKnown}
 use Rattle.devices.specs.declared.files.FileFault.{FileFault}
 use Rattle.tsjob_cli.specs.Reports.{ReportsText, uncreated_text}
 use Rattle.tsjob_cli.specs.Saving.{AreNone}
-use Rattle.tsjob_cli.specs.Command.{Answers, Commands, LacksWords, MakesFile, Outputs, PerformsWords, Saves, ToFile, WritesTo, explains_files, known_words}
+use Rattle.tsjob_cli.specs.Command.{Answers, Commands, LacksWords, MakesFile, Outputs, PerformsWords, Saves, ToFile, WritesTo, explains_files, is_next, known_words}
 use Rattle.tsjob_cli.specs.Command.{output_file, words_but_output}
 use Rattle.tsjob_cli.specs.Explaining.{ExplainsFiles}
 use Rattle.tsjob_cli.specs.FileWords.{file_words}
 use Rattle.tsjob_cli.specs.MadeJobs.{MakesJob}
+use Rattle.tsjob_cli.specs.NextTexts.{AnswersNext}
 use Rattle.tsjob_cli.specs.Options.{usage_text}
 
 both : (b : Bool) → b ≡ true → b ≡ false → ⊥
@@ -48,16 +49,32 @@ performed outputs words job name files input output faults status named is write
     inl (subst (λ (n : Option Text). WritesTo outputs n (words_but_output words) files input output faults status) named
     (subst (λ (ws : List Text). WritesTo outputs name ws files input output faults status) is writes))
 
-pub explained : (outputs : Outputs) (words : List Text) (files : Files) (input output faults : Device) (status : ℕ) → explains_files words ≡ true →
-    IsUntouched input →
+pub explained : (outputs : Outputs) (words : List Text) (files : Files) (input output faults : Device) (status : ℕ) → is_next words ≡ false →
+    explains_files words ≡ true → IsUntouched input →
     ExplainsFiles files (file_words words) output faults status → Answers outputs words files input output faults status
-explained outputs words files input output faults status is unread e =
-    record { explains = λ yes. (e, unread); performs = λ no. absurd (both (explains_files words) is no) }
+explained outputs words files input output faults status other is unread e =
+    record {
+      next = λ yes. absurd (both (is_next words) yes other);
+      explains = λ _ yes. (e, unread);
+      performs = λ _ no. absurd (both (explains_files words) is no);
+    }
 
-pub not_explained : (outputs : Outputs) (words : List Text) (files : Files) (input output faults : Device) (status : ℕ) → explains_files words ≡ false →
-    PerformsWords outputs words files input output faults status → Answers outputs words files input output faults status
-not_explained outputs words files input output faults status isnt p =
-    record { explains = λ yes. absurd (both (explains_files words) yes isnt); performs = λ no. p }
+pub not_explained : (outputs : Outputs) (words : List Text) (files : Files) (input output faults : Device) (status : ℕ) → is_next words ≡ false →
+    explains_files words ≡ false → PerformsWords outputs words files input output faults status → Answers outputs words files input output faults status
+not_explained outputs words files input output faults status other isnt p =
+    record {
+      next = λ yes. absurd (both (is_next words) yes other);
+      explains = λ _ yes. absurd (both (explains_files words) yes isnt);
+      performs = λ _ no. p;
+    }
+
+pub next_answered : (outputs : Outputs) (words : List Text) (files : Files) (input output faults : Device) (status : ℕ) → is_next words ≡ true →
+    IsUntouched input → AnswersNext files (file_words words) output faults status → Answers outputs words files input output faults status
+next_answered outputs words files input output faults status is unread a = record {
+  next = λ yes. (a, unread);
+  explains = λ no yes. absurd (both (is_next words) is no);
+  performs = λ no isnt. absurd (both (is_next words) is no);
+}
 
 -- The program's words are the sorted words, so it answers these.
 pub commanded : (outputs : Outputs) (shown sorted : List Text) (files : Files) (input output faults : Device) (status : ℕ) → shown ≡ sorted →

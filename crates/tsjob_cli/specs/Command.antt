@@ -15,8 +15,9 @@ use Rattle.word_faults.specs.SortedWords.{are_taken, value_given, words_without}
 use Rattle.word_faults.specs.UsageReport.{AnswersWords}
 use Rattle.tsjob_cli.specs.Explaining.{ExplainsFiles}
 use Rattle.tsjob_cli.specs.FileWords.{file_words, marked_names, option_words}
+use Rattle.tsjob_cli.specs.NextTexts.{AnswersNext}
 use Rattle.tsjob_cli.specs.MadeJobs.{MakesJob, RunsJob, is_kept}
-use Rattle.tsjob_cli.specs.Options.{explain_words, known_for, sorting_words, usage_text}
+use Rattle.tsjob_cli.specs.Options.{explain_words, known_for, next_words, sorting_words, usage_text}
 use Rattle.tsjob_cli.specs.declared.command.TheConstants.{SHORT_NAMES}
 
 -- 1. The words
@@ -31,7 +32,7 @@ shorts = map commands.constant_short SHORT_NAMES
 abbrev pub sorted_words : List Text → List Text
 sorted_words words = commands.sorted_command sorting_words (commands.long_words shorts words)
 
--- sorted words ask for an explanation; all other words are known as for `run`
+-- sorted words ask for an explanation, or about new texts; all other words are known as for `run`
 abbrev pub is_explain_word : Option Text → Bool
 is_explain_word None = false
 is_explain_word (Some w) = bytes_eq w (codes "explain")
@@ -39,8 +40,15 @@ is_explain_word (Some w) = bytes_eq w (codes "explain")
 abbrev pub is_explained : List Text → Bool
 is_explained words = is_explain_word (commands.command_of sorting_words words)
 
+abbrev pub is_next_word : Option Text → Bool
+is_next_word None = false
+is_next_word (Some w) = bytes_eq w (codes "next")
+
+abbrev pub is_next : List Text → Bool
+is_next words = is_next_word (commands.command_of sorting_words words)
+
 abbrev pub known_words : List Text → CommandLine
-known_words words = if is_explained words then explain_words else known_for words
+known_words words = if is_explained words then explain_words else (if is_next words then next_words else known_for words)
 
 -- the file that is written; none if it is standard output
 abbrev pub unless_output : Text → Option Text
@@ -141,13 +149,14 @@ abbrev pub PerformsWords : Outputs → List Text → Files → Device → Device
 PerformsWords outputs words files input output faults status =
     WritesTo outputs (output_file words) (words_but_output words) files input output faults status ⊎ LacksWords input output faults status
 
--- an explanation of files, or the effect of `run`
+-- an answer about new texts, an explanation of files, or the effect of `run`
 abbrev pub explains_files : List Text → Bool
 explains_files words = is_explained words && not (length (file_words words) == 0)
 
 pub record Answers (outputs : Outputs) (words : List Text) (files : Files) (input output faults : Device) (status : ℕ) : Type 0 where
-  pub explains : explains_files words ≡ true → ExplainsFiles files (file_words words) output faults status × IsUntouched input
-  pub performs : explains_files words ≡ false → PerformsWords outputs words files input output faults status
+  pub next : is_next words ≡ true → AnswersNext files (file_words words) output faults status × IsUntouched input
+  pub explains : is_next words ≡ false → explains_files words ≡ true → ExplainsFiles files (file_words words) output faults status × IsUntouched input
+  pub performs : is_next words ≡ false → explains_files words ≡ false → PerformsWords outputs words files input output faults status
 
 -- 3. All of it, of sorted words
 

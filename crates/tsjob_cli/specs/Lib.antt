@@ -6,6 +6,7 @@ pub mod FileWords
 pub mod NamedInputs
 pub mod StreamedUnits
 pub mod Explaining
+pub mod NextTexts
 pub mod MadeJobs
 pub mod Command
 pub mod Reports

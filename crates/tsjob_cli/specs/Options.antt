@@ -24,7 +24,7 @@ barred_word false = Some (codes "--stream")
 -- a subcommand, or the mark of names of files, may accompany the options
 abbrev pub known_but_one : Option Text → CommandLine
 known_but_one barred =
-    known_but barred options (codes "describe" ∷ codes "units" ∷ codes "why" ∷ codes "explain" ∷ codes "--" ∷ []) (codes "-V" ∷ []) None
+    known_but barred options (codes "describe" ∷ codes "units" ∷ codes "why" ∷ codes "explain" ∷ codes "next" ∷ codes "--" ∷ []) (codes "-V" ∷ []) None
 
 abbrev pub known_words : Bool → CommandLine
 known_words takes_stream = known_but_one (barred_word takes_stream)
@@ -33,12 +33,15 @@ known_words takes_stream = known_but_one (barred_word takes_stream)
 abbrev pub sorting_words : CommandLine
 sorting_words = known_words true
 
--- an explanation has no options
+-- an explanation has no options, nor has a question about new texts
 abbrev pub explain_options : List OptionRow
 explain_options = map constant_view EXPLAIN_OPTIONS
 
 abbrev pub explain_words : CommandLine
 explain_words = known_by explain_options (codes "explain" ∷ codes "--" ∷ []) (codes "-V" ∷ []) None
+
+abbrev pub next_words : CommandLine
+next_words = known_by explain_options (codes "next" ∷ codes "--" ∷ []) (codes "-V" ∷ []) None
 
 -- the file of a description can be named with units, and with no names of files
 abbrev pub is_units : Option Subcommand → Bool
@@ -58,7 +61,8 @@ known_for words = known_words (takes_stream words)
 abbrev pub usage_front : Text
 usage_front =
     codes "usage: tsjob [describe|units|why] [OPTIONS] [FILE..|-] [-o OUT]\n"
-    ++ (codes "       tsjob units --stream DESCRIPTION < PACKETS > RECORDS\n" ++ codes "       tsjob explain [DESCRIPTION [PLAN [RECORDS]]]\n")
+    ++ (codes "       tsjob units --stream DESCRIPTION < PACKETS > RECORDS\n"
+    ++ (codes "       tsjob explain [DESCRIPTION [PLAN [RECORDS]]]\n" ++ codes "       tsjob next JOB TEXTS\n"))
 
 -- the usage, with a line for each option
 abbrev pub usage_text : List ℕ

@@ -13,7 +13,8 @@ use crate::explained_input::explain_files;
 use crate::file_mark::mark_place;
 use crate::file_words::{file_words, option_words};
 use crate::made_job::{MadeJob, make_job};
-use crate::options::{explain_words, known_for, sorting_words, usage};
+use crate::next_texts::answer_next;
+use crate::options::{explain_words, known_for, next_words, sorting_words, usage};
 use crate::program::run;
 use crate::streaming::STREAM_TERMINAL;
 use crate::{TERMINAL, report_uncreated, save_file};
@@ -65,12 +66,24 @@ fn is_explained(words: &[&str]) -> bool
     }
 }
 
+// Returns whether these sorted words ask about new texts.
+fn is_next(words: &[&str]) -> bool
+    ensures { result ≡ spec.is_next (map (λ s. s.now) words.now) }
+{
+    match command_of(sorting_words(), words) {
+        Some("next") => true,
+        _ => false,
+    }
+}
+
 // Returns the options and words that sorted words may have.
 fn known_words(words: &[&str]) -> KnownWords
     ensures { known_of result ≡ spec.known_words (map (λ s. s.now) words.now) }
 {
     if is_explained(words) {
         explain_words()
+    } else if is_next(words) {
+        next_words()
     } else {
         known_for(words)
     }
@@ -244,7 +257,9 @@ fn answer<F: NamedFiles + OutputFiles, R: Source, W: Sink, E: Sink>(
         (writes E.Sink faults.old faults.new) result }
 {
     let names = file_words(words);
-    if is_explained(words) && !names.is_empty() {
+    if is_next(words) {
+        answer_next(alloc, files, names, output, faults)
+    } else if is_explained(words) && !names.is_empty() {
         explain_files(alloc, files, names, output, faults)
     } else {
         perform_words(alloc, words, files, input, output, faults)

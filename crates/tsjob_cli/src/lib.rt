@@ -17,6 +17,7 @@ mod explained_input;
 mod file_mark;
 mod file_words;
 mod made_job;
+mod next_texts;
 mod options;
 mod program;
 mod reading;

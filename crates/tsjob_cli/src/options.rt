@@ -65,7 +65,7 @@ pub(crate) const OPTIONS: [OptionRow; 27] = [
     HELP,
 ];
 
-/// The options beside the word `explain`.
+/// The options beside the words `explain` and `next`.
 pub(crate) const EXPLAIN_OPTIONS: [OptionRow; 2] = [VERSION, HELP];
 
 /// The usage, written to the first writer if the words ask for help, to the second on a usage error: a line for each
@@ -73,6 +73,7 @@ pub(crate) const EXPLAIN_OPTIONS: [OptionRow; 2] = [VERSION, HELP];
 const USAGE: &str = "usage: tsjob [describe|units|why] [OPTIONS] [FILE..|-] [-o OUT]
        tsjob units --stream DESCRIPTION < PACKETS > RECORDS
        tsjob explain [DESCRIPTION [PLAN [RECORDS]]]
+       tsjob next JOB TEXTS
   --rate 100000..100000000       bits a second; else the first tried rate with a plan
   --program N,..                 the programs that are taken
   --without PID,..               PIDs that are left out
@@ -121,7 +122,7 @@ fn known_words(takes_stream: bool) -> KnownWords
 {
     KnownWords {
         options: &OPTIONS,
-        words: &["describe", "units", "why", "explain", "--"],
+        words: &["describe", "units", "why", "explain", "next", "--"],
         names: false,
         alone: &["-V"],
         required: None,
@@ -143,6 +144,20 @@ pub(crate) fn explain_words() -> KnownWords
     KnownWords {
         options: &EXPLAIN_OPTIONS,
         words: &["explain", "--"],
+        names: false,
+        alone: &["-V"],
+        required: None,
+        barred: None,
+    }
+}
+
+/// Returns the options and words known for a question about new texts.
+pub(crate) fn next_words() -> KnownWords
+    ensures { known_of result ≡ spec.next_words }
+{
+    KnownWords {
+        options: &EXPLAIN_OPTIONS,
+        words: &["next", "--"],
         names: false,
         alone: &["-V"],
         required: None,
