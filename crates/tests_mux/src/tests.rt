@@ -1,7 +1,6 @@
 //! Worked services and plans, runs of the multiplexer, measured streams, and refused memory. A helper that has no
 //! answer to give answers None.
 
-mod airing;
 mod checks;
 mod devices;
 mod measuring;
