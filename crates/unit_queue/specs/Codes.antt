@@ -1,7 +1,7 @@
 -- The numbers of the refusals.
 use Rattle.std.specs.Prelude.{ℕ}
 use Rattle.unit_queue.specs.declared.refusal.FeedError.{FeedError}
-use Rattle.unit_queue.specs.declared.refusal.FeedError.TheVariants.{UnknownStream, Empty, TooLarge, TooSoon, BadPts, Late, TooFar, Full, Group, Pace}
+use Rattle.unit_queue.specs.declared.refusal.FeedError.TheVariants.{UnknownStream, Empty, TooLarge, TooSoon, BadPts, Late, TooFar, Full, Group, Pace, OffAir}
 
 -- the number of a refused unit
 abbrev pub feed_code : FeedError → ℕ
@@ -15,3 +15,4 @@ feed_code TooFar = 7
 feed_code Full = 8
 feed_code Group = 9
 feed_code Pace = 10
+feed_code OffAir = 13

@@ -38,6 +38,9 @@ pub enum FeedError {
     /// Units in a row have more packets than the burst and the pace that their stream declares.
     #[error("units in a row have more packets than the burst and the pace of their stream")]
     Pace,
+    /// No program on air has the stream.
+    #[error("no program on air has the stream")]
+    OffAir,
 }
 
 impl FeedError {
@@ -56,6 +59,7 @@ impl FeedError {
             FeedError::Full => 8,
             FeedError::Group => 9,
             FeedError::Pace => 10,
+            FeedError::OffAir => 13,
         }
     }
 }
