@@ -1,11 +1,13 @@
 -- The rows of keys, and what each refuses.
-use Rattle.std.specs.Prelude.{ℕ, pos, ◌&&◌, ◌==◌, not, Bool, List, map, find, Option, is_none}
+use Rattle.std.specs.Prelude.{ℕ, pos, ◌&&◌, ◌==◌, min, not, Bool, List, map, find, Option, is_none}
 use Rattle.std.specs.Borrow.{Bor}
 use Rattle.toml.specs.Data.{Data, get}
 use Rattle.description_values.specs.Moments.{moment_at}
-use Rattle.description_values.specs.Values.{boolean_or, descriptors_or_none, integer_at, integer_or, language_at, optional_integer}
-use Rattle.description_values.specs.Values.{optional_language, sections_at, tables_at, text_at, text_or}
-use Rattle.description_keys.specs.ProgramKeys.{refuses_channel, refuses_pcr_pid}
+use Rattle.description_values.specs.Values.{boolean_or, descriptors_or_none, integer_at, integer_or, optional_integer}
+use Rattle.description_values.specs.Values.{optional_language, sections_at, tables_at, text_or}
+use Rattle.description_keys.specs.ProgramKeys.{refuses_channel, refuses_pcr_pid, refuses_service_descriptors}
+use Rattle.description_keys.specs.EventKeys.{refuses_event_descriptors, refuses_event_language, refuses_event_name, refuses_event_text}
+use Rattle.description_keys.specs.NetworkKeys.{refuses_network_name}
 use Rattle.description_keys.specs.Refusals.{is_no_table}
 use Rattle.description_keys.specs.Rules.{Rule, rule}
 use Rattle.description_keys.specs.StreamKeys.{has_frame_left, has_owner, has_sharers, refuses_burst_packets, refuses_frame, refuses_frame_size, refuses_frames}
@@ -51,6 +53,12 @@ abbrev pub refuses_jointly : JointKey → Data → Data → Bool
 refuses_jointly joint.SharedClock document d = refuses_shared_clock d
 refuses_jointly joint.EitPackets document d = refuses_eit_packets d
 refuses_jointly joint.Versions document d = refuses_versions d
+refuses_jointly joint.NetworkName document d = refuses_network_name d
+refuses_jointly joint.ServiceDescriptors document d = refuses_service_descriptors d
+refuses_jointly joint.EventLanguage document d = refuses_event_language d
+refuses_jointly joint.EventName document d = refuses_event_name d
+refuses_jointly joint.EventText document d = refuses_event_text d
+refuses_jointly joint.EventDescriptors document d = refuses_event_descriptors d
 refuses_jointly joint.ClockPid document d = refuses_pcr_pid document d
 refuses_jointly joint.Channel document d = refuses_channel document d
 refuses_jointly joint.StreamId document d = is_none (stream_id d)
@@ -76,7 +84,7 @@ refuses_jointly joint.EntryDescriptors document d = is_listed d && is_none (entr
 abbrev pub has_no_table : List ℕ → Data → Bool
 has_no_table name d = is_no_table (get name d)
 
--- each kind by its range and its default
+-- each kind by its range and its default; no loop of descriptors has more than 4,000 bytes
 abbrev pub refuses_kind : KeyKind → List ℕ → Data → Data → Bool
 refuses_kind (kind.Number least most) name document d = is_none (integer_at name (pos least) (pos most) d)
 refuses_kind kind.Pid name document d = is_none (integer_at name (pos 32) (pos 8190) d)
@@ -84,11 +92,9 @@ refuses_kind (kind.NumberOr default least most) name document d = is_none (integ
 refuses_kind (kind.NumberIfAny least most) name document d = is_none (optional_integer name (pos least) (pos most) d)
 refuses_kind kind.Moment name document d = is_none (moment_at name d)
 refuses_kind (kind.Flag default) name document d = is_none (boolean_or default name d)
-refuses_kind (kind.Text most) name document d = is_none (text_at most name d)
 refuses_kind (kind.TextOrEmpty most) name document d = is_none (text_or most name d)
-refuses_kind kind.Language name document d = is_none (language_at name d)
 refuses_kind kind.LanguageIfAny name document d = is_none (optional_language name d)
-refuses_kind kind.Descriptors name document d = is_none (descriptors_or_none name d)
+refuses_kind (kind.Descriptors most) name document d = is_none (descriptors_or_none (min most 4000) name d)
 refuses_kind kind.Sections name document d = not (sections_at name d)
 refuses_kind kind.Owner name document d = not (has_owner document d)
 refuses_kind kind.OneTable name document d = has_no_table name d

@@ -1,5 +1,5 @@
 -- The keys of a table of the array `program`.
-use Rattle.std.specs.Prelude.{ℕ, pos, ◌==◌, ◌&&◌, ◌||◌, not, Bool, true, false, List, [], ◌∷◌, Option, Some, None, codes, is_none, unwrap_or}
+use Rattle.std.specs.Prelude.{ℕ, pos, ◌==◌, ◌&&◌, ◌||◌, not, Bool, true, false, List, [], ◌∷◌, Option, Some, None, codes, is_none, is_some, unwrap_or}
 use Rattle.std.specs.List.{list_any}
 use Rattle.std.specs.Option.{option_or}
 use Rattle.toml.specs.Data.{Data, get}
@@ -36,7 +36,7 @@ abbrev pub program_pcr_limit : Data → Option ℕ
 program_pcr_limit = integer_or 40 (codes "pcr_limit") (pos 1) (pos 100)
 
 abbrev pub program_descriptors : Data → Option (List ℕ)
-program_descriptors = descriptors_or_none (codes "descriptors")
+program_descriptors = descriptors_or_none 700 (codes "descriptors")
 
 -- service_type (EN 300 468, 6.2.34): 1 is digital television
 abbrev pub program_service_type : Data → Option ℕ
@@ -47,6 +47,32 @@ program_provider = text_or 100 (codes "provider")
 
 abbrev pub program_name : Data → Option (List ℕ)
 program_name = text_or 100 (codes "name")
+
+-- the whole loop of its service in the SDT, in place of these three keys: refused beside one of them
+abbrev pub has_service_loop : Data → Bool
+has_service_loop program = is_some (get (codes "service_descriptors") program)
+
+abbrev pub has_service_texts : Data → Bool
+has_service_texts program =
+    is_some (get (codes "service_type") program) || is_some (get (codes "provider") program) || is_some (get (codes "name") program)
+
+abbrev pub program_service_descriptors : Data → Option (List ℕ)
+program_service_descriptors = descriptors_or_none 1004 (codes "service_descriptors")
+
+abbrev pub refuses_service_descriptors : Data → Bool
+refuses_service_descriptors program =
+    is_none (program_service_descriptors program) || (has_service_loop program && has_service_texts program)
+
+-- running_status of its service (EN 300 468, table 6): 4 is running
+abbrev pub program_running_status : Data → Option ℕ
+program_running_status = integer_or 4 (codes "running_status") (pos 0) (pos 7)
+
+-- free_CA_mode and EIT_schedule_flag of its service
+abbrev pub program_free_ca : Data → Option Bool
+program_free_ca = boolean_or false (codes "free_ca")
+
+abbrev pub program_eit_schedule : Data → Option Bool
+program_eit_schedule = boolean_or false (codes "eit_schedule")
 
 -- logical_channel_number of a service in its network (IEC 62216), if the program has one: 10 bits, and 0 is none
 abbrev pub program_channel : Data → Option (Option ℕ)
@@ -94,6 +120,9 @@ program_rules = needs part.Program 31 (codes "number") program_number
     ∷ needs part.Program 35 (codes "descriptors") program_descriptors
     ∷ needs part.Program 36 (codes "service_type") program_service_type
     ∷ needs part.Program 37 (codes "provider") program_provider ∷ needs part.Program 38 (codes "name") program_name
+    ∷ rule part.Program 88 (codes "service_descriptors") (λ document program. refuses_service_descriptors program)
+    ∷ needs part.Program 89 (codes "running_status") program_running_status
+    ∷ needs part.Program 90 (codes "free_ca") program_free_ca ∷ needs part.Program 91 (codes "eit_schedule") program_eit_schedule
     ∷ rule part.Program 93 (codes "lcn") (λ document program. refuses_channel document program)
     ∷ needs part.Program 94 (codes "pmt_packets") program_pmt_packets
     ∷ needs part.Program 104 (codes "on_air") program_on_air ∷ []

@@ -7,7 +7,7 @@ use Rattle.description_values.specs.Values.{elements, is_table, tables_at}
 use Rattle.description_values.specs.KnownKeys.{knows_keys}
 use Rattle.description_keys.specs.Rules.{Rule, names_in, rule}
 use Rattle.description_keys.specs.TopKeys.{limit_in, top_rules}
-use Rattle.description_keys.specs.NetworkKeys.{network_rules}
+use Rattle.description_keys.specs.NetworkKeys.{network_rules, network_stream_rules}
 use Rattle.description_keys.specs.ProgramKeys.{program_rules}
 use Rattle.description_keys.specs.StreamKeys.{stream_rules}
 use Rattle.description_keys.specs.EventKeys.{event_rules}
@@ -35,6 +35,10 @@ tables_of = elements (codes "table")
 abbrev pub network_of : Data → Option Data
 network_of = get (codes "network")
 
+abbrev pub other_streams_of : Option Data → List Data
+other_streams_of None = []
+other_streams_of (Some network) = elements (codes "stream") network
+
 -- the parts of a kind, in their order
 abbrev pub parts_of : KeyPart → Data → List Data
 parts_of part.Document d = d ∷ []
@@ -43,6 +47,7 @@ parts_of part.Program d = programs_of d
 parts_of part.Stream d = streams_of d
 parts_of part.Event d = events_of d
 parts_of part.Table d = tables_of d
+parts_of part.NetworkStream d = other_streams_of (network_of d)
 
 -- 2. The rules in the order of their refusals: a table or an array before its keys
 
@@ -54,18 +59,20 @@ is_no_table (Some network) = not (is_table network)
 abbrev pub network_rule : Rule
 network_rule = rule part.Document 20 (codes "network") (λ document d. is_no_table (network_of d))
 
--- an array of tables: whether it may be absent, its key, and the least and the greatest number of tables, without and with `transponder`
-abbrev pub array_rule : ℕ → Bool → List ℕ → ℕ → ℕ → ℕ → Rule
-array_rule code absent name least most more =
-    rule part.Document code name (λ document d. not (tables_at absent name least (limit_in document most more) d))
+-- an array of tables: its part, whether it may be absent, its key, and the least and the greatest number of tables, without and with
+-- `transponder`
+abbrev pub array_rule : KeyPart → ℕ → Bool → List ℕ → ℕ → ℕ → ℕ → Rule
+array_rule owner code absent name least most more =
+    rule owner code name (λ document d. not (tables_at absent name least (limit_in document most more) d))
 
 unfoldable pub rules : List Rule
 rules = top_rules
     ++ ((network_rule ∷ network_rules)
-    ++ ((array_rule 30 false (codes "program") 1 16 64 ∷ program_rules)
-    ++ ((array_rule 40 true (codes "stream") 0 32 254 ∷ stream_rules)
-    ++ ((array_rule 60 true (codes "event") 0 256 1024 ∷ event_rules)
-    ++ (array_rule 70 true (codes "table") 0 16 64 ∷ table_rules)))))
+    ++ ((array_rule part.Network 25 true (codes "stream") 0 64 64 ∷ network_stream_rules)
+    ++ ((array_rule part.Document 30 false (codes "program") 1 16 64 ∷ program_rules)
+    ++ ((array_rule part.Document 40 true (codes "stream") 0 32 254 ∷ stream_rules)
+    ++ ((array_rule part.Document 60 true (codes "event") 0 256 1024 ∷ event_rules)
+    ++ (array_rule part.Document 70 true (codes "table") 0 16 64 ∷ table_rules))))))
 
 -- the keys that a part may have
 abbrev pub names_of : KeyPart → List (List ℕ)
@@ -77,7 +84,7 @@ knows_part d one = list_all (knows_keys (names_of one)) (parts_of one d)
 
 abbrev pub has_unknown_key : Data → Bool
 has_unknown_key d = not (knows_part d part.Document
-    && knows_part d part.Network
+    && (knows_part d part.Network && knows_part d part.NetworkStream)
     && (knows_part d part.Program && knows_part d part.Stream)
     && (knows_part d part.Event && knows_part d part.Table))
 

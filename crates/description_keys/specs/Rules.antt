@@ -26,6 +26,7 @@ part_number part.Program = 2
 part_number part.Stream = 3
 part_number part.Event = 4
 part_number part.Table = 5
+part_number part.NetworkStream = 6
 
 abbrev pub is_of : KeyPart → KeyPart → Bool
 is_of one other = part_number one == part_number other

@@ -94,7 +94,7 @@ abbrev pub stream_language : Data → Option (Option (List ℕ))
 stream_language = optional_language (codes "language")
 
 abbrev pub stream_descriptors : Data → Option (List ℕ)
-stream_descriptors = descriptors_or_none (codes "descriptors")
+stream_descriptors = descriptors_or_none 700 (codes "descriptors")
 
 -- how many successive units are counted together
 abbrev pub stream_group : Data → Option ℕ

@@ -25,7 +25,7 @@ abbrev pub entry_type : Data → Option ℕ
 entry_type = integer_at (codes "stream_type") (pos 1) (pos 255)
 
 abbrev pub entry_descriptors : Data → Option (List ℕ)
-entry_descriptors = descriptors_at (codes "descriptors")
+entry_descriptors = descriptors_at 700 (codes "descriptors")
 
 -- the rules of the keys, by their numbers
 abbrev pub table_rules : List Rule

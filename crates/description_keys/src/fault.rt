@@ -11,8 +11,8 @@ pub enum DescFault {
     Text,
     #[error("a key is not one of a description")]
     UnknownKey,
-    /// A key by the number of its refusal, and the place of the program, stream, event or private table in its array,
-    /// from 0; 0 for the document and its network.
+    /// A key by the number of its refusal, and the place of the program, stream, event, private table or transport stream of
+    /// the network in its array, from 0; 0 for the document and its network.
     #[error("a key is missing, of another type or out of range")]
     Key(u8, usize),
     #[error("two PIDs are equal")]

@@ -3,7 +3,7 @@
 ghost use Rattle.std.specs.Prelude.{◌≡◌};
 ghost use Rattle.description_keys.specs.Rules.{part_number, is_of};
 
-/// The part of a description that has a key: the document, its table `network`, or a table of one of its arrays.
+/// The part of a description that has a key: the document, its table `network`, or a table of an array of one of them.
 #[derive(Clone, Copy)]
 pub enum KeyPart {
     Document,
@@ -12,6 +12,7 @@ pub enum KeyPart {
     Stream,
     Event,
     Table,
+    NetworkStream,
 }
 
 impl KeyPart {
@@ -26,6 +27,7 @@ impl KeyPart {
             KeyPart::Stream => 3,
             KeyPart::Event => 4,
             KeyPart::Table => 5,
+            KeyPart::NetworkStream => 6,
         }
     }
 
@@ -43,6 +45,12 @@ pub enum JointKey {
     SharedClock,
     EitPackets,
     Versions,
+    NetworkName,
+    ServiceDescriptors,
+    EventLanguage,
+    EventName,
+    EventText,
+    EventDescriptors,
     ClockPid,
     Channel,
     StreamId,
@@ -80,16 +88,12 @@ pub enum KeyKind {
     Moment,
     /// True or false; the value of the field if the key is absent.
     Flag(bool),
-    /// A text of up to so many bytes.
-    Text(u8),
-    /// The same; empty if the key is absent.
+    /// A text of up to so many bytes; empty if the key is absent.
     TextOrEmpty(u8),
-    /// Three letters.
-    Language,
     /// Three letters, or no language.
     LanguageIfAny,
-    /// Whole descriptors, or no descriptors.
-    Descriptors,
+    /// Whole descriptors of up to so many bytes, or no descriptors.
+    Descriptors(usize),
     /// Ready-made sections.
     Sections,
     /// The number of a declared program.

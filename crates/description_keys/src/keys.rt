@@ -5,19 +5,20 @@ ghost use Rattle.description_keys.specs.KeyRows.{keys, row_of, rule_of, view};
 ghost use Rattle.description_keys.specs.Refusals.{rules};
 
 use crate::key_row::JointKey::{
-    BurstPackets, Channel, ClockPid, EitPackets, EntryDescriptors, EntryProgram, EntryType, Frame,
-    FrameLeft, FrameSize, Frames, Group, GroupPackets, Main, Mb, Pace, Rbx, Rx, SharedClock,
+    BurstPackets, Channel, ClockPid, EitPackets, EntryDescriptors, EntryProgram, EntryType,
+    EventDescriptors, EventLanguage, EventName, EventText, Frame, FrameLeft, FrameSize, Frames,
+    Group, GroupPackets, Main, Mb, NetworkName, Pace, Rbx, Rx, ServiceDescriptors, SharedClock,
     SharedWith, Size, StreamId, Versions,
 };
 use crate::key_row::KeyKind::{
-    Descriptors, Flag, Joint, Language, LanguageIfAny, Moment, Number, NumberIfAny, NumberOr,
-    OneTable, Owner, Pid, Sections, Tables, Text, TextOrEmpty,
+    Descriptors, Flag, Joint, LanguageIfAny, Moment, Number, NumberIfAny, NumberOr, OneTable,
+    Owner, Pid, Sections, Tables, TextOrEmpty,
 };
-use crate::key_row::KeyPart::{Document, Event, Network, Program, Stream, Table};
+use crate::key_row::KeyPart::{Document, Event, Network, NetworkStream, Program, Stream, Table};
 use crate::key_row::{KeyRow, Row};
 
 /// All keys, in the order of their refusals: a table or an array before its keys.
-pub const KEYS: [KeyRow; 72] = [
+pub const KEYS: [KeyRow; 82] = [
     Row(
         Document,
         10,
@@ -65,8 +66,25 @@ pub const KEYS: [KeyRow; 72] = [
     ),
     Row(Document, 20, "network", OneTable, ""),
     Row(Network, 21, "id", Number(0, 65_535), ""),
-    Row(Network, 22, "name", Text(200), ""),
-    Row(Network, 23, "descriptors", Descriptors, ""),
+    Row(
+        Network,
+        22,
+        "name",
+        Joint(NetworkName),
+        "a text of up to 200 bytes; it may be absent beside network_descriptors",
+    ),
+    Row(Network, 23, "descriptors", Descriptors(700), ""),
+    Row(Network, 24, "network_descriptors", Descriptors(700), ""),
+    Row(Network, 25, "stream", Tables(0, 64, 64), ""),
+    Row(NetworkStream, 26, "ts_id", Number(0, 65_535), ""),
+    Row(
+        NetworkStream,
+        27,
+        "original_network_id",
+        Number(0, 65_535),
+        "",
+    ),
+    Row(NetworkStream, 28, "descriptors", Descriptors(700), ""),
     Row(Document, 30, "program", Tables(1, 16, 64), ""),
     Row(Program, 31, "number", Number(1, 65_535), ""),
     Row(Program, 32, "pmt_pid", Pid, ""),
@@ -78,10 +96,20 @@ pub const KEYS: [KeyRow; 72] = [
         "a PID, 32 to 8190; it may be absent beside clock_pid",
     ),
     Row(Program, 34, "pcr_limit", NumberOr(40, 1, 100), " ms"),
-    Row(Program, 35, "descriptors", Descriptors, ""),
+    Row(Program, 35, "descriptors", Descriptors(700), ""),
     Row(Program, 36, "service_type", NumberOr(1, 0, 255), ""),
     Row(Program, 37, "provider", TextOrEmpty(100), ""),
     Row(Program, 38, "name", TextOrEmpty(100), ""),
+    Row(
+        Program,
+        88,
+        "service_descriptors",
+        Joint(ServiceDescriptors),
+        "hex of whole descriptors, up to 1004 bytes, without service_type, provider and name",
+    ),
+    Row(Program, 89, "running_status", NumberOr(4, 0, 7), ""),
+    Row(Program, 90, "free_ca", Flag(false), ""),
+    Row(Program, 91, "eit_schedule", Flag(false), ""),
     Row(
         Program,
         93,
@@ -127,7 +155,7 @@ pub const KEYS: [KeyRow; 72] = [
     ),
     Row(Stream, 50, "tag", NumberIfAny(0, 255), ""),
     Row(Stream, 51, "language", LanguageIfAny, ""),
-    Row(Stream, 52, "descriptors", Descriptors, ""),
+    Row(Stream, 52, "descriptors", Descriptors(700), ""),
     Row(
         Stream,
         53,
@@ -224,9 +252,34 @@ pub const KEYS: [KeyRow; 72] = [
     Row(Event, 62, "id", Number(0, 65_535), ""),
     Row(Event, 63, "start", Moment, ""),
     Row(Event, 64, "duration", Number(1, 359_999), " seconds"),
-    Row(Event, 65, "language", Language, ""),
-    Row(Event, 66, "name", Text(100), ""),
-    Row(Event, 67, "text", Text(150), ""),
+    Row(
+        Event,
+        65,
+        "language",
+        Joint(EventLanguage),
+        "three ASCII letters; it may be absent beside descriptors",
+    ),
+    Row(
+        Event,
+        66,
+        "name",
+        Joint(EventName),
+        "a text of up to 100 bytes; it may be absent beside descriptors",
+    ),
+    Row(
+        Event,
+        67,
+        "text",
+        Joint(EventText),
+        "a text of up to 150 bytes; it may be absent beside descriptors",
+    ),
+    Row(
+        Event,
+        68,
+        "descriptors",
+        Joint(EventDescriptors),
+        "hex of whole descriptors, up to 4000 bytes, without language, name and text",
+    ),
     Row(Document, 70, "table", Tables(0, 16, 64), ""),
     Row(Table, 71, "pid", Pid, ""),
     Row(Table, 72, "limit", Number(1, 30_000), " ms"),

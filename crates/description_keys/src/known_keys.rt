@@ -82,7 +82,7 @@ pub(crate) fn has_unknown_key(document: &Value) -> bool
     ensures { result ≡ has_unknown_key (view document.now) }
 {
     !(knows_part(document, KeyPart::Document)
-        && knows_part(document, KeyPart::Network)
+        && (knows_part(document, KeyPart::Network) && knows_part(document, KeyPart::NetworkStream))
         && (knows_part(document, KeyPart::Program) && knows_part(document, KeyPart::Stream))
         && (knows_part(document, KeyPart::Event) && knows_part(document, KeyPart::Table)))
 }

@@ -10,6 +10,7 @@ pub mod clock_keys;
 pub mod eit_keys;
 pub mod frame_keys;
 pub mod limits;
+pub mod loop_keys;
 pub mod multiplexing_keys;
 pub mod owner;
 mod program_numbers;

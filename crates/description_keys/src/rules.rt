@@ -11,6 +11,10 @@ use crate::eit_keys::refuses_eit_packets;
 use crate::frame_keys::{has_frame_left, refuses_frame, refuses_frame_size, refuses_frames};
 use crate::key_row::{JointKey, KeyKind, KeyRow};
 use crate::limits::limit_in;
+use crate::loop_keys::{
+    refuses_event_descriptors, refuses_event_language, refuses_event_name, refuses_event_text,
+    refuses_network_name, refuses_service_descriptors,
+};
 use crate::multiplexing_keys::{refuses_mb, refuses_rbx};
 use crate::owner::has_owner;
 use crate::parts::parts_of;
@@ -22,9 +26,9 @@ use crate::stream_keys::{
 use crate::table_keys::{entry_descriptors, entry_type, is_listed};
 use crate::version_keys::refuses_versions;
 use description_values::arrays::{sections_at, tables_at};
-use description_values::descriptors::descriptors_or_none;
+use description_values::descriptors::has_other_descriptors;
 use description_values::moments::moment_at;
-use description_values::texts::{has_no_text, has_other_text, language_at, optional_language};
+use description_values::texts::{has_other_text, optional_language};
 use description_values::values::{boolean_or, has_no_number, integer_at, optional_integer};
 use toml::Value;
 
@@ -36,6 +40,12 @@ fn refuses_jointly(key: JointKey, document: &Value, part: &Value) -> bool
         JointKey::SharedClock => refuses_shared_clock(part),
         JointKey::EitPackets => refuses_eit_packets(part),
         JointKey::Versions => refuses_versions(part),
+        JointKey::NetworkName => refuses_network_name(part),
+        JointKey::ServiceDescriptors => refuses_service_descriptors(part),
+        JointKey::EventLanguage => refuses_event_language(part),
+        JointKey::EventName => refuses_event_name(part),
+        JointKey::EventText => refuses_event_text(part),
+        JointKey::EventDescriptors => refuses_event_descriptors(part),
         JointKey::ClockPid => refuses_pcr_pid(document, part),
         JointKey::Channel => refuses_channel(document, part),
         JointKey::StreamId => stream_id(part).is_none(),
@@ -80,11 +90,9 @@ fn refuses_kind(kind: KeyKind, name: &str, document: &Value, part: &Value) -> bo
         KeyKind::NumberIfAny(least, most) => optional_integer(part, name, least, most).is_none(),
         KeyKind::Moment => moment_at(part, name).is_none(),
         KeyKind::Flag(default) => boolean_or(default, part, name).is_none(),
-        KeyKind::Text(most) => has_no_text(part, name, most),
         KeyKind::TextOrEmpty(most) => has_other_text(part, name, most),
-        KeyKind::Language => language_at(part, name).is_none(),
         KeyKind::LanguageIfAny => optional_language(part, name).is_none(),
-        KeyKind::Descriptors => descriptors_or_none(part, name).is_none(),
+        KeyKind::Descriptors(most) => has_other_descriptors(part, name, most),
         KeyKind::Sections => !sections_at(part, name),
         KeyKind::Owner => !has_owner(document, part),
         KeyKind::OneTable => has_no_table(part, name),

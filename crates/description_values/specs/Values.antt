@@ -76,15 +76,15 @@ optional_language key = at_key key (Some None) (λ d. option_map Some (language_
 abbrev pub hex_bytes : ℕ → List ℕ → Option (List ℕ)
 hex_bytes most text = elim (decode_of text) [ Ok bytes ↦ if nat_le (length bytes) most then Some bytes else None | Err e ↦ None ]
 
--- hexadecimal bytes that are whole descriptors
-abbrev pub descriptors_in : Data → Option (List ℕ)
-descriptors_in d = option_and_then (λ bytes. if are_whole_descriptors bytes then Some bytes else None) (option_and_then (hex_bytes 700) (as_str d))
+-- hexadecimal bytes that are whole descriptors, at most that many bytes
+abbrev pub descriptors_in : ℕ → Data → Option (List ℕ)
+descriptors_in most d = option_and_then (λ bytes. if are_whole_descriptors bytes then Some bytes else None) (option_and_then (hex_bytes most) (as_str d))
 
-abbrev pub descriptors_or_none : List ℕ → Data → Option (List ℕ)
-descriptors_or_none key = at_key key (Some []) descriptors_in
+abbrev pub descriptors_or_none : ℕ → List ℕ → Data → Option (List ℕ)
+descriptors_or_none most key = at_key key (Some []) (descriptors_in most)
 
-abbrev pub descriptors_at : List ℕ → Data → Option (List ℕ)
-descriptors_at key = at_key key None descriptors_in
+abbrev pub descriptors_at : ℕ → List ℕ → Data → Option (List ℕ)
+descriptors_at most key = at_key key None (descriptors_in most)
 
 -- hexadecimal bytes that are exactly one section (ISO/IEC 13818-1, 2.4.4.10)
 abbrev pub is_one_section : List ℕ → Bool
