@@ -3,3 +3,4 @@ pub mod TakenInput
 pub mod Performances
 pub mod ReportedTexts
 pub mod NamedReaders
+pub mod SavedFiles

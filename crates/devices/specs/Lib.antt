@@ -8,3 +8,4 @@ pub mod Runs
 pub mod Usage
 pub mod Options
 pub mod Files
+pub mod Saving

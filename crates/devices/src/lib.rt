@@ -6,7 +6,8 @@
 //! bytes, a text, and lines of a name and numbers; `halt` is why a program ends early, with the line and the status.
 //! `specs/Runs` says what a program does that reads its whole input and takes all its memory before the first byte that
 //! it writes: to its end, or until a device fails or memory runs out. `options` are the numbers and flags of a command
-//! line. `files` opens a file by its name, `output_files` writes one; `host` runs a program over the real reader,
+//! line. `files` opens a file by its name, `output_files` writes one; `saving` writes it whole or not at all
+//! (`specs/Saving`); `host` runs a program over the real reader,
 //! writers and files. A `Watched` reader reports on a writer of its own how far it has read, in the text of `meter`
 //! (`specs/Progress`): `host` uses it if the words ask for it.
 #![tactic(auto)]
@@ -20,6 +21,7 @@ mod options;
 mod output_files;
 mod patient;
 mod piece_taker;
+mod saving;
 mod unfinished;
 mod watched;
 mod whole_input;
@@ -34,5 +36,6 @@ pub use options::{
 };
 pub use output_files::{NewFile, OutputFiles};
 pub use piece_taker::{LONGEST_INPUT, PieceTaker, new_piece, read_piece, size_within, take_input};
+pub use saving::{report_of, report_uncreated, save_file, save_named};
 pub use watched::Watched;
 pub use whole_input::read_whole;
