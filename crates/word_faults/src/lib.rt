@@ -43,7 +43,7 @@ pub use name_lists::{name_list, network_in};
 pub use option_row::{OptionRow, Row, ValueKind};
 pub use option_values::{given_options, number_if, number_of, numbers_of, subcommand};
 pub use other_words::{answer_other_words, answer_words};
-pub use scaled::Scale;
+pub use scaled::{Scale, scaled_in};
 pub use sorting::{are_taken, name_words, option_words, push_words, value_given, words_without};
 pub use usage::usage_report;
 pub use word_fault::{Reason, WordFault};
