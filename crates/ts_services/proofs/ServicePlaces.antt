@@ -7,9 +7,8 @@ use Rattle.std.specs.Option.{option_or}
 use Rattle.dvb_tables.specs.Services.{ServiceView}
 use Rattle.dvb_tables.specs.ServiceDescription.{SdtView}
 use Rattle.pid_findings.specs.Views.{FindingView}
-use Rattle.descriptor_loops.specs.Descriptors.{descriptors_in}
 use Rattle.ts_services.specs.ServiceDescriptions.{sdt_found}
-use Rattle.ts_services.specs.Services.{FoundServiceView, in_descriptors, in_entries, of_entry, service, service_found}
+use Rattle.ts_services.specs.Services.{FoundServiceView, in_entries, of_entry, service, service_by, service_found}
 use Rattle.ts_services.specs.ServicePlaces.{ServicesAreThere, service_there, services_from, with_entries, with_entry, with_said, with_table}
 use Rattle.program_tables.proofs.MapKeys.{inserted}
 use Rattle.program_tables.proofs.MapPlaces.{at_front}
@@ -49,7 +48,7 @@ either at (Some found) (Some other) before = refl
 by_entry : (number at : ℕ) (es : List (ℕ × ℕ)) (s : ServiceView) →
     lookup (nat_eq number) (with_entry es at s) ≡ placed at (of_entry number s) (lookup (nat_eq number) es)
 unfolding of_entry
-by_entry number at es s = by_said number s.service_id at es (in_descriptors (descriptors_in s.descriptors)) (s.service_id == number) refl
+by_entry number at es s = by_said number s.service_id at es (service_by s.descriptors) (s.service_id == number) refl
 
 by_entries : (number at : ℕ) (es : List (ℕ × ℕ)) (ss : List ServiceView) →
     lookup (nat_eq number) (with_entries es at ss) ≡ placed at (in_entries number ss) (lookup (nat_eq number) es)

@@ -36,15 +36,23 @@ nit_found finding = option_and_then nit_in (section_on 0x10 finding)
 
 -- 2. What they say of a transport stream
 
--- network_id, and the original_network_id of the transport stream; the network's name as it is coded there, and the descriptors of the transport stream
+-- network_id, and the original_network_id of the transport stream; the network's name as it is coded there, the descriptors of the network, and those
+-- of the transport stream
 pub record FoundNetworkView : Type 0 where
   pub id : ℕ
   pub original : ℕ
   pub name : List ℕ
+  pub network_descriptors : List ℕ
   pub descriptors : List ℕ
 
 abbrev pub found_network_view : FoundNetwork → FoundNetworkView
-found_network_view n = record { id = n.id; original = n.original; name = n.name.now; descriptors = n.descriptors.now }
+found_network_view n = record {
+  id = n.id;
+  original = n.original;
+  name = n.name.now;
+  network_descriptors = n.network_descriptors.now;
+  descriptors = n.descriptors.now;
+}
 
 -- the text of the first network name descriptor; empty without one
 unfoldable pub coded_name : List DescriptorView → List ℕ
@@ -63,7 +71,7 @@ unfoldable pub entry_of : KnownStream → List TransportStreamView → Option Tr
 entry_of s [] = None
 entry_of s (t ∷ ts) = if is_entry s t then Some t else entry_of s ts
 
--- descriptors are whole, and no more bytes than a description has
+-- descriptors are whole, and no more bytes than a description has of a network or of a transport stream
 unfoldable pub can_be_said : List ℕ → Bool
 can_be_said descriptors = nat_le (length descriptors) 700 && are_whole_descriptors descriptors
 
@@ -73,6 +81,7 @@ network_with nit t =
       id = nit.header.table_id_extension;
       original = t.original_network_id;
       name = coded_name (descriptors_in nit.network_descriptors);
+      network_descriptors = nit.network_descriptors;
       descriptors = t.descriptors;
     }) else None
 
@@ -97,22 +106,17 @@ stream_network id findings = first_network (known_stream id findings) findings
 
 unfoldable pub is_same : FoundNetworkView → Option FoundNetworkView → Bool
 is_same n None = false
-is_same n (Some m) = (n.id == m.id && n.original == m.original) && (bytes_eq n.name m.name && bytes_eq n.descriptors m.descriptors)
-
--- no descriptor, or a network name descriptor alone
-unfoldable pub is_name_alone : List ℕ → Bool
-is_name_alone [] = true
-is_name_alone (tag ∷ []) = false
-is_name_alone (tag ∷ size ∷ body) = tag == 0x40 && size == length body
+is_same n (Some m) =
+    (n.id == m.id && n.original == m.original) && (bytes_eq n.network_descriptors m.network_descriptors && bytes_eq n.descriptors m.descriptors)
 
 unfoldable pub is_one : List TransportStreamView → Bool
 is_one [] = false
 is_one (t ∷ []) = true
 is_one (t ∷ u ∷ ts) = false
 
--- a section has the name of a network and nothing else, and no other transport stream
+-- a description can have the descriptors of the network, and there is no other transport stream
 unfoldable pub says_no_more : NitView → Bool
-says_no_more nit = is_name_alone nit.network_descriptors && is_one nit.transport_streams
+says_no_more nit = can_be_said nit.network_descriptors && is_one nit.transport_streams
 
 unfoldable pub says_only : KnownStream → Option FoundNetworkView → NitView → Bool
 says_only s None nit = false

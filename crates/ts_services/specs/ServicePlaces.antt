@@ -5,9 +5,8 @@ use Rattle.indexmap.specs.IndexMap.{insert_entry}
 use Rattle.dvb_tables.specs.Services.{ServiceView}
 use Rattle.dvb_tables.specs.ServiceDescription.{SdtView}
 use Rattle.pid_findings.specs.Views.{FindingView}
-use Rattle.descriptor_loops.specs.Descriptors.{descriptors_in}
 use Rattle.ts_services.specs.ServiceDescriptions.{sdt_found}
-use Rattle.ts_services.specs.Services.{FoundServiceView, in_descriptors, service, service_found}
+use Rattle.ts_services.specs.Services.{FoundServiceView, service, service_by, service_found}
 
 -- 1. Places: by service_id the place of the last finding whose table describes the service
 
@@ -17,7 +16,7 @@ with_said es number at (Some found) = insert_entry nat_eq es number at
 
 -- after an entry of the table that the finding at a place has
 abbrev pub with_entry : List (ℕ × ℕ) → ℕ → ServiceView → List (ℕ × ℕ)
-with_entry es at s = with_said es s.service_id at (in_descriptors (descriptors_in s.descriptors))
+with_entry es at s = with_said es s.service_id at (service_by s.descriptors)
 
 unfoldable pub with_entries : List (ℕ × ℕ) → ℕ → List ServiceView → List (ℕ × ℕ)
 with_entries es at [] = es

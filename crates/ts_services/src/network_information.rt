@@ -22,7 +22,7 @@ const NIT_PID: u16 = 0x10;
 // The tag of a network name descriptor.
 const NETWORK_NAME: u8 = 0x40;
 
-// The most bytes of descriptors that a description has of a transport stream.
+// The most bytes of descriptors that a description has of a network, or of a transport stream in it.
 const MOST_BYTES: usize = 700;
 
 /// What a network information section says of a transport stream. The name is still coded (EN 300 468, annex A).
@@ -33,6 +33,8 @@ pub struct FoundNetwork<'f> {
     /// original_network_id of the transport stream.
     pub original: u16,
     pub name: &'f [u8],
+    /// All descriptors of the network.
+    pub network_descriptors: &'f [u8],
     /// Whole descriptors of the transport stream, 700 bytes at most.
     pub descriptors: &'f [u8],
 }
@@ -150,6 +152,7 @@ fn network_with<'f>(nit: Nit<'f>, entry: TransportStream<'f>) -> Option<FoundNet
         id: nit.header.table_id_extension,
         original: entry.original_network_id,
         name: coded_name(nit.network_descriptors),
+        network_descriptors: nit.network_descriptors,
         descriptors: entry.descriptors,
     })
 }
@@ -228,20 +231,9 @@ fn is_same(one: FoundNetwork<'_>, other: Option<FoundNetwork<'_>>) -> bool
         None => false,
         Some(other) => {
             (one.id == other.id && one.original == other.original)
-                && (one.name == other.name && one.descriptors == other.descriptors)
+                && (one.network_descriptors == other.network_descriptors
+                    && one.descriptors == other.descriptors)
         }
-    }
-}
-
-// Returns whether there is no descriptor, or a network name descriptor alone.
-#[tactic(auto, unfolding(crate::specs::NetworkInformation::is_name_alone))]
-fn is_name_alone(bytes: &[u8]) -> bool
-    ensures { result ≡ spec.is_name_alone bytes.now }
-{
-    match bytes {
-        [] => true,
-        [_] => false,
-        [tag, size, body @ ..] => *tag == NETWORK_NAME && *size as usize == body.len(),
     }
 }
 
@@ -257,12 +249,12 @@ fn is_one(entries: TransportStreams<'_>) -> bool
     left.next().is_none()
 }
 
-// Returns whether a table says nothing of a network but its name, and has one transport stream.
+// Returns whether a description can have the descriptors of a network, and its table has one transport stream.
 #[tactic(auto, unfolding(crate::specs::NetworkInformation::says_no_more))]
 fn says_no_more(nit: Nit<'_>) -> bool
     ensures { result ≡ spec.says_no_more (nit_view nit.entry) }
 {
-    is_name_alone(nit.network_descriptors) && is_one(nit.transport_streams)
+    can_be_said(nit.network_descriptors) && is_one(nit.transport_streams)
 }
 
 // Returns whether a table has this network and nothing more.

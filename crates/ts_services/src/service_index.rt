@@ -9,7 +9,7 @@ ghost use Rattle.ts_services.specs.ServicePlaces as spec;
 ghost use Rattle.ts_services.specs.Services.{found_service_view, service};
 
 use crate::service_description::sdt_found;
-use crate::services::{FoundService, in_descriptors, service_found};
+use crate::services::{FoundService, service_by, service_found};
 use dvb_tables::{Sdt, Service, Services};
 use indexmap::IndexMap;
 use pid_findings::Finding;
@@ -51,7 +51,7 @@ fn note_entry<A: Allocator + Copy>(
 ) -> Result<(), AllocError>
     ensures { OnOk result (places.new.entries ≡ spec.with_entry places.old.entries at (service_view entry.entry)) }
 {
-    if in_descriptors(entry.descriptors).is_some() {
+    if service_by(entry.descriptors).is_some() {
         places.insert(entry.service_id, at)?;
     }
     Ok(())

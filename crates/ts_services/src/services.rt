@@ -3,7 +3,7 @@
 ghost use Rattle.std.specs.Prelude.{◌≡◌, map, option_map};
 ghost use Rattle.pid_findings.specs.Shown.{finding_view};
 ghost use Rattle.dvb_tables.specs.Services.{service_view, services_of};
-ghost use Rattle.descriptor_loops.specs.Descriptors.{descriptor_view, descriptors_in};
+ghost use Rattle.descriptor_loops.specs.Descriptors.{descriptor_view};
 ghost use Rattle.ts_services.specs.Services as spec;
 
 use crate::service_description::{SDT_PID, sdt_found};
@@ -16,12 +16,14 @@ use std::alloc::Allocator;
 // The tag of a service descriptor.
 const SERVICE: u8 = 0x48;
 
-/// What a service descriptor says. The texts are still coded (EN 300 468, annex A).
+/// What a service descriptor says, and the descriptors of its service. The texts are still coded (EN 300 468, annex A).
 #[derive(Clone, Copy)]
 pub struct FoundService<'f> {
     pub service_type: u8,
     pub provider: &'f [u8],
     pub name: &'f [u8],
+    /// All descriptors of the service, in their order.
+    pub descriptors: &'f [u8],
 }
 
 /// Returns the bytes after a byte with their number, and what follows them, if there are as many.
@@ -42,8 +44,8 @@ pub fn length_prefixed(bytes: &[u8]) -> Option<(&[u8], &[u8])>
 
 // Returns the service of a service descriptor with this service_type.
 #[tactic(auto, unfolding(crate::specs::Services::with_provider))]
-fn named(service_type: u8, rest: &[u8]) -> Option<FoundService<'_>>
-    ensures { option_map spec.found_service_view result ≡ spec.with_provider service_type
+fn named<'f>(descriptors: &'f [u8], service_type: u8, rest: &'f [u8]) -> Option<FoundService<'f>>
+    ensures { option_map spec.found_service_view result ≡ spec.with_provider descriptors.now service_type
         (spec.length_prefixed rest.now) }
 {
     let (provider, after) = length_prefixed(rest)?;
@@ -52,39 +54,41 @@ fn named(service_type: u8, rest: &[u8]) -> Option<FoundService<'_>>
         service_type,
         provider,
         name,
+        descriptors,
     })
 }
 
-// Returns what the body of a service descriptor says.
+// Returns what the body of a service descriptor says, with all descriptors of the service.
 #[tactic(auto, unfolding(crate::specs::Services::service_in))]
-fn service_in(body: &[u8]) -> Option<FoundService<'_>>
-    ensures { option_map spec.found_service_view result ≡ spec.service_in body.now }
+fn service_in<'f>(descriptors: &'f [u8], body: &'f [u8]) -> Option<FoundService<'f>>
+    ensures { option_map spec.found_service_view result ≡ spec.service_in descriptors.now body.now }
 {
     match body {
-        [service_type, rest @ ..] => named(*service_type, rest),
+        [service_type, rest @ ..] => named(descriptors, *service_type, rest),
         _ => None,
     }
 }
 
 // Returns what a descriptor says of a service.
 #[tactic(auto, unfolding(crate::specs::Services::of_descriptor))]
-fn of_descriptor<'f>(descriptor: Descriptor<'f>) -> Option<FoundService<'f>>
-    ensures { option_map spec.found_service_view result ≡ spec.of_descriptor (descriptor_view descriptor.entry) }
+fn of_descriptor<'f>(descriptors: &'f [u8], descriptor: Descriptor<'f>) -> Option<FoundService<'f>>
+    ensures { option_map spec.found_service_view result
+        ≡ spec.of_descriptor descriptors.now (descriptor_view descriptor.entry) }
 {
     if descriptor.tag == SERVICE {
-        service_in(descriptor.body)
+        service_in(descriptors, descriptor.body)
     } else {
         None
     }
 }
 
-/// Returns what the first service descriptor says.
+/// Returns what the first service descriptor among these says.
 #[tactic(auto, unfolding(crate::specs::Services::in_descriptors))]
-pub(crate) fn in_descriptors(bytes: &[u8]) -> Option<FoundService<'_>>
-    ensures { option_map spec.found_service_view result ≡ spec.in_descriptors (descriptors_in bytes.now) }
+pub(crate) fn service_by(descriptors: &[u8]) -> Option<FoundService<'_>>
+    ensures { option_map spec.found_service_view result ≡ spec.service_by descriptors.now }
 {
-    for descriptor in Descriptors::of(bytes) {
-        if let Some(service) = of_descriptor(descriptor) {
+    for descriptor in Descriptors::of(descriptors) {
+        if let Some(service) = of_descriptor(descriptors, descriptor) {
             return Some(service);
         }
     }
@@ -96,7 +100,7 @@ fn of_entry<'f>(number: u16, entry: Service<'f>) -> Option<FoundService<'f>>
     ensures { option_map spec.found_service_view result ≡ spec.of_entry number (service_view entry.entry) }
 {
     if entry.service_id == number {
-        in_descriptors(entry.descriptors)
+        service_by(entry.descriptors)
     } else {
         None
     }
