@@ -2,7 +2,7 @@
 use Rattle.std.proofs.Common.{◌≡◌, ℕ, suc, pos, ◌≤◌, Bool, true, false, ◌==◌, Option, Some, None, option_map, List, [], ◌∷◌, ◌++◌, length, map, codes, refl}
 use Rattle.std.proofs.Common.{sym, ap, ap₂, subst, ◌∙◌, arith, append_assoc, append-nil}
 use Rattle.std.proofs.lemmas.Bool.Decides.{nat_tests}
-use Rattle.std.specs.Prelude.{All, IfSome}
+use Rattle.std.specs.Prelude.{All, IfSome, bytes_eq}
 use Rattle.std.specs.List.{flat_map}
 use Rattle.std.specs.Ordering.{nat_cmp, is_lt}
 use Rattle.std.specs.Cmp.Lexicographic.{slice_cmp}
@@ -16,21 +16,24 @@ use Rattle.toml.specs.Text.{expressions, pairs, sections, elements}
 use Rattle.toml.specs.Tables.{Expression, array_table}
 use Rattle.toml.proofs.Lines.{after}
 use Rattle.job_text.specs.DescriptionParts.{EventPartView, FramingPartView, HeadingView, NetworkPartView, ProgramPartView, StreamPartView, TablePartView}
-use Rattle.job_text.specs.KeyLines.{with_numbers, number_if_any, with_set, with_hex, with_list, header, hex_line, list_line, key_line, number_lines, set_line}
-use Rattle.job_text.specs.Notes.{type_note}
+use Rattle.job_text.specs.KeyLines.{with_numbers, number_if_any, with_set, with_hex, with_list, header, table_header, hex_line, list_line, key_line}
+use Rattle.job_text.specs.KeyLines.{number_line, number_lines, set_line}
+use Rattle.job_text.specs.Notes.{name_note, type_note}
 use Rattle.job_text.specs.Fields.{program_numbers, burst_numbers, rest_numbers, group_numbers, time_numbers, size_numbers, pace_numbers, place_numbers}
 use Rattle.job_text.specs.Fields.{leak_numbers, drain_numbers, last_numbers}
-use Rattle.job_text.specs.Documents.{document, elements_of, with_table, with_tables, event_table, network_table, program_service, program_table, stream_last, stream_drain}
+use Rattle.job_text.specs.Documents.{document, elements_of, with_table, with_tables, event_members, event_table, network_last, network_table, program_coded}
+use Rattle.job_text.specs.Documents.{program_members, program_service, program_table, with_clock, stream_last, stream_drain}
 use Rattle.job_text.specs.Documents.{stream_place, stream_middle, stream_rest, stream_members, stream_table, table_table}
-use Rattle.job_text.specs.Texts.{event_text, framing_if_any, heading_text, network_text, network_if_any, program_text, stream_end, stream_text, table_text}
+use Rattle.job_text.specs.Texts.{event_lines, event_text, framing_if_any, heading_text, network_names, network_text, network_if_any, program_back, program_clock}
+use Rattle.job_text.specs.Texts.{program_text, stream_end, stream_text, table_text}
 use Rattle.job_text.specs.Laws.{Fits, FitsEvent, FitsHeading, FitsNetwork, FitsProgram, FitsAllowance, FitsMultiplexing, FitsFrames, FitsFraming, FitsStream, FitsTable}
 use Rattle.job_text.specs.Laws.{TextsAreRead}
 use Rattle.job_text.proofs.Comments.{AreCommented, commented_both, document_read}
 use Rattle.job_text.proofs.FlatArrays.{list_none, list_some, numbers_are, numbers_sorted, digits_are, digits_sorted}
-use Rattle.job_text.proofs.NoteLines.{type_tail}
-use Rattle.job_text.proofs.Scalars.{AreScalars, IsScalar, scalar_lines, lines_are_text, typed_are_text, typed_lines}
-use Rattle.job_text.proofs.TableArrays.{AreTables, element_is_text, element_lines, elements_are_text, pairs_past, sections_with, sorted_past, before_tables}
-use Rattle.job_text.proofs.SingleTables.{IsTable, lines_if_any, expressions_if_any, table_is_text, pairs_past_table, sections_with_table}
+use Rattle.job_text.proofs.NoteLines.{name_tail, no_tail, type_tail}
+use Rattle.job_text.proofs.Scalars.{AreScalars, IsScalar, scalar_lines, lines_are_text, noted_lines}
+use Rattle.job_text.proofs.TableArrays.{AreTables, elements_are_text, pairs_past, sections_with, sorted_past, before_tables}
+use Rattle.job_text.proofs.SingleTables.{IsTable, expressions_if_any, table_is_text, pairs_past_table, sections_with_table}
 use Rattle.job_text.proofs.SingleTables.{sorted_past_table, before_table}
 
 -- Numbers that fit are scalars.
@@ -73,10 +76,11 @@ hex_after : (key : List ℕ) (bytes : List ℕ) (more : Members) → is_lt (slic
 hex_after key [] more first last = ap (is_before key) (hex_none more) ∙ last
 hex_after key (b ∷ bytes) more first last = ap (is_before key) (hex_some b bytes more) ∙ first
 
-hex_lines : (bytes : List ℕ) (more : Members) → scalar_lines (with_hex (codes "descriptors") bytes more) ≡ hex_line (codes "descriptors") bytes
-    ++ scalar_lines more
-hex_lines [] more = ap scalar_lines (hex_none more) ∙ ap (λ (l : List ℕ). l ++ scalar_lines more) (sym line_none)
-hex_lines (b ∷ bytes) more = ap scalar_lines (hex_some b bytes more) ∙ ap (λ (l : List ℕ). l ++ scalar_lines more) (sym (line_some b bytes))
+own_hex : (at note bytes : List ℕ) (more : Members) → bytes_eq (codes "descriptors") at ≡ false
+    → noted_lines at note (with_hex (codes "descriptors") bytes more) ≡ hex_line (codes "descriptors") bytes ++ noted_lines at note more
+own_hex at note [] more other = ap (noted_lines at note) (hex_none more) ∙ ap (λ (l : List ℕ). l ++ noted_lines at note more) (sym line_none)
+own_hex at note (b ∷ bytes) more other =
+    ap (noted_lines at note) (hex_some b bytes more) ∙ rw other (ap (λ (l : List ℕ). l ++ noted_lines at note more) (sym (line_some b bytes)))
 
 -- Numbers before other keys are scalars.
 list_scalars : (key ns : List ℕ) (more : Members) → key_text key ≡ key → All Fits ns → AreScalars more → AreScalars (with_list key ns more)
@@ -92,6 +96,11 @@ list_after : (key at ns : List ℕ) (more : Members) → is_lt (slice_cmp nat_cm
     → is_before key (with_list at ns more) ≡ true
 list_after key at [] more first last = last
 list_after key at (n ∷ ns) more first last = first
+
+own_list : (at note key ns : List ℕ) (more : Members) → bytes_eq key at ≡ false
+    → noted_lines at note (with_list key ns more) ≡ list_line key ns ++ noted_lines at note more
+own_list at note key [] more other = ap (λ (l : List ℕ). l ++ noted_lines at note more) (sym (list_none key))
+own_list at note key (n ∷ ns) more other = rw other (ap (λ (l : List ℕ). l ++ noted_lines at note more) (sym (list_some key n ns)))
 
 -- A number before other keys, if there is a number, is a scalar.
 any_scalars : (key : List ℕ) (n : Option ℕ) (more : Members) → key_text key ≡ key → IfSome n Fits → AreScalars more
@@ -113,6 +122,11 @@ any_lines : (key : List ℕ) (n : Option ℕ) (more : Members) → scalar_lines 
     ≡ number_lines (number_if_any key n) ++ scalar_lines more
 any_lines key None more = refl
 any_lines key (Some n) more = simp (append_assoc, append-nil)
+
+own_any : (at note key : List ℕ) (n : Option ℕ) (more : Members) → bytes_eq key at ≡ false
+    → noted_lines at note (with_numbers (number_if_any key n) more) ≡ number_lines (number_if_any key n) ++ noted_lines at note more
+own_any at note key None more other = refl
+own_any at note key (Some n) more other = rw other (simp (append_assoc, append-nil))
 
 any_pairs : (key : List ℕ) (n : Option ℕ) (some none : Members) → pairs some ≡ pairs none
     → pairs (with_numbers (number_if_any key n) some) ≡ pairs (with_numbers (number_if_any key n) none)
@@ -147,76 +161,122 @@ set_lines key false more = refl
 set_lines key true more = refl
 
 -- The table of an event
-event_scalars : (e : EventPartView) → FitsEvent e → AreScalars (event_table e)
+event_scalars : (o : Option (List ℕ)) (e : EventPartView) → FitsEvent e → AreScalars (event_members o e)
 unfolding key_text
-event_scalars e h =
+event_scalars None e h =
     (refl, small e.duration h.duration, (refl, small e.id h.id, (refl, tt, (refl, tt, (refl, small e.program h.program, (refl, tt, (refl, tt, tt)))))))
+event_scalars (Some bytes) e h =
+    (refl, tt, (refl, small e.duration h.duration, (refl, small e.id h.id, (refl, small e.program h.program, (refl, tt, tt)))))
 
-event_lines : (e : EventPartView) → element_lines (codes "event") (event_table e) ≡ event_text e
-event_lines e = simp (append_assoc, append-nil)
+event_sorted : (o : Option (List ℕ)) (e : EventPartView) → members_are_sorted (event_members o e) ≡ true
+event_sorted None e = refl
+event_sorted (Some bytes) e = refl
+
+lines_of_event : (o : Option (List ℕ)) (e : EventPartView) → header (codes "event") ++ noted_lines (codes "descriptors") (name_note e.name) (event_members o e)
+    ≡ header (codes "event") ++ event_lines o e
+lines_of_event None e = simp (append_assoc, append-nil)
+lines_of_event (Some bytes) e = simp (append_assoc, append-nil)
 
 -- The table of a network
-network_rest : NetworkPartView → Members
-network_rest n = member (codes "id") (integer (pos n.id)) (member (codes "name") (string n.name) no_members)
+network_rest : Option (List ℕ) → NetworkPartView → Members
+network_rest o n = member (codes "id") (integer (pos n.id)) (network_last o n)
+
+rest_of_network : (o : Option (List ℕ)) (n : NetworkPartView) → Fits n.id → AreScalars (network_rest o n)
+unfolding key_text network_rest
+rest_of_network None n h = (refl, small n.id h, (refl, tt, tt))
+rest_of_network (Some bytes) n h = (refl, small n.id h, (refl, tt, tt))
 
 network_scalars : (n : NetworkPartView) → Fits n.id → AreScalars (network_table n)
-unfolding key_text network_rest
-network_scalars n h = hex_scalars n.descriptors (network_rest n) (refl, small n.id h, (refl, tt, tt))
+unfolding network_rest
+network_scalars n h = hex_scalars n.descriptors (network_rest n.network_descriptors n) (rest_of_network n.network_descriptors n h)
+
+rest_sorted_of : (o : Option (List ℕ)) (n : NetworkPartView) → members_are_sorted (network_rest o n) ≡ true
+unfolding network_rest
+rest_sorted_of None n = refl
+rest_sorted_of (Some bytes) n = refl
 
 network_sorted : (n : NetworkPartView) → members_are_sorted (network_table n) ≡ true
 unfolding network_rest
-network_sorted n = hex_sorted n.descriptors (network_rest n) refl refl
+network_sorted n = hex_sorted n.descriptors (network_rest n.network_descriptors n) refl (rest_sorted_of n.network_descriptors n)
 
-network_lines : (n : NetworkPartView) → lines_if_any (codes "network") (Some (network_table n)) ≡ network_text n
+lines_of_rest : (o : Option (List ℕ)) (n : NetworkPartView) → noted_lines (codes "network_descriptors") (name_note n.name) (network_rest o n)
+    ≡ number_line (codes "id", n.id) ++ network_names o n
 unfolding network_rest
-network_lines n = rw (hex_lines n.descriptors (network_rest n)) (simp (append_assoc, append-nil))
+lines_of_rest None n = simp append-nil
+lines_of_rest (Some bytes) n = simp append-nil
+
+lines_of_network : (n : NetworkPartView) →
+    table_header (codes "network") ++ noted_lines (codes "network_descriptors") (name_note n.name) (network_table n) ≡ network_text n
+unfolding network_rest
+lines_of_network n =
+    rw (
+      own_hex (codes "network_descriptors") (name_note n.name) n.descriptors (network_rest n.network_descriptors n) refl,
+      lines_of_rest n.network_descriptors n,
+    ) refl
 
 -- The table of a network, if there is a network
 network_table_fits : (n : Option NetworkPartView) → FitsNetwork n → IsTable (option_map network_table n)
 network_table_fits None h = tt
 network_table_fits (Some n) h = (network_scalars n h, network_sorted n)
 
-network_lines_if_any : (n : Option NetworkPartView) → lines_if_any (codes "network") (option_map network_table n) ≡ network_if_any n
-network_lines_if_any None = refl
-network_lines_if_any (Some n) = network_lines n
+network_is_text : (n : Option NetworkPartView) → FitsNetwork n →
+    AreCommented true (expressions_if_any (codes "network") (option_map network_table n)) (network_if_any n)
+unfolding key_text
+network_is_text None h = refl
+network_is_text (Some n) h =
+    subst (λ (t : List ℕ). AreCommented true (expressions_if_any (codes "network") (Some (network_table n))) t) (lines_of_network n)
+    (table_is_text (codes "network") (codes "network_descriptors") (name_note n.name) (network_table n) refl (name_tail n.name) (network_scalars n h))
 
 -- The table of a program
-program_rest : ProgramPartView → Members
-program_rest p =
-    member (codes "name") (string p.name)
-    (with_numbers (program_numbers p)
-    (with_numbers (number_if_any (codes "pcr_pid") p.pcr_pid) (program_service p)))
+clock_scalars : (p : ProgramPartView) (more : Members) → FitsProgram p → AreScalars more → AreScalars (with_clock p more)
+unfolding key_text
+clock_scalars p more h rest =
+    (refl, small p.number h.number, (refl, small p.pcr_limit h.pcr_limit, any_scalars (codes "pcr_pid") p.pcr_pid more refl h.pcr_pid rest))
+
+own_scalars : (o : Option (List ℕ)) (p : ProgramPartView) → FitsProgram p → AreScalars (program_members o p)
+unfolding key_text
+own_scalars None p h =
+    (refl, tt, clock_scalars p (program_service p) h (refl, small p.pmt_pid h.pmt_pid, (refl, tt, (refl, small p.service_type h.service_type, tt))))
+own_scalars (Some bytes) p h = clock_scalars p (program_coded bytes p) h (refl, small p.pmt_pid h.pmt_pid, (refl, tt, tt))
 
 program_scalars : (p : ProgramPartView) → FitsProgram p → AreScalars (program_table p)
-unfolding key_text program_rest
-program_scalars p h =
-    hex_scalars p.descriptors (program_rest p) (
-      refl,
-      tt,
-      (
-        refl,
-        small p.number h.number,
-        (
-          refl,
-          small p.pcr_limit h.pcr_limit,
-          any_scalars (codes "pcr_pid") p.pcr_pid (program_service p) refl h.pcr_pid
-              (refl, small p.pmt_pid h.pmt_pid, (refl, tt, (refl, small p.service_type h.service_type, tt))),
-        ),
-      ),
-    )
+program_scalars p h = hex_scalars p.descriptors (program_members p.service_descriptors p) (own_scalars p.service_descriptors p h)
+
+clock_sorted : (p : ProgramPartView) (more : Members) → is_before (codes "pcr_limit") more ≡ true → is_before (codes "pcr_pid") more ≡ true
+    → members_are_sorted more ≡ true → members_are_sorted (with_clock p more) ≡ true
+clock_sorted p more limit pid sorted = rw (
+  any_after (codes "pcr_limit") (codes "pcr_pid") p.pcr_pid more refl limit,
+  any_sorted (codes "pcr_pid") p.pcr_pid more pid sorted,
+)
+
+own_sorted : (o : Option (List ℕ)) (p : ProgramPartView) → members_are_sorted (program_members o p) ≡ true
+own_sorted None p = clock_sorted p (program_service p) refl refl refl
+own_sorted (Some bytes) p = clock_sorted p (program_coded bytes p) refl refl refl
+
+own_first : (o : Option (List ℕ)) (p : ProgramPartView) → is_before (codes "descriptors") (program_members o p) ≡ true
+own_first None p = refl
+own_first (Some bytes) p = refl
 
 program_sorted : (p : ProgramPartView) → members_are_sorted (program_table p) ≡ true
-unfolding program_rest
 program_sorted p =
-    hex_sorted p.descriptors (program_rest p) refl (rw (
-      any_after (codes "pcr_limit") (codes "pcr_pid") p.pcr_pid (program_service p) refl refl,
-      any_sorted (codes "pcr_pid") p.pcr_pid (program_service p) refl refl,
-    ))
+    hex_sorted p.descriptors (program_members p.service_descriptors p) (own_first p.service_descriptors p) (own_sorted p.service_descriptors p)
 
-program_lines : (p : ProgramPartView) → element_lines (codes "program") (program_table p) ≡ program_text p
-unfolding program_rest
-program_lines p =
-    rw (hex_lines p.descriptors (program_rest p), any_lines (codes "pcr_pid") p.pcr_pid (program_service p)) (simp (append_assoc, append-nil))
+own_clock : (p : ProgramPartView) (more : Members) → noted_lines (codes "service_descriptors") (name_note p.name) (with_clock p more)
+    ≡ program_clock p ++ noted_lines (codes "service_descriptors") (name_note p.name) more
+own_clock p more = rw (own_any (codes "service_descriptors") (name_note p.name) (codes "pcr_pid") p.pcr_pid more refl) (simp (append_assoc, append-nil))
+
+lines_of_own : (o : Option (List ℕ)) (p : ProgramPartView) → noted_lines (codes "service_descriptors") (name_note p.name) (program_members o p)
+    ≡ program_back o p
+lines_of_own None p = rw (own_clock p (program_service p)) (simp append-nil)
+lines_of_own (Some bytes) p = rw (own_clock p (program_coded bytes p)) (simp append-nil)
+
+lines_of_program : (p : ProgramPartView) → header (codes "program") ++ noted_lines (codes "service_descriptors") (name_note p.name) (program_table p)
+    ≡ program_text p
+lines_of_program p =
+    rw (
+      own_hex (codes "service_descriptors") (name_note p.name) p.descriptors (program_members p.service_descriptors p) refl,
+      lines_of_own p.service_descriptors p,
+    ) (simp append_assoc)
 
 -- The table of a stream
 end_scalars : (s : StreamPartView) → FitsStream s → AreScalars (with_list (codes "shared_with") s.shared_with (stream_last s))
@@ -356,27 +416,17 @@ sorted_with (Pace burst pace) m p l s =
 
 -- The lines of some keys of a stream, with the comment after its stream_type
 abbrev own_lines : StreamPartView → Members → List ℕ
-own_lines s ms = typed_lines (type_note s.stream_type s.said) ms
-
-own_hex : (s : StreamPartView) (bytes : List ℕ) (more : Members) → own_lines s (with_hex (codes "descriptors") bytes more)
-    ≡ hex_line (codes "descriptors") bytes ++ own_lines s more
-own_hex s [] more = ap (own_lines s) (hex_none more) ∙ ap (λ (l : List ℕ). l ++ own_lines s more) (sym line_none)
-own_hex s (b ∷ bytes) more = ap (own_lines s) (hex_some b bytes more) ∙ ap (λ (l : List ℕ). l ++ own_lines s more) (sym (line_some b bytes))
-
-own_list : (s : StreamPartView) (key ns : List ℕ) (more : Members) → own_lines s (with_list key ns more) ≡ list_line key ns ++ own_lines s more
-own_list s key [] more = ap (λ (l : List ℕ). l ++ own_lines s more) (sym (list_none key))
-own_list s key (n ∷ ns) more = ap (λ (l : List ℕ). l ++ own_lines s more) (sym (list_some key n ns))
+own_lines s ms = noted_lines (codes "type") (type_note s.stream_type s.said) ms
 
 -- The lines of a stream: from its leak on, after its access units, and all lines
 drain_lines : (m : Option MultiplexingBuffer) (s : StreamPartView) → own_lines s (stream_drain m s)
     ≡ number_lines (leak_numbers m) ++ (number_lines (drain_numbers s) ++ stream_end s)
-drain_lines None s = rw (own_list s (codes "shared_with") s.shared_with (stream_last s)) (simp (append_assoc, append-nil))
-drain_lines (Some m) s = rw (own_list s (codes "shared_with") s.shared_with (stream_last s)) (simp (append_assoc, append-nil))
+drain_lines None s = rw (own_list (codes "type") (type_note s.stream_type s.said) (codes "shared_with") s.shared_with (stream_last s) refl) (simp (append_assoc, append-nil))
+drain_lines (Some m) s = rw (own_list (codes "type") (type_note s.stream_type s.said) (codes "shared_with") s.shared_with (stream_last s) refl) (simp (append_assoc, append-nil))
 
 limit_lines : (m : Option MultiplexingBuffer) (l : Option ℕ) (s : StreamPartView) → own_lines s (with_numbers (number_if_any (codes "pts_limit") l) (stream_drain m s))
     ≡ number_lines (number_if_any (codes "pts_limit") l) ++ own_lines s (stream_drain m s)
-limit_lines m None s = refl
-limit_lines m (Some n) s = simp (append_assoc, append-nil)
+limit_lines m l s = own_any (codes "type") (type_note s.stream_type s.said) (codes "pts_limit") l (stream_drain m s) refl
 
 middle_lines : (a : Allowance) (m : Option MultiplexingBuffer) (l : Option ℕ) (s : StreamPartView) → own_lines s (stream_middle a m l s)
     ≡ number_lines (group_numbers a) ++ (number_lines (time_numbers s) ++ (number_lines (size_numbers m) ++ (number_lines (pace_numbers a)
@@ -389,18 +439,18 @@ middle_lines (Pace burst pace) (Some m) l s = rw (limit_lines (Some m) l s) (sim
 rest_lines : (a : Allowance) (m : Option MultiplexingBuffer) (p : Option FramingPartView) (l : Option ℕ) (s : StreamPartView)
     → own_lines s (stream_rest a m p l s) ≡ framing_if_any p ++ own_lines s (stream_middle a m l s)
 rest_lines a m None l s = refl
-rest_lines a m (Some p) l s = rw (own_list s (codes "frame_left") p.left (after_sums a m p l s)) (simp (append_assoc, append-nil))
+rest_lines a m (Some p) l s = rw (own_list (codes "type") (type_note s.stream_type s.said) (codes "frame_left") p.left (after_sums a m p l s) refl) (simp (append_assoc, append-nil))
 
 lines_with : (a : Allowance) (m : Option MultiplexingBuffer) (p : Option FramingPartView) (l : Option ℕ) (s : StreamPartView) → own_lines s (stream_members a m p l s)
     ≡ number_lines (burst_numbers a) ++ (hex_line (codes "descriptors") s.descriptors
     ++ (framing_if_any p ++ own_lines s (stream_middle a m l s)))
 lines_with (Groups units packets) m p l s =
-    rw (own_hex s s.descriptors (stream_rest (Groups units packets) m p l s), rest_lines (Groups units packets) m p l s) refl
+    rw (own_hex (codes "type") (type_note s.stream_type s.said) s.descriptors (stream_rest (Groups units packets) m p l s) refl, rest_lines (Groups units packets) m p l s) refl
 lines_with (Pace burst pace) m p l s =
-    rw (own_hex s s.descriptors (stream_rest (Pace burst pace) m p l s), rest_lines (Pace burst pace) m p l s) (simp (append_assoc, append-nil))
+    rw (own_hex (codes "type") (type_note s.stream_type s.said) s.descriptors (stream_rest (Pace burst pace) m p l s) refl, rest_lines (Pace burst pace) m p l s) (simp (append_assoc, append-nil))
 
-stream_lines : (s : StreamPartView) → header (codes "stream") ++ own_lines s (stream_table s) ≡ stream_text s
-stream_lines s =
+lines_of_stream : (s : StreamPartView) → header (codes "stream") ++ own_lines s (stream_table s) ≡ stream_text s
+lines_of_stream s =
     rw (
       lines_with s.allowance s.multiplexing s.framing s.pts_limit s,
       middle_lines s.allowance s.multiplexing s.pts_limit s,
@@ -423,8 +473,8 @@ table_scalars t h = (
 table_sorted : (t : TablePartView) → members_are_sorted (table_table t) ≡ true
 table_sorted t = rw (digits_sorted t.sections) refl
 
-private_lines : (t : TablePartView) → element_lines (codes "table") (table_table t) ≡ table_text t
-private_lines t = simp (append_assoc, append-nil)
+lines_of_private : (t : TablePartView) → header (codes "table") ++ noted_lines [] [] (table_table t) ≡ table_text t
+lines_of_private t = simp (append_assoc, append-nil)
 
 -- Lists of events, programs and streams
 each : {X : Type 0} (P : X → Type 0) (x : X) (xs : List X) → All P (x ∷ xs) → P x × All P xs
@@ -432,7 +482,7 @@ each P x xs h = (h 0 x (omega arith), λ k d less. h (suc k) d (omega (arith, le
 
 event_tables : (es : List EventPartView) → All FitsEvent es → AreTables (map event_table es)
 event_tables [] h = tt
-event_tables (e ∷ es) h = let f = each FitsEvent e es h in (event_scalars e f.0, refl, event_tables es f.1)
+event_tables (e ∷ es) h = let f = each FitsEvent e es h in (event_scalars e.descriptors e f.0, event_sorted e.descriptors e, event_tables es f.1)
 
 program_tables : (ps : List ProgramPartView) → All FitsProgram ps → AreTables (map program_table ps)
 program_tables [] h = tt
@@ -447,43 +497,9 @@ stream_tables (s ∷ ss) h =
     let e = each FitsStream s ss h in
     (stream_scalars s e.0, sorted_with s.allowance s.multiplexing s.framing s.pts_limit s, stream_tables ss e.1)
 
-own_are_text : (s : StreamPartView) → FitsStream s → AreCommented true (pairs (stream_table s)) (own_lines s (stream_table s))
-own_are_text s h = typed_are_text true (type_note s.stream_type s.said) (stream_table s) (type_tail s.stream_type s.said) (stream_scalars s h)
-
-stream_is_text : (s : StreamPartView) (es : List Expression) (text : List ℕ) → FitsStream s → AreCommented true es text
-    → AreCommented true ((([], codes "stream"), array_table) ∷ ((pairs (stream_table s) ++ sections (codes "stream" ∷ []) (stream_table s)) ++ es))
-    (stream_text s ++ text)
-unfolding key_text
-stream_is_text s es text h more =
-    let own = own_lines s (stream_table s) in
-    let whole : header (codes "stream") ++ (own ++ text) ≡ stream_text s ++ text =
-    sym (append_assoc (header (codes "stream")) own text) ∙ ap (λ (t : List ℕ). t ++ text) (stream_lines s) in
-    subst (λ (t : List ℕ). AreCommented true
-    ((([], codes "stream"), array_table) ∷ ((pairs (stream_table s) ++ sections (codes "stream" ∷ []) (stream_table s)) ++ es)) t) whole
-    (element_is_text (codes "stream") (stream_table s) es own text refl (stream_scalars s h) (own_are_text s h) more)
-
-streams_are_text : (ss : List StreamPartView) → All FitsStream ss
-    → AreCommented true (elements ([], codes "stream") (elements_of (map stream_table ss))) (flat_map stream_text ss)
-streams_are_text [] h = refl
-streams_are_text (s ∷ ss) h =
-    let e = each FitsStream s ss h in
-    stream_is_text s (elements ([], codes "stream") (elements_of (map stream_table ss))) (flat_map stream_text ss) e.0 (streams_are_text ss e.1)
-
-events_lines : (es : List EventPartView) → flat_map (element_lines (codes "event")) (map event_table es) ≡ flat_map event_text es
-events_lines [] = refl
-events_lines (e ∷ es) = ap₂ (λ (a b : List ℕ). a ++ b) (event_lines e) (events_lines es)
-
-programs_lines : (ps : List ProgramPartView) → flat_map (element_lines (codes "program")) (map program_table ps) ≡ flat_map program_text ps
-programs_lines [] = refl
-programs_lines (p ∷ ps) = ap₂ (λ (a b : List ℕ). a ++ b) (program_lines p) (programs_lines ps)
-
 private_tables : (ts : List TablePartView) → All FitsTable ts → AreTables (map table_table ts)
 private_tables [] h = tt
 private_tables (t ∷ ts) h = let e = each FitsTable t ts h in (table_scalars t e.0, table_sorted t, private_tables ts e.1)
-
-privates_lines : (ts : List TablePartView) → flat_map (element_lines (codes "table")) (map table_table ts) ≡ flat_map table_text ts
-privates_lines [] = refl
-privates_lines (t ∷ ts) = ap₂ (λ (a b : List ℕ). a ++ b) (private_lines t) (privates_lines ts)
 
 -- The heading
 -- The document after `transponder`, its tables, its streams, its programs, its network, its events and its clock
@@ -551,20 +567,21 @@ abbrev arrays : List Members → List Members → List Members → List Expressi
 arrays ts us ws = elements ([], codes "program") (elements_of ts)
     ++ (elements ([], codes "stream") (elements_of us) ++ (elements ([], codes "table") (elements_of ws) ++ []))
 
-abbrev array_lines : List Members → List StreamPartView → List Members → List ℕ
-array_lines ts ss ws = flat_map (element_lines (codes "program")) ts ++ (flat_map stream_text ss ++ flat_map (element_lines (codes "table")) ws)
-
 abbrev tables : Option Members → List Members → List Members → List Members → List Expression
 tables n ts us ws = expressions_if_any (codes "network") n ++ arrays ts us ws
-
-abbrev table_lines : Option Members → List Members → List StreamPartView → List Members → List ℕ
-table_lines n ts ss ws = lines_if_any (codes "network") n ++ array_lines ts ss ws
 
 abbrev all_tables_of : List Members → Option Members → List Members → List Members → List Members → List Expression
 all_tables_of es n ts us ws = elements ([], codes "event") (elements_of es) ++ tables n ts us ws
 
-abbrev all_lines : List Members → Option Members → List Members → List StreamPartView → List Members → List ℕ
-all_lines es n ts ss ws = flat_map (element_lines (codes "event")) es ++ table_lines n ts ss ws
+-- Their lines
+abbrev array_lines : List ProgramPartView → List StreamPartView → List TablePartView → List ℕ
+array_lines ps ss qs = flat_map program_text ps ++ (flat_map stream_text ss ++ flat_map table_text qs)
+
+abbrev table_lines : Option NetworkPartView → List ProgramPartView → List StreamPartView → List TablePartView → List ℕ
+table_lines n ps ss qs = network_if_any n ++ array_lines ps ss qs
+
+abbrev all_lines : List EventPartView → Option NetworkPartView → List ProgramPartView → List StreamPartView → List TablePartView → List ℕ
+all_lines es n ps ss qs = flat_map event_text es ++ table_lines n ps ss qs
 
 whole_sections : (h : HeadingView) (es : List Members) (n : Option Members) (ts us ws : List Members) →
     sections [] (document h es n ts us ws) ≡ all_tables_of es n ts us ws
@@ -582,57 +599,82 @@ whole_sections h es n ts us ws =
 begun : (es : List Expression) → 1 ≤ length es → after false es ≡ true
 begun es some = grind (arith, nat_tests)
 
-last_is_text : (ws : List Members) → AreTables ws
-    → AreCommented true (elements ([], codes "table") (elements_of ws) ++ []) (flat_map (element_lines (codes "table")) ws)
+last_is_text : (qs : List TablePartView) → All FitsTable qs
+    → AreCommented true (elements ([], codes "table") (elements_of (map table_table qs)) ++ []) (flat_map table_text qs)
 unfolding key_text
-last_is_text ws w =
-    subst (λ (es : List Expression). AreCommented true es (flat_map (element_lines (codes "table")) ws))
-    (sym (append-nil (elements ([], codes "table") (elements_of ws))))
-    (elements_are_text (codes "table") ws refl w)
+last_is_text qs w =
+    subst (λ (es : List Expression). AreCommented true es (flat_map table_text qs))
+    (sym (append-nil (elements ([], codes "table") (elements_of (map table_table qs)))))
+    (elements_are_text (codes "table") [] table_table (λ t. []) table_text qs refl (λ t. no_tail) lines_of_private (private_tables qs w))
 
-arrays_are_text : (ts : List Members) (ss : List StreamPartView) (ws : List Members) → AreTables ts → All FitsStream ss → AreTables ws
-    → AreCommented true (arrays ts (map stream_table ss) ws) (array_lines ts ss ws)
+streams_are_text : (ss : List StreamPartView) → All FitsStream ss
+    → AreCommented true (elements ([], codes "stream") (elements_of (map stream_table ss))) (flat_map stream_text ss)
 unfolding key_text
-arrays_are_text ts ss ws a b w =
+streams_are_text ss h =
+    elements_are_text (codes "stream") (codes "type") stream_table (λ s. type_note s.stream_type s.said) stream_text ss refl
+    (λ s. type_tail s.stream_type s.said) lines_of_stream (stream_tables ss h)
+
+programs_are_text : (ps : List ProgramPartView) → All FitsProgram ps
+    → AreCommented true (elements ([], codes "program") (elements_of (map program_table ps))) (flat_map program_text ps)
+unfolding key_text
+programs_are_text ps h =
+    elements_are_text (codes "program") (codes "service_descriptors") program_table (λ p. name_note p.name) program_text ps refl
+    (λ p. name_tail p.name) lines_of_program (program_tables ps h)
+
+events_are_text : (es : List EventPartView) → All FitsEvent es
+    → AreCommented true (elements ([], codes "event") (elements_of (map event_table es))) (flat_map event_text es)
+unfolding key_text
+events_are_text es h =
+    elements_are_text (codes "event") (codes "descriptors") event_table (λ e. name_note e.name) event_text es refl
+    (λ e. name_tail e.name) (λ e. lines_of_event e.descriptors e) (event_tables es h)
+
+arrays_are_text : (ps : List ProgramPartView) (ss : List StreamPartView) (qs : List TablePartView) → All FitsProgram ps → All FitsStream ss → All FitsTable qs
+    → AreCommented true (arrays (map program_table ps) (map stream_table ss) (map table_table qs)) (array_lines ps ss qs)
+arrays_are_text ps ss qs a b w =
+    let us = elements ([], codes "stream") (elements_of (map stream_table ss)) in
+    let ws = elements ([], codes "table") (elements_of (map table_table qs)) ++ [] in
+    let two = commented_both true us ws (flat_map stream_text ss) (flat_map table_text qs) (streams_are_text ss b) (last_is_text qs w) in
+    commented_both true (elements ([], codes "program") (elements_of (map program_table ps))) (us ++ ws) (flat_map program_text ps)
+    (flat_map stream_text ss ++ flat_map table_text qs) (programs_are_text ps a) two
+
+tables_are_text : (n : Option NetworkPartView) (ps : List ProgramPartView) (ss : List StreamPartView) (qs : List TablePartView) → FitsNetwork n →
+    All FitsProgram ps → All FitsStream ss → All FitsTable qs →
+    AreCommented true (tables (option_map network_table n) (map program_table ps) (map stream_table ss) (map table_table qs)) (table_lines n ps ss qs)
+tables_are_text n ps ss qs t a b w =
+    commented_both true (expressions_if_any (codes "network") (option_map network_table n))
+    (arrays (map program_table ps) (map stream_table ss) (map table_table qs)) (network_if_any n) (array_lines ps ss qs)
+    (network_is_text n t) (arrays_are_text ps ss qs a b w)
+
+all_are_text : (es : List EventPartView) (n : Option NetworkPartView) (ps : List ProgramPartView) (ss : List StreamPartView) (qs : List TablePartView) →
+    All FitsEvent es → FitsNetwork n → All FitsProgram ps → All FitsStream ss → All FitsTable qs →
+    AreCommented true (all_tables_of (map event_table es) (option_map network_table n) (map program_table ps) (map stream_table ss) (map table_table qs))
+    (all_lines es n ps ss qs)
+all_are_text es n ps ss qs e t a b w =
+    commented_both true (elements ([], codes "event") (elements_of (map event_table es)))
+    (tables (option_map network_table n) (map program_table ps) (map stream_table ss) (map table_table qs))
+    (flat_map event_text es) (table_lines n ps ss qs) (events_are_text es e) (tables_are_text n ps ss qs t a b w)
+
+document_is_text : (h : HeadingView) (es : List EventPartView) (n : Option NetworkPartView) (ps : List ProgramPartView) (ss : List StreamPartView)
+    (qs : List TablePartView) → FitsHeading h → All FitsEvent es → FitsNetwork n → All FitsProgram ps → All FitsStream ss → All FitsTable qs
+    → AreCommented false
+    (expressions (document h (map event_table es) (option_map network_table n) (map program_table ps) (map stream_table ss) (map table_table qs)))
+    (heading_text h ++ all_lines es n ps ss qs)
+document_is_text h es n ps ss qs f e t a b w =
+    let vs = map event_table es in
+    let network = option_map network_table n in
+    let ts = map program_table ps in
     let us = map stream_table ss in
-    let programs = elements_are_text (codes "program") ts refl a in
-    let two = commented_both true (elements ([], codes "stream") (elements_of us)) (elements ([], codes "table") (elements_of ws) ++ [])
-    (flat_map stream_text ss) (flat_map (element_lines (codes "table")) ws) (streams_are_text ss b) (last_is_text ws w) in
-    commented_both true (elements ([], codes "program") (elements_of ts))
-    (elements ([], codes "stream") (elements_of us) ++ (elements ([], codes "table") (elements_of ws) ++ []))
-    (flat_map (element_lines (codes "program")) ts) (flat_map stream_text ss ++ flat_map (element_lines (codes "table")) ws) programs two
-
-tables_are_text : (n : Option Members) (ts : List Members) (ss : List StreamPartView) (ws : List Members) → IsTable n → AreTables ts → All FitsStream ss →
-    AreTables ws → AreCommented true (tables n ts (map stream_table ss) ws) (table_lines n ts ss ws)
-unfolding key_text
-tables_are_text n ts ss ws t a b w =
-    commented_both true (expressions_if_any (codes "network") n) (arrays ts (map stream_table ss) ws)
-    (lines_if_any (codes "network") n) (array_lines ts ss ws)
-    (table_is_text (codes "network") n refl t) (arrays_are_text ts ss ws a b w)
-
-all_are_text : (es : List Members) (n : Option Members) (ts : List Members) (ss : List StreamPartView) (ws : List Members) → AreTables es → IsTable n →
-    AreTables ts → All FitsStream ss → AreTables ws → AreCommented true (all_tables_of es n ts (map stream_table ss) ws) (all_lines es n ts ss ws)
-unfolding key_text
-all_are_text es n ts ss ws e t a b w =
-    commented_both true (elements ([], codes "event") (elements_of es)) (tables n ts (map stream_table ss) ws)
-    (flat_map (element_lines (codes "event")) es) (table_lines n ts ss ws)
-    (elements_are_text (codes "event") es refl e) (tables_are_text n ts ss ws t a b w)
-
-document_is_text : (h : HeadingView) (es : List Members) (n : Option Members) (ts : List Members) (ss : List StreamPartView) (ws : List Members)
-    → FitsHeading h → AreTables es → IsTable n → AreTables ts → All FitsStream ss → AreTables ws
-    → AreCommented false (expressions (document h es n ts (map stream_table ss) ws)) (heading_text h ++ all_lines es n ts ss ws)
-document_is_text h es n ts ss ws f e t a b w =
-    let us = map stream_table ss in
+    let ws = map table_table qs in
     let head = pairs (document h [] None [] [] []) in
-    let rest = all_tables_of es n ts us ws in
-    let text = all_lines es n ts ss ws in
+    let rest = all_tables_of vs network ts us ws in
+    let text = all_lines es n ps ss qs in
     let first : AreCommented false head (heading_text h) =
     subst (λ (t : List ℕ). AreCommented false head t) (heading_lines h) (lines_are_text false (document h [] None [] [] []) (heading_scalars h f)) in
     let second : AreCommented (after false head) rest text =
-    subst (λ (s : Bool). AreCommented s rest text) (sym (begun head (omega arith))) (all_are_text es n ts ss ws e t a b w) in
+    subst (λ (s : Bool). AreCommented s rest text) (sym (begun head (omega arith))) (all_are_text es n ps ss qs e t a b w) in
     let whole = commented_both false head rest (heading_text h) text first second in
-    let same : expressions (document h es n ts us ws) ≡ head ++ rest =
-    ap₂ (λ (xs ys : List Expression). xs ++ ys) (whole_pairs h es n ts us ws) (whole_sections h es n ts us ws) in
+    let same : expressions (document h vs network ts us ws) ≡ head ++ rest =
+    ap₂ (λ (xs ys : List Expression). xs ++ ys) (whole_pairs h vs network ts us ws) (whole_sections h vs network ts us ws) in
     subst (λ (es : List Expression). AreCommented false es (heading_text h ++ text)) (sym same) whole
 
 before_events : (other : List ℕ) (h : HeadingView) (n : Option Members) (ts us ws : List Members) → is_lt (slice_cmp nat_cmp other (codes "network")) ≡ true
@@ -669,26 +711,7 @@ document_sorted h es n ts us ws e t a b w =
 
 pub texts_are_read : TextsAreRead
 texts_are_read h es n ps ss qs f e m p s q =
-    let vs = map event_table es in
-    let t = option_map network_table n in
-    let ts = map program_table ps in
-    let us = map stream_table ss in
-    let ws = map table_table qs in
-    let ev = event_tables es e in
-    let fits = network_table_fits n m in
-    let a = program_tables ps p in
-    let b = stream_tables ss s in
-    let w = private_tables qs q in
-    let arrays : array_lines ts ss ws ≡ flat_map program_text ps ++ (flat_map stream_text ss ++ flat_map table_text qs) =
-    ap₂ (λ (xs ys : List ℕ). xs ++ ys) (programs_lines ps) (ap (λ (ys : List ℕ). flat_map stream_text ss ++ ys) (privates_lines qs)) in
-    let rest : table_lines t ts ss ws ≡ network_if_any n ++ (flat_map program_text ps ++ (flat_map stream_text ss ++ flat_map table_text qs)) =
-    ap₂ (λ (xs ys : List ℕ). xs ++ ys) (network_lines_if_any n) arrays in
-    let lines : all_lines vs t ts ss ws ≡ flat_map event_text es
-    ++ (network_if_any n ++ (flat_map program_text ps ++ (flat_map stream_text ss ++ flat_map table_text qs))) =
-    ap₂ (λ (xs ys : List ℕ). xs ++ ys) (events_lines es) rest in
-    let text : AreCommented false (expressions (document h vs t ts us ws))
-    (heading_text h ++ (flat_map event_text es ++ (network_if_any n ++ (flat_map program_text ps ++ (flat_map stream_text ss ++ flat_map table_text qs)))))
-    =
-    subst (λ (l : List ℕ). AreCommented false (expressions (document h vs t ts us ws)) (heading_text h ++ l)) lines
-    (document_is_text h vs t ts ss ws f ev fits a s w) in
-    document_read (document h vs t ts us ws) _ text (document_sorted h vs t ts us ws ev fits a b w)
+    document_read (document h (map event_table es) (option_map network_table n) (map program_table ps) (map stream_table ss) (map table_table qs)) _
+    (document_is_text h es n ps ss qs f e m p s q)
+    (document_sorted h (map event_table es) (option_map network_table n) (map program_table ps) (map stream_table ss) (map table_table qs)
+    (event_tables es e) (network_table_fits n m) (program_tables ps p) (stream_tables ss s) (private_tables qs q))

@@ -1,9 +1,10 @@
 -- The text after a number is a comment, and ends its line.
-use Rattle.std.proofs.Common.{◌≡◌, ℕ, zero, suc, ◌+◌, ◌/◌, ◌%◌, ◌*◌, ◌==◌, ◌≤◌, nat_le, nat_lt, Bool, true, false, List, [], ◌∷◌, ◌++◌, ◌||◌, if◌then◌else◌}
-use Rattle.std.proofs.Common.{length, map, codes, decimal}
+use Rattle.std.proofs.Common.{◌≡◌, ℕ, zero, suc, ◌+◌, ◌/◌, ◌%◌, ◌*◌, ◌==◌, ◌≤◌, nat_le, nat_lt, Bool, true, false, List, [], ◌∷◌, ◌++◌, ◌||◌, ◌&&◌, if◌then◌else◌}
+use Rattle.std.proofs.Common.{length, map, flat_map, codes, decimal, encode_utf8}
 use Rattle.std.proofs.Common.{refl, sym, ap, ◌∙◌, subst, arith, append_assoc, pos, negsuc, Some, inl, inr, ◌⊎◌}
 use Rattle.std.proofs.lemmas.Bool.{and_parts, and_from, cond_both, le-leb, leb-true}
 use Rattle.std.proofs.lemmas.Bool.Decides.{nat_tests}
+use Rattle.std.proofs.lemmas.Str.{encode_ascii}
 use Rattle.std.specs.List.{list_all, list_any}
 use Rattle.std.specs.Fmt.{digit_glyph, digits, digits_onto}
 use Rattle.toml_parser.specs.Lexical.{first, skip_ws, skip_from, skip_blank, skip_turn}
@@ -13,8 +14,8 @@ use Rattle.toml.specs.Parse.{ends_line}
 use Rattle.toml.proofs.Blanks.{skip_newline}
 use Rattle.job_text.specs.declared.measure.Measure.{Measure}
 use Rattle.job_text.specs.declared.measure.Measure.TheVariants.{Plain, Ticks, Clock, BitRate, Bytes, Milliseconds, Seconds, ServiceType}
-use Rattle.job_text.specs.Notes.{group, grouped, is_shown, measure_of, note, note_if_any, note_of, number_note, quotient, service_type_name, stream_type_name}
-use Rattle.job_text.specs.Notes.{thousandths, two_digits, type_note}
+use Rattle.job_text.specs.Notes.{group, grouped, is_shown, measure_of, name_note, note, note_if_any, note_of, number_note, quotient, service_type_name}
+use Rattle.job_text.specs.Notes.{shown_byte, stream_type_name, thousandths, two_digits, type_note}
 use Rattle.job_text.specs.ProfileWords.{said_words}
 use Rattle.stream_coding.specs.declared.profiles.ProfileLevel.{ProfileLevel}
 use Rattle.job_text.specs.Laws.{NotesAreShown}
@@ -109,9 +110,9 @@ IsNote text = (text ≡ []) ⊎ ((words : List ℕ) × (text ≡ note words) × 
 is_note : (words : List ℕ) → Shown words → IsNote (note words)
 is_note words h = inr (words, refl, h)
 
-name_note : (words : List ℕ) → Shown words → IsNote (note_if_any words)
+any_note : (words : List ℕ) → Shown words → IsNote (note_if_any words)
 unfolding note_if_any
-name_note words h = cond_both (length words == 0) [] (note words) IsNote (λ _. inl refl) (λ _. is_note words h)
+any_note words h = cond_both (length words == 0) [] (note words) IsNote (λ _. inl refl) (λ _. is_note words h)
 
 number_is : (m : Measure) (n : ℕ) → IsNote (number_note m n)
 number_is Plain n = inl refl
@@ -127,7 +128,7 @@ number_is Seconds n =
     let minutes_are = shown_both (codes ":") (two_digits (n / 60 % 60) ++ seconds) refl
     (shown_both (two_digits (n / 60 % 60)) seconds (two_shown (n / 60 % 60)) seconds_are) in
     is_note (decimal (n / 3_600) ++ minutes) (shown_both (decimal (n / 3_600)) minutes (decimal_shown (n / 3_600)) minutes_are)
-number_is ServiceType n = name_note (service_type_name n) (service_name_shown n)
+number_is ServiceType n = any_note (service_type_name n) (service_name_shown n)
 
 pub note_is : (key : List ℕ) (d : Data) → IsNote (note_of key d)
 note_is key (integer (pos n)) = number_is (measure_of key) n
@@ -145,6 +146,26 @@ unfolding type_note
 type_is n said =
     cond_both (length (stream_type_name n) == 0) [] (note (stream_type_name n ++ said_words said)) IsNote (λ _. inl refl)
     (λ _. is_note (stream_type_name n ++ said_words said) (shown_both (stream_type_name n) (said_words said) (stream_name_shown n) (said_shown said)))
+
+-- The note beside descriptors
+pub shown_alone : (b : ℕ) → (nat_le 32 b && nat_le b 126) ≡ true → encode_utf8 b ≡ b ∷ []
+shown_alone b h = let most = leb-true b 126 (and_parts (nat_le 32 b) (nat_le b 126) h).1 in encode_ascii b (omega (arith, most))
+
+byte_shown : (b : ℕ) → Shown (shown_byte b)
+unfolding shown_byte
+byte_shown b =
+    cond_both (is_shown b) (b ∷ []) _ Shown (λ h. and_from (is_shown b) true h refl)
+    (λ _. cond_both (nat_le 0xC0 b) (codes "?") [] Shown (λ _. refl) (λ _. refl))
+
+bytes_shown : (bytes : List ℕ) → Shown (flat_map shown_byte bytes)
+bytes_shown [] = refl
+bytes_shown (b ∷ bytes) = shown_both (shown_byte b) (flat_map shown_byte bytes) (byte_shown b) (bytes_shown bytes)
+
+name_is : (name : List ℕ) → IsNote (name_note name)
+unfolding name_note
+name_is name =
+    cond_both (length name == 0) [] (note (flat_map shown_byte name)) IsNote (λ _. inl refl)
+    (λ _. is_note (flat_map shown_byte name) (bytes_shown name))
 
 -- 3. A note ends its line
 
@@ -189,6 +210,12 @@ tail_of text (inr (words, is, h)) = rw is (words_tail words h)
 pub note_tail : (key : List ℕ) (d : Data) → IsTail (note_of key d ++ 10 ∷ [])
 note_tail key d = tail_of (note_of key d) (note_is key d)
 
+pub no_tail : IsTail (10 ∷ [])
+no_tail = tail_of [] (inl refl)
+
+pub name_tail : (name : List ℕ) → IsTail (name_note name ++ 10 ∷ [])
+name_tail name = tail_of (name_note name) (name_is name)
+
 pub type_tail : (n : ℕ) (said : ProfileLevel) → IsTail (type_note n said ++ 10 ∷ [])
 type_tail n said = tail_of (type_note n said) (type_is n said)
 
@@ -198,4 +225,8 @@ shown_of text (inl none) = rw none refl
 shown_of text (inr (words, is, h)) = rw is (shown_both (codes " # ") words refl h)
 
 pub notes_are_shown : NotesAreShown
-notes_are_shown = (λ key d. shown_of (note_of key d) (note_is key d), λ n said. shown_of (type_note n said) (type_is n said))
+notes_are_shown = (
+  λ key d. shown_of (note_of key d) (note_is key d),
+  λ n said. shown_of (type_note n said) (type_is n said),
+  λ name. shown_of (name_note name) (name_is name),
+)

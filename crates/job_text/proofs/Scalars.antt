@@ -1,5 +1,5 @@
 -- Tables of strings, numbers, truth values and flat arrays, as lines
-use Rattle.std.proofs.Common.{◌≡◌, ℕ, pos, negsuc, ◌≤◌, Bool, true, false, if◌then◌else◌, List, [], ◌++◌, codes, decimal, refl, arith}
+use Rattle.std.proofs.Common.{◌≡◌, ℕ, ◌≤◌, Bool, true, false, if◌then◌else◌, List, [], ◌++◌, codes, refl, arith}
 use Rattle.std.specs.Prelude.{bytes_eq}
 use Rattle.std.proofs.lemmas.Bool.{cond_both}
 use Rattle.std.specs.Int.{w64}
@@ -75,34 +75,25 @@ line_is_text : (started : Bool) (k : List ℕ) (d : Data) → key_text k ≡ k �
 unfolding key_line
 line_is_text started k d bare h = (value_text d, note_of k d ++ codes "\n", rw bare refl, value_is_text d h, note_tail k d)
 
--- The line of a number with a tail after the number
-noted_is_text : (started : Bool) (k : List ℕ) (n : ℕ) (note : List ℕ) → IsTail (note ++ codes "\n") → key_text k ≡ k → IsScalar (integer (pos n))
-    → IsCommented started ([], k) (key_value (integer (pos n))) (noted_line k n note)
+-- The line of a scalar with a tail after it
+noted_is_text : (started : Bool) (k : List ℕ) (d : Data) (note : List ℕ) → IsTail (note ++ codes "\n") → key_text k ≡ k → IsScalar d
+    → IsCommented started ([], k) (key_value d) (noted_line k d note)
 unfolding noted_line
-noted_is_text started k n note tail bare h = (decimal n, note ++ codes "\n", rw bare refl, (refl, h), tail)
+noted_is_text started k d note tail bare h = (value_text d, note ++ codes "\n", rw bare refl, value_is_text d h, tail)
 
--- The lines of a table whose key `type` has this note
-abbrev pub typed_line : List ℕ → List ℕ → Data → List ℕ
-typed_line note k (integer (pos n)) = if bytes_eq k (codes "type") then noted_line k n note else key_line k (integer (pos n))
-typed_line note k d = key_line k d
+-- The lines of a table whose key `at` has this note
+abbrev pub line_at : List ℕ → List ℕ → List ℕ → Data → List ℕ
+line_at at note k d = if bytes_eq k at then noted_line k d note else key_line k d
 
-abbrev pub typed_lines : List ℕ → Members → List ℕ
-typed_lines note no_members = []
-typed_lines note (member k d ms) = typed_line note k d ++ typed_lines note ms
+abbrev pub noted_lines : List ℕ → List ℕ → Members → List ℕ
+noted_lines at note no_members = []
+noted_lines at note (member k d ms) = line_at at note k d ++ noted_lines at note ms
 
-typed_is_text : (started : Bool) (note k : List ℕ) (d : Data) → IsTail (note ++ codes "\n") → key_text k ≡ k → IsScalar d
-    → IsCommented started ([], k) (key_value d) (typed_line note k d)
-typed_is_text started note k (integer (pos n)) tail bare h =
-    cond_both (bytes_eq k (codes "type")) (noted_line k n note) (key_line k (integer (pos n)))
-    (λ text. IsCommented started ([], k) (key_value (integer (pos n))) text)
-    (λ _. noted_is_text started k n note tail bare h) (λ _. line_is_text started k (integer (pos n)) bare h)
-typed_is_text started note k (integer (negsuc n)) tail bare h = line_is_text started k (integer (negsuc n)) bare h
-typed_is_text started note k (string s) tail bare h = line_is_text started k (string s) bare h
-typed_is_text started note k (boolean b) tail bare h = line_is_text started k (boolean b) bare h
-typed_is_text started note k (float x) tail bare h = absurd h
-typed_is_text started note k (datetime x) tail bare h = absurd h
-typed_is_text started note k (array x) tail bare h = line_is_text started k (array x) bare h
-typed_is_text started note k (table x) tail bare h = absurd h
+at_is_text : (started : Bool) (at note k : List ℕ) (d : Data) → IsTail (note ++ codes "\n") → key_text k ≡ k → IsScalar d
+    → IsCommented started ([], k) (key_value d) (line_at at note k d)
+at_is_text started at note k d tail bare h =
+    cond_both (bytes_eq k at) (noted_line k d note) (key_line k d) (λ text. IsCommented started ([], k) (key_value d) text)
+    (λ _. noted_is_text started k d note tail bare h) (λ _. line_is_text started k d bare h)
 
 line_is_printed : (k : List ℕ) (d : Data) → IsScalar d → IsPrinted ([], k) (key_value d)
 line_is_printed k d h = let within = low d h in (refl, omega (arith, within), dated d h)
@@ -113,12 +104,18 @@ lines_are_text started (member k d ms) h =
     rw (is_no_section d h.1)
     (key_line k d, scalar_lines ms, refl, line_is_text started k d h.0 h.1, line_is_printed k d h.1, lines_are_text true ms h.2)
 
-pub typed_are_text : (started : Bool) (note : List ℕ) (ms : Members) → IsTail (note ++ codes "\n") → AreScalars ms
-    → AreCommented started (pairs ms) (typed_lines note ms)
-typed_are_text started note no_members tail h = refl
-typed_are_text started note (member k d ms) tail h =
-    rw (is_no_section d h.1)
-    (typed_line note k d, typed_lines note ms, refl, typed_is_text started note k d tail h.0 h.1, line_is_printed k d h.1, typed_are_text true note ms tail h.2)
+pub noted_are_text : (started : Bool) (at note : List ℕ) (ms : Members) → IsTail (note ++ codes "\n") → AreScalars ms
+    → AreCommented started (pairs ms) (noted_lines at note ms)
+noted_are_text started at note no_members tail h = refl
+noted_are_text started at note (member k d ms) tail h =
+    rw (is_no_section d h.1) (
+      line_at at note k d,
+      noted_lines at note ms,
+      refl,
+      at_is_text started at note k d tail h.0 h.1,
+      line_is_printed k d h.1,
+      noted_are_text true at note ms tail h.2,
+    )
 
 -- A table of scalars has no tables in it.
 pub no_sections : (path : List (List ℕ)) (ms : Members) → AreScalars ms → sections path ms ≡ []

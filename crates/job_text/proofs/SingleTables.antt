@@ -1,5 +1,5 @@
 -- A table at a key, as lines
-use Rattle.std.proofs.Common.{◌≡◌, ℕ, true, List, [], ◌∷◌, ◌++◌, Option, Some, None, refl, arith, append-nil}
+use Rattle.std.proofs.Common.{◌≡◌, ℕ, true, List, [], ◌∷◌, ◌++◌, codes, Option, Some, None, refl, arith, append-nil}
 use Rattle.toml_writer.specs.Text.{key_text}
 use Rattle.std.specs.Ordering.{nat_cmp, is_lt}
 use Rattle.std.specs.Cmp.Lexicographic.{slice_cmp}
@@ -8,17 +8,13 @@ use Rattle.toml.specs.Tables.{Expression, std_table}
 use Rattle.toml.specs.Text.{needs_header, pairs, sections, section}
 use Rattle.job_text.specs.KeyLines.{table_header}
 use Rattle.job_text.specs.Documents.{with_table}
-use Rattle.job_text.proofs.Comments.{IsCommented, AreCommented}
-use Rattle.job_text.proofs.Scalars.{AreScalars, scalar_lines, lines_are_text, is_no_section, no_sections}
+use Rattle.job_text.proofs.Comments.{IsCommented, IsTail, AreCommented}
+use Rattle.job_text.proofs.Scalars.{AreScalars, noted_are_text, noted_lines, is_no_section, no_sections}
 
 -- The table has only scalars, and its keys are in order.
 abbrev pub IsTable : Option Members → Type 0
 IsTable None = Unit {0}
 IsTable (Some t) = AreScalars t × (members_are_sorted t ≡ true)
-
-abbrev pub lines_if_any : List ℕ → Option Members → List ℕ
-lines_if_any key None = []
-lines_if_any key (Some t) = table_header key ++ scalar_lines t
 
 abbrev pub expressions_if_any : List ℕ → Option Members → List Expression
 expressions_if_any key None = []
@@ -32,13 +28,13 @@ header_is_text : (key : List ℕ) → key_text key ≡ key → IsCommented true 
 unfolding table_header
 header_is_text key bare = rw bare refl
 
--- The lines of the table are lines of TOML.
-pub table_is_text : (key : List ℕ) (t : Option Members) → key_text key ≡ key → IsTable t →
-    AreCommented true (expressions_if_any key t) (lines_if_any key t)
-table_is_text key None bare h = refl
-table_is_text key (Some t) bare h =
-    let own : AreCommented true (pairs t ++ []) (scalar_lines t) = rw append-nil (lines_are_text true t h.0) in
-    rw (headed t h.0, no_sections (key ∷ []) t h.0) (table_header key, scalar_lines t, refl, header_is_text key bare, omega arith, own)
+-- The lines of the table, with a note at the key `at`, are lines of TOML.
+pub table_is_text : (key at note : List ℕ) (t : Members) → key_text key ≡ key → IsTail (note ++ codes "\n") → AreScalars t →
+    AreCommented true (expressions_if_any key (Some t)) (table_header key ++ noted_lines at note t)
+table_is_text key at note t bare tail h =
+    let lines = noted_lines at note t in
+    let own : AreCommented true (pairs t ++ []) lines = rw append-nil (noted_are_text true at note t tail h) in
+    rw (headed t h, no_sections (key ∷ []) t h) (table_header key, lines, refl, header_is_text key bare, omega arith, own)
 
 -- A table among other keys
 pub pairs_past_table : (key : List ℕ) (t : Option Members) (more : Members) → pairs (with_table key t more) ≡ pairs more

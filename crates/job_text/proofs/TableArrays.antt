@@ -1,5 +1,5 @@
 -- Arrays of tables, as lines
-use Rattle.std.proofs.Common.{◌≡◌, ℕ, true, List, [], ◌∷◌, ◌++◌, refl, arith, append_assoc, append-nil}
+use Rattle.std.proofs.Common.{◌≡◌, ℕ, true, List, [], ◌∷◌, ◌++◌, map, codes, refl, sym, ap, subst, ◌∙◌, arith, append_assoc, append-nil}
 use Rattle.std.specs.List.{flat_map}
 use Rattle.toml_writer.specs.Text.{key_text}
 use Rattle.std.specs.Ordering.{nat_cmp, is_lt}
@@ -9,17 +9,13 @@ use Rattle.toml.specs.Tables.{Expression, array_table}
 use Rattle.toml.specs.Text.{pairs, sections, elements, are_tables}
 use Rattle.job_text.specs.KeyLines.{header}
 use Rattle.job_text.specs.Documents.{elements_of, with_tables}
-use Rattle.job_text.proofs.Comments.{IsCommented, AreCommented, commented_both}
-use Rattle.job_text.proofs.Scalars.{AreScalars, scalar_lines, lines_are_text, no_sections}
+use Rattle.job_text.proofs.Comments.{IsCommented, IsTail, AreCommented, commented_both}
+use Rattle.job_text.proofs.Scalars.{AreScalars, noted_are_text, noted_lines, no_sections}
 
 -- Each table has only scalars, and its keys are in order.
 abbrev pub AreTables : List Members → Type 0
 AreTables [] = Unit {0}
 AreTables (t ∷ ts) = AreScalars t × (members_are_sorted t ≡ true) × AreTables ts
-
--- The lines of an element of the array
-abbrev pub element_lines : List ℕ → Members → List ℕ
-element_lines key t = header key ++ scalar_lines t
 
 pub all_tables : (ts : List Members) → are_tables (elements_of ts) ≡ true
 all_tables [] = refl
@@ -33,8 +29,8 @@ header_is_text : (key : List ℕ) → key_text key ≡ key → IsCommented true 
 unfolding header
 header_is_text key bare = rw bare refl
 
--- An element whose keys have other lines, before other expressions
-pub element_is_text : (key : List ℕ) (t : Members) (es : List Expression) (own text : List ℕ) → key_text key ≡ key → AreScalars t
+-- An element before other expressions
+element_is_text : (key : List ℕ) (t : Members) (es : List Expression) (own text : List ℕ) → key_text key ≡ key → AreScalars t
     → AreCommented true (pairs t) own → AreCommented true es text
     → AreCommented true ((([], key), array_table) ∷ ((pairs t ++ sections (key ∷ []) t) ++ es)) (header key ++ (own ++ text))
 element_is_text key t es own text bare h lines more =
@@ -42,16 +38,21 @@ element_is_text key t es own text bare h lines more =
     let both = commented_both true (pairs t ++ []) es own text all more in
     rw (no_sections (key ∷ []) t h) (header key, own ++ text, refl, header_is_text key bare, omega arith, both)
 
--- The lines of the elements are lines of TOML.
-pub elements_are_text : (key : List ℕ) (ts : List Members) → key_text key ≡ key → AreTables ts
-    → AreCommented true (elements ([], key) (elements_of ts)) (flat_map (element_lines key) ts)
-elements_are_text key [] bare h = refl
-elements_are_text key (t ∷ ts) bare h =
-    let more = elements_are_text key ts bare h.2 in
-    let own : AreCommented true (pairs t ++ []) (scalar_lines t) = rw append-nil (lines_are_text true t h.0) in
-    let both = commented_both true (pairs t ++ []) (elements ([], key) (elements_of ts)) (scalar_lines t) (flat_map (element_lines key) ts) own more in
-    rw (no_sections (key ∷ []) t h.0)
-    (header key, scalar_lines t ++ flat_map (element_lines key) ts, simp append_assoc, header_is_text key bare, omega arith, both)
+-- The lines of the elements, each with a note at the key `at`, are lines of TOML.
+pub elements_are_text : {X : Type 0} (key at : List ℕ) (table_of : X → Members) (note text : X → List ℕ) (xs : List X) → key_text key ≡ key
+    → ((x : X) → IsTail (note x ++ codes "\n")) → ((x : X) → header key ++ noted_lines at (note x) (table_of x) ≡ text x)
+    → AreTables (map table_of xs) → AreCommented true (elements ([], key) (elements_of (map table_of xs))) (flat_map text xs)
+elements_are_text key at table_of note text [] bare tail lines h = refl
+elements_are_text key at table_of note text (x ∷ xs) bare tail lines h =
+    let t = table_of x in
+    let es = elements ([], key) (elements_of (map table_of xs)) in
+    let own = noted_lines at (note x) t in
+    let rest = flat_map text xs in
+    let more = elements_are_text key at table_of note text xs bare tail lines h.2 in
+    let whole : header key ++ (own ++ rest) ≡ text x ++ rest =
+    sym (append_assoc (header key) own rest) ∙ ap (λ (s : List ℕ). s ++ rest) (lines x) in
+    subst (λ (s : List ℕ). AreCommented true ((([], key), array_table) ∷ ((pairs t ++ sections (key ∷ []) t) ++ es)) s) whole
+    (element_is_text key t es own rest bare h.0 (noted_are_text true at (note x) t (tail x) h.0) more)
 
 -- An array among other keys
 pub pairs_past : (key : List ℕ) (ts : List Members) (more : Members) → pairs (with_tables key ts more) ≡ pairs more

@@ -30,10 +30,12 @@ pub record EventPartView : Type 0 where
   pub language : List ℕ
   pub name : List ℕ
   pub text : List ℕ
+  pub descriptors : Option (List ℕ)
 
 pub record NetworkPartView : Type 0 where
   pub id : ℕ
   pub name : List ℕ
+  pub network_descriptors : Option (List ℕ)
   pub descriptors : List ℕ
 
 pub record ProgramPartView : Type 0 where
@@ -45,6 +47,7 @@ pub record ProgramPartView : Type 0 where
   pub service_type : ℕ
   pub provider : List ℕ
   pub name : List ℕ
+  pub service_descriptors : Option (List ℕ)
 
 pub record FramingPartView : Type 0 where
   pub frames : ℕ
@@ -101,10 +104,16 @@ event_view e = record {
   language = e.language.now;
   name = e.name.now;
   text = e.text.now;
+  descriptors = option_map (λ b. b.now) e.descriptors;
 }
 
 abbrev pub network_view : NetworkPart → NetworkPartView
-network_view n = record { id = n.id; name = n.name.now; descriptors = n.descriptors.now }
+network_view n = record {
+  id = n.id;
+  name = n.name.now;
+  network_descriptors = option_map (λ b. b.now) n.network_descriptors;
+  descriptors = n.descriptors.now;
+}
 
 abbrev pub program_view : ProgramPart → ProgramPartView
 program_view p = record {
@@ -116,6 +125,7 @@ program_view p = record {
   service_type = p.service_type;
   provider = p.provider.now;
   name = p.name.now;
+  service_descriptors = option_map (λ b. b.now) p.service_descriptors;
 }
 
 abbrev pub framing_view : FramingPart → FramingPartView

@@ -24,8 +24,9 @@ abbrev pub with_table : List ℕ → Option Members → Members → Members
 with_table key None more = more
 with_table key (Some t) more = member key (table t) more
 
-abbrev pub event_table : EventPartView → Members
-event_table e =
+-- for an event: its keys with those of its texts, or with all of its descriptors
+abbrev pub event_members : Option (List ℕ) → EventPartView → Members
+event_members None e =
     member (codes "duration") (integer (pos e.duration))
     (member (codes "id") (integer (pos e.id))
     (member (codes "language") (string e.language)
@@ -33,23 +34,46 @@ event_table e =
     (member (codes "program") (integer (pos e.program))
     (member (codes "start") (string e.start)
     (member (codes "text") (string e.text) no_members))))))
+event_members (Some bytes) e =
+    member (codes "descriptors") (string (encode_lower bytes))
+    (member (codes "duration") (integer (pos e.duration))
+    (member (codes "id") (integer (pos e.id))
+    (member (codes "program") (integer (pos e.program))
+    (member (codes "start") (string e.start) no_members))))
+
+abbrev pub event_table : EventPartView → Members
+event_table e = event_members e.descriptors e
+
+-- for a network: its name, or all of its descriptors, and all keys
+abbrev pub network_last : Option (List ℕ) → NetworkPartView → Members
+network_last None n = member (codes "name") (string n.name) no_members
+network_last (Some bytes) n = member (codes "network_descriptors") (string (encode_lower bytes)) no_members
 
 abbrev pub network_table : NetworkPartView → Members
-network_table n = with_hex (codes "descriptors") n.descriptors (member (codes "id") (integer (pos n.id)) (member (codes "name") (string n.name) no_members))
+network_table n =
+    with_hex (codes "descriptors") n.descriptors (member (codes "id") (integer (pos n.id)) (network_last n.network_descriptors n))
 
--- for a program: the keys after its clock, and all keys
+-- for a program: the keys after its clock, with the keys of its service or with all descriptors of its service, and all keys
 abbrev pub program_service : ProgramPartView → Members
 program_service p =
     member (codes "pmt_pid") (integer (pos p.pmt_pid))
     (member (codes "provider") (string p.provider)
     (member (codes "service_type") (integer (pos p.service_type)) no_members))
 
+abbrev pub program_coded : List ℕ → ProgramPartView → Members
+program_coded bytes p =
+    member (codes "pmt_pid") (integer (pos p.pmt_pid))
+    (member (codes "service_descriptors") (string (encode_lower bytes)) no_members)
+
+abbrev pub with_clock : ProgramPartView → Members → Members
+with_clock p more = with_numbers (program_numbers p) (with_numbers (number_if_any (codes "pcr_pid") p.pcr_pid) more)
+
+abbrev pub program_members : Option (List ℕ) → ProgramPartView → Members
+program_members None p = member (codes "name") (string p.name) (with_clock p (program_service p))
+program_members (Some bytes) p = with_clock p (program_coded bytes p)
+
 abbrev pub program_table : ProgramPartView → Members
-program_table p =
-    with_hex (codes "descriptors") p.descriptors
-    (member (codes "name") (string p.name)
-    (with_numbers (program_numbers p)
-    (with_numbers (number_if_any (codes "pcr_pid") p.pcr_pid) (program_service p))))
+program_table p = with_hex (codes "descriptors") p.descriptors (program_members p.service_descriptors p)
 
 -- for a stream: its last keys, the keys from its PID on, after its access units, after its descriptors, and all keys
 abbrev pub stream_last : StreamPartView → Members

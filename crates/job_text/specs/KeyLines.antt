@@ -6,7 +6,7 @@ use Rattle.std.specs.Fmt.{signed_decimal}
 use Rattle.hex.specs.Hex.{encode_lower}
 use Rattle.toml.specs.Data.{Data, string, integer, boolean, array, Items, no_items, item, Members, member}
 use Rattle.toml_writer.specs.Text.{string_text}
-use Rattle.job_text.specs.Notes.{note_of}
+use Rattle.job_text.specs.Notes.{name_note, note_of}
 
 -- a string, a number, a truth value or an array of these on one line; no other kind of value is written
 abbrev mutual
@@ -26,9 +26,13 @@ abbrev mutual
 unfoldable pub key_line : List ℕ → Data → List ℕ
 key_line key value = key ++ (codes " = " ++ (value_text value ++ (note_of key value ++ codes "\n")))
 
--- the line of a number, with this comment beside it
-unfoldable pub noted_line : List ℕ → ℕ → List ℕ → List ℕ
-noted_line key n note = key ++ (codes " = " ++ (decimal n ++ (note ++ codes "\n")))
+-- the same with this comment beside the value
+unfoldable pub noted_line : List ℕ → Data → List ℕ → List ℕ
+noted_line key value note = key ++ (codes " = " ++ (value_text value ++ (note ++ codes "\n")))
+
+-- bytes as pairs of hexadecimal digits, with the name in them as a comment
+abbrev pub named_line : List ℕ → List ℕ → List ℕ → List ℕ
+named_line key bytes name = noted_line key (string (encode_lower bytes)) (name_note name)
 
 -- the line of a number
 abbrev pub number_line : List ℕ × ℕ → List ℕ

@@ -1,5 +1,5 @@
 -- The comments of TOML that explain numbers to people.
-use Rattle.std.specs.Prelude.{ℕ, pos, ◌*◌, ◌/◌, ◌%◌, ◌==◌, ◌&&◌, nat_le, nat_lt, Bool, if◌then◌else◌, List, [], ◌∷◌, ◌++◌, length, bytes_eq, codes, decimal}
+use Rattle.std.specs.Prelude.{ℕ, pos, ◌*◌, ◌/◌, ◌%◌, ◌==◌, ◌&&◌, nat_le, nat_lt, Bool, if◌then◌else◌, List, [], ◌∷◌, ◌++◌, length, flat_map, bytes_eq, codes, decimal}
 use Rattle.std.specs.List.{list_any}
 use Rattle.toml.specs.Data.{Data, integer}
 use Rattle.job_text.specs.declared.measure.Measure.{Measure}
@@ -90,6 +90,10 @@ service_type_name n =
 
 -- 4. The comment
 
+-- its bytes: printable ASCII
+abbrev pub is_shown : ℕ → Bool
+is_shown c = nat_le 32 c && nat_le c 126
+
 abbrev pub note : List ℕ → List ℕ
 note words = codes " # " ++ words
 
@@ -110,11 +114,15 @@ number_note ServiceType n = note_if_any (service_type_name n)
 unfoldable pub type_note : ℕ → ProfileLevel → List ℕ
 type_note n said = if length (stream_type_name n) == 0 then [] else note (stream_type_name n ++ said_words said)
 
+-- a byte of a name as printable ASCII: a question mark in place of the first byte of any other character, and nothing in place of its further bytes
+unfoldable pub shown_byte : ℕ → List ℕ
+shown_byte b = if is_shown b then b ∷ [] else (if nat_le 0xC0 b then codes "?" else [])
+
+-- beside descriptors: the name in them, if it has one
+unfoldable pub name_note : List ℕ → List ℕ
+name_note name = if length name == 0 then [] else note (flat_map shown_byte name)
+
 -- a value that is no number has no comment
 abbrev pub note_of : List ℕ → Data → List ℕ
 note_of key (integer (pos n)) = number_note (measure_of key) n
 note_of key _ = []
-
--- the bytes of a comment: printable ASCII
-abbrev pub is_shown : ℕ → Bool
-is_shown c = nat_le 32 c && nat_le c 126

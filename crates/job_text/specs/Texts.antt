@@ -1,9 +1,9 @@
 -- The texts of a service description's parts: every key on its line, in ascending order.
-use Rattle.std.specs.Prelude.{ℕ, List, [], ◌∷◌, ◌++◌, codes, Option, Some, None}
+use Rattle.std.specs.Prelude.{ℕ, pos, List, [], ◌∷◌, ◌++◌, codes, Option, Some, None}
 use Rattle.hex.specs.Hex.{encode_lower}
-use Rattle.toml.specs.Data.{string, boolean, array}
+use Rattle.toml.specs.Data.{string, integer, boolean, array}
 use Rattle.job_text.specs.DescriptionParts.{EventPartView, FramingPartView, HeadingView, NetworkPartView, ProgramPartView, StreamPartView, TablePartView}
-use Rattle.job_text.specs.KeyLines.{key_line, noted_line, number_line, number_lines, number_if_any, set_line, hex_line, list_line, digits_of, table_header, header}
+use Rattle.job_text.specs.KeyLines.{key_line, named_line, noted_line, number_line, number_lines, number_if_any, set_line, hex_line, list_line, digits_of, table_header, header}
 use Rattle.job_text.specs.Notes.{type_note}
 use Rattle.job_text.specs.Fields.{program_numbers, burst_numbers, frame_numbers, rest_numbers, group_numbers, time_numbers, size_numbers}
 use Rattle.job_text.specs.Fields.{pace_numbers, place_numbers, leak_numbers, drain_numbers, last_numbers, table_numbers}
@@ -23,33 +23,43 @@ heading_back h =
 abbrev pub heading_text : HeadingView → List ℕ
 heading_text h = heading_numbers h ++ (key_line (codes "sdt") (boolean h.sdt) ++ (key_line (codes "start") (string h.start) ++ heading_back h))
 
--- for an event: its first numbers, its language and name, and the lines after them
+-- for an event: its first numbers, its language and name, and its program and start
 abbrev pub event_numbers : EventPartView → List (List ℕ × ℕ)
 event_numbers e = (codes "duration", e.duration) ∷ (codes "id", e.id) ∷ []
 
 abbrev pub event_names : EventPartView → List ℕ
 event_names e = key_line (codes "language") (string e.language) ++ key_line (codes "name") (string e.name)
 
-abbrev pub event_back : EventPartView → List ℕ
-event_back e = number_line (codes "program", e.program) ++ (key_line (codes "start") (string e.start) ++ key_line (codes "text") (string e.text))
+abbrev pub event_place : EventPartView → List ℕ
+event_place e = number_line (codes "program", e.program) ++ key_line (codes "start") (string e.start)
+
+-- its lines with the keys of its texts, or with all of its descriptors
+abbrev pub event_lines : Option (List ℕ) → EventPartView → List ℕ
+event_lines None e = number_lines (event_numbers e) ++ (event_names e ++ (event_place e ++ key_line (codes "text") (string e.text)))
+event_lines (Some bytes) e = named_line (codes "descriptors") bytes e.name ++ (number_lines (event_numbers e) ++ event_place e)
 
 -- an element of the array `event`
 abbrev pub event_text : EventPartView → List ℕ
-event_text e = header (codes "event") ++ (number_lines (event_numbers e) ++ (event_names e ++ event_back e))
+event_text e = header (codes "event") ++ event_lines e.descriptors e
+
+-- for a network: its name, or all of its descriptors
+abbrev pub network_names : Option (List ℕ) → NetworkPartView → List ℕ
+network_names None n = key_line (codes "name") (string n.name)
+network_names (Some bytes) n = named_line (codes "network_descriptors") bytes n.name
 
 -- the table `network`, if there is one
 abbrev pub network_text : NetworkPartView → List ℕ
 network_text n =
     table_header (codes "network")
-    ++ (hex_line (codes "descriptors") n.descriptors ++ (number_line (codes "id", n.id) ++ key_line (codes "name") (string n.name)))
+    ++ (hex_line (codes "descriptors") n.descriptors ++ (number_line (codes "id", n.id) ++ network_names n.network_descriptors n))
 
 abbrev pub network_if_any : Option NetworkPartView → List ℕ
 network_if_any None = []
 network_if_any (Some n) = network_text n
 
--- for a program: the lines up to its name, its clock and the lines after it
+-- for a program: its first lines, its clock, and the lines after its clock
 abbrev pub program_front : ProgramPartView → List ℕ
-program_front p = (header (codes "program") ++ hex_line (codes "descriptors") p.descriptors) ++ key_line (codes "name") (string p.name)
+program_front p = header (codes "program") ++ hex_line (codes "descriptors") p.descriptors
 
 abbrev pub program_clock : ProgramPartView → List ℕ
 program_clock p = number_lines (program_numbers p) ++ number_lines (number_if_any (codes "pcr_pid") p.pcr_pid)
@@ -59,9 +69,15 @@ program_service p =
     number_line (codes "pmt_pid", p.pmt_pid)
     ++ (key_line (codes "provider") (string p.provider) ++ number_line (codes "service_type", p.service_type))
 
+-- its lines with the keys of its service, or with all descriptors of its service
+abbrev pub program_back : Option (List ℕ) → ProgramPartView → List ℕ
+program_back None p = key_line (codes "name") (string p.name) ++ (program_clock p ++ program_service p)
+program_back (Some bytes) p =
+    program_clock p ++ (number_line (codes "pmt_pid", p.pmt_pid) ++ named_line (codes "service_descriptors") bytes p.name)
+
 -- an element of the array `program`
 abbrev pub program_text : ProgramPartView → List ℕ
-program_text p = program_front p ++ (program_clock p ++ program_service p)
+program_text p = program_front p ++ program_back p.service_descriptors p
 
 -- the lines of access units, if a stream has several in a unit
 abbrev pub framing_text : FramingPartView → List ℕ
@@ -88,7 +104,7 @@ stream_place s =
 
 -- the line of its stream_type, with the profile and level in its headers
 abbrev pub type_line : StreamPartView → List ℕ
-type_line s = noted_line (codes "type") s.stream_type (type_note s.stream_type s.said)
+type_line s = noted_line (codes "type") (integer (pos s.stream_type)) (type_note s.stream_type s.said)
 
 abbrev pub stream_end : StreamPartView → List ℕ
 stream_end s = list_line (codes "shared_with") s.shared_with ++ (number_lines (last_numbers s) ++ type_line s)

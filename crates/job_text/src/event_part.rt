@@ -1,10 +1,11 @@
 //! An event of a service description.
 
-ghost use Rattle.std.specs.Prelude.{◌≡◌, ◌++◌, OnOk, string_bytes};
+ghost use Rattle.std.specs.Prelude.{◌≡◌, ◌++◌, None, OnOk, Some, string_bytes};
 ghost use Rattle.job_text.specs.DescriptionParts.{event_view};
-ghost use Rattle.job_text.specs.Texts.{event_back, event_names, event_text};
+ghost use Rattle.job_text.specs.KeyLines.{number_lines};
+ghost use Rattle.job_text.specs.Texts.{event_lines, event_names, event_numbers, event_place, event_text};
 
-use crate::key_line::{write_header, write_number, write_numbers, write_string};
+use crate::key_line::{write_header, write_named, write_number, write_numbers, write_string};
 use std::alloc::{AllocError, Allocator};
 
 /// An event of a service in a description (EN 300 468, 5.2.4 and 6.2.37).
@@ -22,18 +23,55 @@ pub struct EventPart<'a> {
     pub language: &'a str,
     pub name: &'a str,
     pub text: &'a str,
+    /// All of its descriptors, if its language, name and text do not give exactly these.
+    pub descriptors: Option<&'a [u8]>,
 }
 
 impl EventPart<'_> {
-    /// Appends an empty line, `[[event]]`, and its lines: every key.
-    pub fn write_text<A: Allocator>(&self, text: &mut String<A>) -> Result<(), AllocError>
+    /// Appends an empty line, `[[event]]`, and its lines: every key, with either `language`, `name` and `text`, or
+    /// `descriptors` with the name as a comment.
+    pub fn write_text<A: Allocator + Clone>(&self, text: &mut String<A>) -> Result<(), AllocError>
         ensures { OnOk result (string_bytes text.new ≡ string_bytes text.old ++ event_text (event_view self.now)) }
     {
-        let numbers = [("duration", self.duration as u64), ("id", self.id as u64)];
         write_header(text, "event")?;
-        write_numbers(text, &numbers)?;
+        match self.descriptors {
+            None => self.write_by_texts(text),
+            Some(descriptors) => self.write_by_bytes(descriptors, text),
+        }
+    }
+
+    // Appends its lines with the keys of its texts.
+    fn write_by_texts<A: Allocator>(&self, text: &mut String<A>) -> Result<(), AllocError>
+        ensures { OnOk result (string_bytes text.new ≡ string_bytes text.old
+            ++ event_lines None (event_view self.now)) }
+    {
+        self.write_numbers(text)?;
         self.write_names(text)?;
-        self.write_back(text)
+        self.write_place(text)?;
+        write_string(text, "text", self.text)
+    }
+
+    // Appends its lines with all of its descriptors.
+    fn write_by_bytes<A: Allocator + Clone>(
+        &self,
+        descriptors: &[u8],
+        text: &mut String<A>,
+    ) -> Result<(), AllocError>
+        ensures { OnOk result (string_bytes text.new ≡ string_bytes text.old
+            ++ event_lines (Some descriptors.now) (event_view self.now)) }
+    {
+        write_named(text, "descriptors", descriptors, self.name)?;
+        self.write_numbers(text)?;
+        self.write_place(text)
+    }
+
+    // Appends the lines of its duration and its event_id.
+    fn write_numbers<A: Allocator>(&self, text: &mut String<A>) -> Result<(), AllocError>
+        ensures { OnOk result (string_bytes text.new ≡ string_bytes text.old
+            ++ number_lines (event_numbers (event_view self.now))) }
+    {
+        let numbers = [("duration", self.duration as u64), ("id", self.id as u64)];
+        write_numbers(text, &numbers)
     }
 
     // Appends the lines of its language and its name.
@@ -44,12 +82,11 @@ impl EventPart<'_> {
         write_string(text, "name", self.name)
     }
 
-    // Appends the lines from `program` on.
-    fn write_back<A: Allocator>(&self, text: &mut String<A>) -> Result<(), AllocError>
-        ensures { OnOk result (string_bytes text.new ≡ string_bytes text.old ++ event_back (event_view self.now)) }
+    // Appends the lines of its program and its start.
+    fn write_place<A: Allocator>(&self, text: &mut String<A>) -> Result<(), AllocError>
+        ensures { OnOk result (string_bytes text.new ≡ string_bytes text.old ++ event_place (event_view self.now)) }
     {
         write_number(text, "program", self.program as u64)?;
-        write_string(text, "start", self.start)?;
-        write_string(text, "text", self.text)
+        write_string(text, "start", self.start)
     }
 }

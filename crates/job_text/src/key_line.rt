@@ -1,17 +1,17 @@
 //! A key with its value, on a line.
 
-ghost use Rattle.std.specs.Prelude.{◌≡◌, ◌++◌, OnOk, codes, map, string_bytes};
+ghost use Rattle.std.specs.Prelude.{◌≡◌, ◌++◌, OnOk, codes, map, pos, string_bytes};
 ghost use Rattle.hex.specs.Hex.{encode_lower};
 ghost use Rattle.toml_writer.specs.Text.{string_text};
 ghost use Rattle.std.specs.List.{flat_map};
-ghost use Rattle.toml.specs.Data.{string, boolean, array};
-ghost use Rattle.job_text.specs.KeyLines.{key_line, noted_line, number_line, field_line, table_header, header, hex_line, list_line};
+ghost use Rattle.toml.specs.Data.{string, integer, boolean, array};
+ghost use Rattle.job_text.specs.KeyLines.{key_line, named_line, noted_line, number_line, field_line, table_header, header, hex_line, list_line};
 ghost use Rattle.job_text.specs.Notes.{type_note};
 ghost use Rattle.job_text.specs.KeyLines.{next_number, array_line, digits_of, next_digits};
 ghost use Rattle.job_text.specs.KeyLines.{number_if_any, number_lines, set_line};
 
 use crate::measure::measure_of;
-use crate::note::{write_note, write_type_note};
+use crate::note::{write_name_note, write_note, write_type_note};
 use std::alloc::{AllocError, Allocator, Global};
 use std::fmt;
 use std::fmt::Write;
@@ -57,7 +57,7 @@ pub(crate) fn write_type<A: Allocator>(
     said: ProfileLevel,
 ) -> Result<(), AllocError>
     ensures { OnOk result (string_bytes text.new ≡ string_bytes text.old
-        ++ noted_line (codes "type") stream_type (type_note stream_type said)) }
+        ++ noted_line (codes "type") (integer (pos stream_type)) (type_note stream_type said)) }
 {
     write!(text, "type = {stream_type}")?;
     write_type_note(text, stream_type, said)?;
@@ -151,6 +151,25 @@ pub(crate) fn write_hex<A: Allocator + Clone>(
     }
     let digits = hex::encode(text.allocator().clone()?, bytes)?;
     write_string(text, key, digits.as_str())
+}
+
+/// Appends bytes as pairs of lower-case hexadecimal digits, with the name in them as a comment.
+#[tactic(auto, unfolding(crate::specs::KeyLines::noted_line))]
+pub(crate) fn write_named<A: Allocator + Clone>(
+    text: &mut String<A>,
+    key: &str,
+    bytes: &[u8],
+    name: &str,
+) -> Result<(), AllocError>
+    ensures { OnOk result (string_bytes text.new ≡ string_bytes text.old ++ named_line key.now bytes.now name.now) }
+{
+    let digits = hex::encode(text.allocator().clone()?, bytes)?;
+    let value = Quoted {
+        text: digits.as_str(),
+    };
+    write!(text, "{key} = {value}")?;
+    write_name_note(text, name)?;
+    text.push_str("\n")
 }
 
 // Appends the numbers of an array after its first.

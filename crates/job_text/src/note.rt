@@ -1,6 +1,6 @@
 //! The comment beside a number, for people.
 
-ghost use Rattle.std.specs.Prelude.{◌≡◌, ◌/◌, ◌++◌, ◌<◌, ◌≤◌, OnOk, string_bytes};
+ghost use Rattle.std.specs.Prelude.{◌≡◌, ◌/◌, ◌++◌, ◌<◌, ◌≤◌, OnOk, flat_map, string_bytes};
 ghost use Rattle.job_text.specs.Notes as spec;
 ghost use Rattle.job_text.specs.declared.measure.Measure.TheVariants.{Seconds};
 
@@ -180,6 +180,47 @@ fn write_name<A: Allocator>(text: &mut String<A>, name: &str) -> Result<(), Allo
     }
     text.push_str(" # ")?;
     text.push_str(name)
+}
+
+// Appends a byte of a name, if it is printable ASCII, and a question mark in place of the first byte of any other
+// character.
+#[tactic(auto, using(crate::proofs::NoteLines::shown_alone), unfolding(crate::specs::Notes::shown_byte))]
+fn write_shown<A: Allocator>(text: &mut String<A>, byte: u8) -> Result<(), AllocError>
+    ensures { OnOk result (string_bytes text.new ≡ string_bytes text.old ++ spec.shown_byte byte) }
+{
+    if 32 <= byte && byte <= 126 {
+        return text.push(byte as char);
+    }
+    if 0xc0 <= byte {
+        text.push_str("?")
+    } else {
+        Ok(())
+    }
+}
+
+// Appends the bytes of a name as printable ASCII.
+fn write_all_shown<A: Allocator>(text: &mut String<A>, bytes: &[u8]) -> Result<(), AllocError>
+    ensures { OnOk result (string_bytes text.new ≡ string_bytes text.old ++ flat_map spec.shown_byte bytes.now) }
+{
+    for byte in bytes {
+        write_shown(text, *byte)?;
+    }
+    Ok(())
+}
+
+/// Appends the comment beside descriptors: the name in them, if it has a character.
+#[tactic(auto, unfolding(crate::specs::Notes::name_note))]
+pub(crate) fn write_name_note<A: Allocator>(
+    text: &mut String<A>,
+    name: &str,
+) -> Result<(), AllocError>
+    ensures { OnOk result (string_bytes text.new ≡ string_bytes text.old ++ spec.name_note name.now) }
+{
+    if name.is_empty() {
+        return Ok(());
+    }
+    text.push_str(" # ")?;
+    write_all_shown(text, name.as_bytes())
 }
 
 /// Appends the comment beside a stream_type, if it has a name: its name, and what the headers of the stream say.

@@ -1,10 +1,12 @@
 //! A program of a service description.
 
-ghost use Rattle.std.specs.Prelude.{◌≡◌, ◌++◌, OnOk, string_bytes};
+ghost use Rattle.std.specs.Prelude.{◌≡◌, ◌++◌, None, OnOk, Some, string_bytes};
 ghost use Rattle.job_text.specs.DescriptionParts.{program_view};
-ghost use Rattle.job_text.specs.Texts.{program_text, program_front, program_clock, program_service};
+ghost use Rattle.job_text.specs.Texts.{program_back, program_text, program_front, program_clock, program_service};
 
-use crate::key_line::{write_header, write_hex, write_number, write_pid, write_string};
+use crate::key_line::{
+    write_header, write_hex, write_named, write_number, write_pid, write_string,
+};
 use std::alloc::{AllocError, Allocator};
 
 /// A program and its service in a description (ISO/IEC 13818-1, 2.4.4.8; EN 300 468, 5.2.3 and 6.2.34).
@@ -23,26 +25,54 @@ pub struct ProgramPart<'a> {
     pub service_type: u8,
     pub provider: &'a str,
     pub name: &'a str,
+    /// All descriptors of its service, if service_type, provider and name do not give exactly these.
+    pub service_descriptors: Option<&'a [u8]>,
 }
 
 impl ProgramPart<'_> {
-    /// Appends an empty line, `[[program]]`, and its lines: every key, but `descriptors` only if there are any,
-    /// and `pcr_pid` only if it has one.
+    /// Appends an empty line, `[[program]]`, and its lines: every key, but `descriptors` only if there are any, and
+    /// `pcr_pid` only if it has one, and either `service_type`, `provider` and `name`, or `service_descriptors` with the
+    /// name as a comment.
     pub fn write_text<A: Allocator + Clone>(&self, text: &mut String<A>) -> Result<(), AllocError>
         ensures { OnOk result (string_bytes text.new ≡ string_bytes text.old ++ program_text (program_view self.now)) }
     {
         self.write_front(text)?;
+        match self.service_descriptors {
+            None => self.write_by_texts(text),
+            Some(descriptors) => self.write_by_bytes(descriptors, text),
+        }
+    }
+
+    // Appends its other lines with the keys of its service.
+    fn write_by_texts<A: Allocator>(&self, text: &mut String<A>) -> Result<(), AllocError>
+        ensures { OnOk result (string_bytes text.new ≡ string_bytes text.old
+            ++ program_back None (program_view self.now)) }
+    {
+        write_string(text, "name", self.name)?;
         self.write_clock(text)?;
         self.write_service(text)
     }
 
-    // Appends the lines up to its name.
+    // Appends its other lines with all descriptors of its service.
+    fn write_by_bytes<A: Allocator + Clone>(
+        &self,
+        descriptors: &[u8],
+        text: &mut String<A>,
+    ) -> Result<(), AllocError>
+        ensures { OnOk result (string_bytes text.new ≡ string_bytes text.old
+            ++ program_back (Some descriptors.now) (program_view self.now)) }
+    {
+        self.write_clock(text)?;
+        write_number(text, "pmt_pid", self.pmt_pid as u64)?;
+        write_named(text, "service_descriptors", descriptors, self.name)
+    }
+
+    // Appends its first lines.
     fn write_front<A: Allocator + Clone>(&self, text: &mut String<A>) -> Result<(), AllocError>
         ensures { OnOk result (string_bytes text.new ≡ string_bytes text.old ++ program_front (program_view self.now)) }
     {
         write_header(text, "program")?;
-        write_hex(text, "descriptors", self.descriptors)?;
-        write_string(text, "name", self.name)
+        write_hex(text, "descriptors", self.descriptors)
     }
 
     // Appends the lines from its number to its clock.
