@@ -6,7 +6,7 @@ use Rattle.unit_timing.specs.declared.allowance.Allowance.{Allowance}
 use Rattle.unit_timing.specs.declared.allowance.Allowance.TheVariants as allowed
 use Rattle.unit_queue.specs.Codes.{feed_code}
 use Rattle.unit_queue.specs.declared.refusal.FeedError.{FeedError}
-use Rattle.unit_queue.specs.declared.refusal.FeedError.TheVariants.{UnknownStream, Empty, TooLarge, TooSoon, BadPts, Late, TooFar, Full, Group, Pace}
+use Rattle.unit_queue.specs.declared.refusal.FeedError.TheVariants.{UnknownStream, Empty, TooLarge, TooSoon, BadPts, Late, TooFar, Full, Group, Pace, OffAir}
 use Rattle.on_air.specs.Airing.{refused_unit}
 use Rattle.on_air.specs.declared.refusals.AirRefusal.{AirRefusal}
 use Rattle.on_air.specs.declared.refusals.AirRefusal.TheVariants.{Feed, Ahead, Followed, Texts}
@@ -74,6 +74,7 @@ cause_words TooFar l u = codes "DTS over 4503599627370496\n"
 cause_words Full l u = codes "no room for one more waiting unit of its stream: --room, at most 1048576\n"
 cause_words Group l u = packets_words l.allowance
 cause_words Pace l u = packets_words l.allowance
+cause_words OffAir l u = codes "no program on air has the stream: it needs on_air = true, or new texts with it first\n"
 
 -- 2. The unit
 

@@ -134,6 +134,9 @@ fn write_cause(
             "no room for one more waiting unit of its stream: --room, at most 1048576\n",
         ),
         FeedError::Group | FeedError::Pace => write_packets(limits.allowance, text),
+        FeedError::OffAir => text.push_str(
+            "no program on air has the stream: it needs on_air = true, or new texts with it first\n",
+        ),
     }
 }
 
