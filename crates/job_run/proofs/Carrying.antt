@@ -8,7 +8,7 @@ use Rattle.packet_pcr.specs.declared.pcr_reading.FoundPcr.{FoundPcr}
 use Rattle.stamp_repair.proofs.LoggedBytes.{logged_append}
 use Rattle.demux.specs.Stream.{StreamState, finished, pushed, start}
 use Rattle.demux.proofs.PushedBytes.{pushed_append}
-use Rattle.joined_parts.specs.declared.cuts.Cut.{Cut}
+use Rattle.joined_parts.specs.declared.gap_search.ClockGap.{ClockGap}
 use Rattle.joined_parts.specs.declared.recodings.Recoding.{Recoding}
 use Rattle.packet_sync.specs.Notes.{IsNoted, NotesView, SayAlike, no_notes}
 use Rattle.packet_sync.specs.Slips.{carried}
@@ -124,11 +124,11 @@ rest_is piece held front later joined at n f l j past within =
 
 -- 5. The end
 
-pub stream_ended : (bytes held : List ℕ) (at : ℕ) (p : PacketsView) (lost : List Slip) (fields : List FieldLeftOut) (recodings : List Recoding) (jumps : List Cut)
+pub stream_ended : (bytes held : List ℕ) (at : ℕ) (p : PacketsView) (lost : List Slip) (fields : List FieldLeftOut) (recodings : List Recoding) (jumps : List ClockGap)
     (falling : List ℕ) (references : List FoundPcr) (demux : StreamState) → lost ≡ p.notes.slips →
     fields ≡ p.notes.fields → length held ≤ at → IsCarriedTo bytes true (record { held = drop at held; packets = p }) → recodings ≡ [] → jumps ≡ [] → falling ≡ [] → references ≡ p.log.found →
     demux ≡ finished p.demux →
-    IsOfPackets bytes (record { slips = lost; fields = fields; recodings = recodings; jumps = jumps; falling = falling }) references demux.found p.size
+    IsOfPackets bytes (record { slips = lost; fields = fields; recodings = recodings; gaps = jumps; falling = falling }) references demux.found p.size
 stream_ended bytes held at p lost fields recodings jumps falling references demux a b past so e j g r f =
     let none : drop at held ≡ [] = drop_all at held past in
     let whole : bytes ++ [] ≡ bytes = append-nil bytes in
@@ -140,9 +140,9 @@ stream_ended bytes held at p lost fields recodings jumps falling references demu
     (alike_at no_notes p.notes bytes (bytes ++ []) [] (drop at held ++ []) (sym whole) (sym left) (so.said [] (λ e. refl))) in
     record {
       notes_are = ap₂
-          (λ (z : List Recoding) (x : List Cut). record { slips = lost; fields = fields; recodings = z; jumps = x; falling = falling }) e j
-          ∙ ap (λ (z : List ℕ). record { slips = lost; fields = fields; recodings = []; jumps = []; falling = z }) g
-          ∙ ap₂ (λ (x : List Slip) (y : List FieldLeftOut). record { slips = x; fields = y; recodings = []; jumps = []; falling = [] }) (a ∙ said.0) (b ∙ said.1);
+          (λ (z : List Recoding) (x : List ClockGap). record { slips = lost; fields = fields; recodings = z; gaps = x; falling = falling }) e j
+          ∙ ap (λ (z : List ℕ). record { slips = lost; fields = fields; recodings = []; gaps = []; falling = z }) g
+          ∙ ap₂ (λ (x : List Slip) (y : List FieldLeftOut). record { slips = x; fields = y; recodings = []; gaps = []; falling = [] }) (a ∙ said.0) (b ∙ said.1);
       references_are = r ∙ ap (λ (l : LogView). l.found) so.log_is ∙ ap references_in (sym all);
       found_is = ap (λ (d : StreamState). d.found) f ∙ ap (λ (d : StreamState). (finished d).found) so.demux_is
           ∙ ap (λ (r : List ℕ). (finished (pushed start r)).found) (sym all);

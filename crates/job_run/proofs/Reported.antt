@@ -11,7 +11,7 @@ use Rattle.job_inputs.specs.JobInput.{carries_table}
 use Rattle.job_programs.specs.Warnings.{is_damage}
 use Rattle.job_programs.specs.declared.warning.Warning.{Warning}
 use Rattle.job_lines.specs.FieldLines as fields
-use Rattle.job_run.specs.JumpLines.{any_jump}
+use Rattle.job_run.specs.GapLines.{any_gap}
 use Rattle.job_run.specs.Laws.{StatusStays}
 use Rattle.job_lines.specs.WarningLines.{is_note, is_open_ended, is_reported}
 
@@ -41,7 +41,7 @@ stays whole quiet all other_quiet other_all notes findings m =
     let tables_kept : OtherTable → Bool = λ t. not (carries_table m t.pid) in
     let tables_lost : OtherTable → Bool = λ t. is_loss t.kind in
     let warnings_kept : Warning → Bool = λ w. not (whole && is_open_ended w) in
-    ap (λ (b : Bool). any_jump m notes.jumps || b)
+    ap (λ (b : Bool). any_gap m notes.gaps || b)
     (four (not (length notes.slips == 0)) _ _ _ _ _ _
     (any_kept fields_kept fields_lost (λ f. all) notes.fields ∙ sym (any_kept fields_kept fields_lost (λ f. other_all) notes.fields))
     (any_kept tables_kept tables_lost (λ t. all) (other_tables findings) ∙ sym (any_kept tables_kept tables_lost (λ t. other_all) (other_tables findings)))

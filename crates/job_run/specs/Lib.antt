@@ -1,7 +1,7 @@
 pub mod JobArguments
 pub mod Streams
 pub mod RecodingLines
-pub mod JumpLines
+pub mod GapLines
 pub mod LeftOutCount
 pub mod Outcomes
 pub mod SeveralInputs

@@ -44,7 +44,7 @@ use Rattle.job_lines.specs.FieldLines.{field_lines, reported_fields}
 use Rattle.es_feed.specs.Records.{records_of, written}
 use Rattle.job_lines.specs.RefusalLine.{refusal_in, refusal_line}
 use Rattle.job_lines.specs.SlipLines.{slip_lines, no_stream_line}
-use Rattle.job_run.specs.JumpLines.{any_jump, jump_lines}
+use Rattle.job_run.specs.GapLines.{any_gap, gap_lines}
 use Rattle.job_run.specs.LeftOutCount.{count_line}
 use Rattle.job_run.specs.RecodingLines.{recodings_text}
 use Rattle.job_run.specs.Streams.{HasPackets, PacketNotesView, findings_for, in_step, notes_for}
@@ -142,13 +142,13 @@ reported_lines r notes findings m =
     unless_quiet r.quiet
     (((loss_lines notes.falling notes.slips (reported_fields r.all m notes.fields) (reported_tables r.all m (other_tables findings))
     (reported_warnings r m.warnings)
-    ++ recodings_text r.all notes.recodings) ++ jump_lines m notes.jumps)
+    ++ recodings_text r.all notes.recodings) ++ gap_lines m notes.gaps)
     ++ count_line m)
 
--- whether something is lost, or a clock of the job's programs jumps ahead
+-- whether something is lost, or a clock of the job's programs has a gap
 abbrev pub reports_loss : Reporting → PacketNotesView → List FindingView → JobInputView → Bool
 reports_loss r notes findings m =
-    any_jump m notes.jumps
+    any_gap m notes.gaps
     || is_lossy notes.slips (reported_fields r.all m notes.fields) (reported_tables r.all m (other_tables findings)) (reported_warnings r m.warnings)
 
 -- the status 1: of reasons where there is one, else where something is lost

@@ -10,10 +10,10 @@ use Rattle.stamp_repair.specs.DataTimes.{TimesView, is_timed, timed, times_of}
 use Rattle.stamp_repair.specs.References.{LogView, logged, no_packet, references_in}
 use Rattle.packet_pcr.specs.declared.pcr_reading.FoundPcr.{FoundPcr}
 use Rattle.joined_parts.specs.FallingClocks.{falling_pids}
-use Rattle.joined_parts.specs.JumpsAhead.{jumps_ahead}
+use Rattle.joined_parts.specs.ClockGaps.{clock_gaps}
 use Rattle.joined_parts.specs.Recodings.{recodings_in}
 use Rattle.joined_parts.specs.Recordings.{one_recording, one_references}
-use Rattle.joined_parts.specs.declared.cuts.Cut.{Cut}
+use Rattle.joined_parts.specs.declared.gap_search.ClockGap.{ClockGap}
 use Rattle.joined_parts.specs.declared.recodings.Recoding.{Recoding}
 use Rattle.stamp_repair.specs.LoneStamps.{lone_damaged}
 use Rattle.demux.specs.Stream.{StreamState, start, pushed, finished}
@@ -69,26 +69,22 @@ findings_by joined references findings =
 abbrev pub findings_for : JobOptionsView → List ℕ → List FindingView
 findings_for options bytes = findings_by options.joined (references_in (in_step bytes)) (asked_findings options bytes)
 
--- notes on the packets of a stream: its slips, the fields that are not written again, the changes of codings in a joined recording, and in any other
--- stream the jumps ahead of its clocks, and the PIDs of streams whose clocks go back
+-- notes on the packets of a stream: its slips, the fields that are not written again, the changes of codings in a joined recording, the gaps of its clocks,
+-- and if it is no joined recording the PIDs of streams whose clocks go back
 pub record PacketNotesView : Type 0 where
   pub slips : List Slip
   pub fields : List FieldLeftOut
   pub recodings : List Recoding
-  pub jumps : List Cut
+  pub gaps : List ClockGap
   pub falling : List ℕ
 
 -- notes on packets of 188 bytes
 abbrev pub notes_of : List ℕ → PacketNotesView
-notes_of packets = record { slips = slips packets; fields = fields_left_out packets; recodings = []; jumps = []; falling = [] }
+notes_of packets = record { slips = slips packets; fields = fields_left_out packets; recodings = []; gaps = []; falling = [] }
 
 unfoldable pub recodings_by : Bool → List FindingView → List Recoding
 recodings_by false findings = []
 recodings_by true findings = recodings_in findings
-
-unfoldable pub jumps_by : Bool → List FoundPcr → List FindingView → List Cut
-jumps_by false references findings = jumps_ahead references findings
-jumps_by true references findings = []
 
 -- a field of PES headers that is written again: of teletext without stamps each PES packet is a unit, with its flags and its long header
 unfoldable pub is_of_unit : Field → Bool
@@ -101,14 +97,14 @@ abbrev pub is_unwritten : TimesView → FieldLeftOut → Bool
 is_unwritten t f = not (is_of_unit f.field && is_timed t f.pid)
 
 -- the notes on the packets of a stream from which a job by these options is made
-abbrev pub timed_notes : TimesView → List Recoding → List Cut → List ℕ → PacketNotesView → PacketNotesView
-timed_notes t recodings jumps falling notes =
-    record { slips = notes.slips; fields = filter (is_unwritten t) notes.fields; recodings = recodings; jumps = jumps; falling = falling }
+abbrev pub timed_notes : TimesView → List Recoding → List ClockGap → List ℕ → PacketNotesView → PacketNotesView
+timed_notes t recodings gaps falling notes =
+    record { slips = notes.slips; fields = filter (is_unwritten t) notes.fields; recodings = recodings; gaps = gaps; falling = falling }
 
 abbrev pub notes_by : Bool → List FoundPcr → List FindingView → PacketNotesView → PacketNotesView
 notes_by joined references findings notes =
     timed_notes (times_of (references_by joined references findings) (parts_by joined references findings)) (recodings_by joined findings)
-    (jumps_by joined references findings) (falling_by joined references findings) notes
+    (clock_gaps joined references findings) (falling_by joined references findings) notes
 
 abbrev pub notes_for : JobOptionsView → List ℕ → PacketNotesView
 notes_for options bytes = notes_by options.joined (references_in (in_step bytes)) (asked_findings options bytes) (notes_of (packets_in bytes))

@@ -4,7 +4,7 @@ ghost use Rattle.demux.specs.Stream.{finished};
 ghost use Rattle.job_run.specs.Streams as spec;
 
 use demux::Demux;
-use joined_parts::{Cut, Recoding};
+use joined_parts::{ClockGap, Recoding};
 use packet_pcr::FoundPcr;
 use packet_sync::{FieldLeftOut, Slip, StreamNotes};
 use stamp_repair::ReferenceLog;
@@ -22,8 +22,8 @@ pub(crate) struct PacketNotes {
     pub fields: Vec<FieldLeftOut>,
     /// The changes of codings, if it is a joined recording.
     pub recodings: Vec<Recoding>,
-    /// The jumps ahead of its clocks, if it is no joined recording.
-    pub jumps: Vec<Cut>,
+    /// The gaps of its clocks.
+    pub gaps: Vec<ClockGap>,
     /// The PIDs of streams whose clocks go back, if it is no joined recording.
     pub falling: Vec<u16>,
 }
@@ -38,7 +38,7 @@ impl Model for PacketNotes {
       slips = n.slips.items;
       fields = n.fields.items;
       recodings = n.recodings.items;
-      jumps = n.jumps.items;
+      gaps = n.gaps.items;
       falling = n.falling.items;
     } };
 }
@@ -210,13 +210,13 @@ impl CarriedStream {
         end_stream(&mut demux)?;
         let (slips, fields) = notes.into_parts();
         let recodings = Vec::new(alloc);
-        let jumps = Vec::new(alloc);
+        let gaps = Vec::new(alloc);
         let falling = Vec::new(alloc);
         let notes = PacketNotes {
             slips,
             fields,
             recodings,
-            jumps,
+            gaps,
             falling,
         };
         let references = log.into_references();

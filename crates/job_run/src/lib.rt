@@ -6,15 +6,15 @@
 //! `outcome` makes the job of its findings, and `reason_output` says why there is no plan (`specs/Outcomes`). `written`
 //! reads a stream, makes its outcome and writes it to the program's writers. `stream_files` takes streams from named
 //! files (`specs/StreamFiles`), and `files_outcome` makes one job of all of them (`specs/SeveralInputs`). `job_lines`
-//! writes the lines, `recoding_lines` and `jump_lines` the lines about codings and clocks, and `left_out_count` the
+//! writes the lines, `recoding_lines` and `gap_lines` the lines about codings and clocks, and `left_out_count` the
 //! last; the status is the same whichever lines are reported (`status_stays`).
 #![tactic(auto)]
 
 mod carried_stream;
 mod files_outcome;
+mod gap_lines;
 mod inner_stream;
 mod job_arguments;
-mod jump_lines;
 mod laws;
 mod left_out_count;
 mod outcome;

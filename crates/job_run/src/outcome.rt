@@ -13,7 +13,7 @@ ghost use Rattle.stream_jobs.specs.WhyNoJob.{IsWhyNoDescription, IsWhyNoJob};
 ghost use Rattle.job_programs.specs.declared.refusal.JobError.TheVariants.{Memory};
 ghost use Rattle.job_inputs.specs.JoinedInputs.{AreStreamsIn, JoinedInputsView};
 ghost use Rattle.job_run.specs.Outcomes as spec;
-ghost use Rattle.job_run.specs.JumpLines.{jump_lines};
+ghost use Rattle.job_run.specs.GapLines.{gap_lines};
 ghost use Rattle.job_run.specs.LeftOutCount.{count_line};
 ghost use Rattle.job_run.specs.RecodingLines.{recodings_text};
 ghost use Rattle.job_run.specs.SeveralInputs.{GivesIn, GivesJobIn};
@@ -23,8 +23,8 @@ ghost use Rattle.job_lines.specs.SlipLines.{no_stream_line};
 ghost use Rattle.job_inputs.specs.JobInput.{AreStreams};
 
 use crate::carried_stream::{PacketNotes, ReadStream};
+use crate::gap_lines::{any_gap, push_gaps};
 use crate::job_arguments::{JobArguments, Subcommand};
-use crate::jump_lines::{any_jump, push_jumps};
 use crate::left_out_count::push_count;
 use crate::reading::StreamReading;
 use crate::reason_output::reason_output;
@@ -188,7 +188,7 @@ fn loss_report(
     Ok(lines)
 }
 
-// Returns the lines about losses, about changes of codings, and about clocks that jump ahead, and the count of the
+// Returns the lines about losses, about changes of codings, and about gaps of clocks, and the count of the
 // streams that are left out; no line if `quiet`.
 fn report_as_asked(
     alloc: Global,
@@ -201,7 +201,7 @@ fn report_as_asked(
 ) -> Result<String, AllocError>
     ensures { IfOk result (λ lines. string_bytes lines
         ≡ spec.unless_quiet reporting.quiet (((spec.loss_lines notes.now.falling notes.now.slips fields.now tables.now
-        warnings.now ++ recodings_text reporting.all notes.now.recodings) ++ jump_lines input.now notes.now.jumps)
+        warnings.now ++ recodings_text reporting.all notes.now.recodings) ++ gap_lines input.now notes.now.gaps)
         ++ count_line input.now)) }
 {
     if reporting.quiet {
@@ -216,7 +216,7 @@ fn report_as_asked(
         warnings,
     )?;
     push_recodings(reporting.all, &notes.recodings, &mut lines)?;
-    push_jumps(input, &notes.jumps, &mut lines)?;
+    push_gaps(input, &notes.gaps, &mut lines)?;
     push_count(input, &mut lines)?;
     Ok(lines)
 }
@@ -280,8 +280,8 @@ pub(crate) fn reported_of(
     let tables = reported_tables(alloc, reporting.all, input, others)?;
     let lines = report_as_asked(alloc, reporting, input, notes, &fields, &tables, &warnings)?;
     let less = is_lossy(&notes.slips, &fields, &tables, &warnings);
-    let jumped = any_jump(input, &notes.jumps);
-    Ok((lines, jumped || less))
+    let paused = any_gap(input, &notes.gaps);
+    Ok((lines, paused || less))
 }
 
 // Returns the outcome for a stream that is not refused.

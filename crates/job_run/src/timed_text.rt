@@ -5,11 +5,12 @@ ghost use Rattle.std.specs.Prelude.{◌≡◌, IfOk, filter, map};
 ghost use Rattle.stamp_repair.specs.DataTimes as text;
 ghost use Rattle.stamp_repair.specs.LoneStamps.{lone_damaged};
 ghost use Rattle.pid_findings.specs.Shown.{finding_view};
+ghost use Rattle.joined_parts.specs.ClockGaps.{clock_gaps as all_gaps};
 ghost use Rattle.job_run.specs.Streams as spec;
 
 use crate::carried_stream::PacketNotes;
 use job_programs::JobOptions;
-use joined_parts::{Cut, Recoding, falling_pids, jumps_ahead, one_recording, recodings_in};
+use joined_parts::{ClockGap, Recoding, clock_gaps, falling_pids, one_recording, recodings_in};
 use packet_pcr::FoundPcr;
 use packet_sync::{Field, FieldLeftOut};
 use pid_findings::Finding;
@@ -45,16 +46,16 @@ fn unwritten(times: &TextTimes, fields: Vec<FieldLeftOut>) -> Vec<FieldLeftOut>
     unwritten
 }
 
-// Drops the notes about fields that the job writes, and adds the changes of codings, the jumps ahead and the streams
+// Drops the notes about fields that the job writes, and adds the changes of codings, the gaps of clocks and the streams
 // whose clocks go back.
 fn timed_notes(
     times: &TextTimes,
     recodings: Vec<Recoding>,
-    jumps: Vec<Cut>,
+    gaps: Vec<ClockGap>,
     falling: Vec<u16>,
     notes: PacketNotes,
 ) -> PacketNotes
-    ensures { result ≡ spec.timed_notes times.now recodings.items jumps.items falling.items notes }
+    ensures { result ≡ spec.timed_notes times.now recodings.items gaps.items falling.items notes }
 {
     let PacketNotes { slips, fields, .. } = notes;
     let fields = unwritten(times, fields);
@@ -62,7 +63,7 @@ fn timed_notes(
         slips,
         fields,
         recodings,
-        jumps,
+        gaps,
         falling,
     }
 }
@@ -81,23 +82,6 @@ fn stream_recodings(
         return Ok(Vec::new(alloc));
     }
     recodings_in(alloc, findings)
-}
-
-// Returns the jumps ahead of a stream's clocks, unless it is taken as a joined recording.
-#[tactic(auto, unfolding(crate::specs::Streams::jumps_by))]
-fn stream_jumps(
-    alloc: Global,
-    options: &JobOptions<'_>,
-    references: &[FoundPcr],
-    findings: &[Finding<'static>],
-) -> Result<Vec<Cut>, AllocError>
-    ensures { IfOk result (λ cs. cs.items
-        ≡ spec.jumps_by options.now.joined references.now (map finding_view findings.now)) }
-{
-    if options.joined {
-        return Ok(Vec::new(alloc));
-    }
-    jumps_ahead(alloc, references, findings)
 }
 
 // Returns the PIDs of streams whose clocks go back, unless the stream is taken as a joined recording.
@@ -137,21 +121,21 @@ fn joined_stream(
     one_recording(alloc, references, findings)
 }
 
-// Returns the jumps ahead of a stream's clocks, and the PIDs of streams whose clocks go back.
+// Returns the gaps of a stream's clocks, and the PIDs of streams whose clocks go back.
 fn clock_notes(
     alloc: Global,
     options: &JobOptions<'_>,
     references: &[FoundPcr],
     findings: &[Finding<'static>],
-) -> Result<(Vec<Cut>, Vec<u16>), AllocError>
-    ensures jumps { IfOk result (λ notes. notes.0.items
-        ≡ spec.jumps_by options.now.joined references.now (map finding_view findings.now)) }
+) -> Result<(Vec<ClockGap>, Vec<u16>), AllocError>
+    ensures gaps { IfOk result (λ notes. notes.0.items
+        ≡ all_gaps options.now.joined references.now (map finding_view findings.now)) }
     ensures falling { IfOk result (λ notes. notes.1.items
         ≡ spec.falling_by options.now.joined references.now (map finding_view findings.now)) }
 {
-    let jumps = stream_jumps(alloc, options, references, findings)?;
+    let gaps = clock_gaps(alloc, options.joined, references, findings)?;
     let falling = stream_falling(alloc, options, references, findings)?;
-    Ok((jumps, falling))
+    Ok((gaps, falling))
 }
 
 // Returns the notes about a stream's packets, and its findings with a moment for each teletext PES packet without a
@@ -160,13 +144,13 @@ fn timed_stream(
     alloc: Global,
     references: Vec<FoundPcr>,
     recodings: Vec<Recoding>,
-    jumps: Vec<Cut>,
+    gaps: Vec<ClockGap>,
     falling: Vec<u16>,
     notes: PacketNotes,
     findings: Vec<Finding<'static>>,
 ) -> Result<(PacketNotes, Vec<Finding<'static>>), AllocError>
     ensures notes { IfOk result (λ timed. timed.0 ≡ spec.timed_notes
-        (text.times_of references.items (map finding_view findings.entry.items)) recodings.items jumps.items
+        (text.times_of references.items (map finding_view findings.entry.items)) recodings.items gaps.items
         falling.items notes) }
     ensures findings { IfOk result (λ timed. map finding_view timed.1.items
         ≡ lone_damaged falling.items (text.timed references.items (map finding_view findings.entry.items))) }
@@ -174,7 +158,7 @@ fn timed_stream(
     let times = text_times(alloc, &references, &findings)?;
     let timed = times.time_all(alloc, &references, findings)?;
     let damaged = damage_lone_stamps(alloc, &falling, timed)?;
-    let notes = timed_notes(&times, recodings, jumps, falling, notes);
+    let notes = timed_notes(&times, recodings, gaps, falling, notes);
     Ok((notes, damaged))
 }
 
@@ -195,10 +179,8 @@ pub(crate) fn job_findings(
         ≡ spec.findings_by options.now.joined references.items (map finding_view findings.entry.items)) }
 {
     let recodings = stream_recodings(alloc, options, &findings)?;
-    let (jumps, falling) = clock_notes(alloc, options, &references, &findings)?;
+    let (gaps, falling) = clock_notes(alloc, options, &references, &findings)?;
     let (references, parts) = joined_stream(alloc, options, references, findings)?;
-    let (notes, damaged) = timed_stream(
-        alloc, references, recodings, jumps, falling, notes, parts,
-    )?;
+    let (notes, damaged) = timed_stream(alloc, references, recodings, gaps, falling, notes, parts)?;
     Ok((notes, damaged))
 }

@@ -1,5 +1,6 @@
 -- The jumps ahead, one cut after another
-use Rattle.std.proofs.Common.{◌≡◌, ◌++◌, List, [], ◌∷◌, length, refl}
+use Rattle.std.proofs.Common.{◌≡◌, ◌++◌, Bool, true, false, List, [], ◌∷◌, length, refl}
+use Rattle.joined_parts.specs.ClockGaps.{gaps_of}
 use Rattle.joined_parts.specs.JumpsAhead.{ahead_after, with_ahead}
 use Rattle.joined_parts.specs.declared.cuts.Cut.{Cut}
 use Rattle.joined_parts.specs.declared.stamps.UnitStamp.{UnitStamp}
@@ -14,3 +15,10 @@ pub ahead_end : (stamps : List UnitStamp) (done ahead : List Cut) (cs : List Cut
 unfolding ahead_after
 ahead_end stamps done ahead [] none = refl
 ahead_end stamps done ahead (c ∷ cs) none = absurd cc
+
+-- a recording without cuts has no gaps
+pub no_gaps : (joined : Bool) (stamps : List UnitStamp) (cuts : List Cut) → length cuts ≡ 0 → gaps_of joined stamps cuts ≡ []
+unfolding ahead_after
+no_gaps true stamps [] none = refl
+no_gaps false stamps [] none = refl
+no_gaps joined stamps (c ∷ cs) none = absurd cc

@@ -7,6 +7,7 @@ use Rattle.stream_programs.specs.Programs.{FoundProgramsView}
 use Rattle.stamp_repair.specs.DataTimes.{programs_by}
 use Rattle.packet_pcr.specs.declared.pcr_reading.FoundPcr.{FoundPcr}
 use Rattle.joined_parts.specs.Cuts.{cuts_in}
+use Rattle.joined_parts.specs.Holes.{jumps_of}
 use Rattle.joined_parts.specs.Joined.{JoinsView, all_moved, joins_for, moved, moved_by, moved_reference, moved_what, reference_by, shift_with}
 use Rattle.joined_parts.specs.Joins.{joins_after, joins_of}
 use Rattle.joined_parts.specs.Laws.{NothingElseMoves, WholeRecordingStays, unstamped, unstamped_what}
@@ -80,7 +81,8 @@ pub whole_stays : WholeRecordingStays
 whole_stays references findings none =
     let programs : FoundProgramsView = programs_by (association findings) findings in
     let are : joins_for references findings ≡ without programs =
-    ap (λ (js : List Join). record { programs = programs; joins = js }) (no_join (stamps_in programs findings) (cuts_in references) none) in (
+    ap (λ (js : List Join). record { programs = programs; joins = js })
+    (no_join (stamps_in programs findings) (jumps_of (stamps_in programs findings) (cuts_in references)) (ap (jumps_of (stamps_in programs findings)) none)) in (
       ap (λ (j : JoinsView). all_moved j findings) are ∙ all_stay programs findings,
       ap (λ (j : JoinsView). map (moved_reference j) references) are ∙ references_stay programs references,
     )

@@ -9,20 +9,25 @@ use Rattle.stream_programs.specs.Programs.{FoundProgramsView}
 use Rattle.stamp_repair.specs.DataTimes.{programs_by}
 use Rattle.packet_pcr.specs.declared.pcr_reading.FoundPcr.{FoundPcr}
 use Rattle.joined_parts.specs.Cuts.{cuts_in}
+use Rattle.joined_parts.specs.Holes.{jumps_of}
 use Rattle.joined_parts.specs.Joins.{is_after, joins_of, later}
 use Rattle.joined_parts.specs.UnitStamps.{stamp_of, stamps_in}
+use Rattle.joined_parts.specs.declared.cuts.Cut.{Cut}
 use Rattle.joined_parts.specs.declared.joins.Join.{Join}
 use Rattle.joined_parts.specs.declared.stamps.UnitStamp.{UnitStamp}
 
 -- 1. The parts
 
--- the programs, and the cuts with their constants
+-- the programs, and the cuts at which a clock jumps, with their constants
 pub record JoinsView : Type 0 where
   pub programs : FoundProgramsView
   pub joins : List Join
 
+abbrev pub joins_at : FoundProgramsView → List UnitStamp → List Cut → JoinsView
+joins_at programs stamps cuts = record { programs = programs; joins = joins_of stamps (jumps_of stamps cuts) }
+
 abbrev pub joins_by : FoundProgramsView → List FoundPcr → List FindingView → JoinsView
-joins_by programs references findings = record { programs = programs; joins = joins_of (stamps_in programs findings) (cuts_in references) }
+joins_by programs references findings = joins_at programs (stamps_in programs findings) (cuts_in references)
 
 abbrev pub joins_for : List FoundPcr → List FindingView → JoinsView
 joins_for references findings = joins_by (programs_by (association findings) findings) references findings

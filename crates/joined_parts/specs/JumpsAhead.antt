@@ -1,14 +1,8 @@
 -- Where a clock jumps ahead, and the stamps of its units with it (ISO/IEC 13818-1, 2.4.3.5): hours for which nothing is sent.
 use Rattle.std.specs.Prelude.{ℕ, ◌^◌, ◌==◌, ◌&&◌, nat_le, nat_lt, Bool, if◌then◌else◌, Option, Some, None, List, [], ◌∷◌, ◌++◌, fold}
 use Rattle.std.specs.List.{list_any}
-use Rattle.pid_findings.specs.Views.{FindingView}
 use Rattle.es_moments.specs.Stamps.{distance}
-use Rattle.program_tables.specs.Association.{association}
-use Rattle.stamp_repair.specs.DataTimes.{programs_by}
-use Rattle.packet_pcr.specs.declared.pcr_reading.FoundPcr.{FoundPcr}
-use Rattle.joined_parts.specs.Cuts.{cuts_in}
 use Rattle.joined_parts.specs.Joins.{is_between, nearest, next_cut}
-use Rattle.joined_parts.specs.UnitStamps.{stamps_in}
 use Rattle.joined_parts.specs.declared.cuts.Cut.{Cut}
 use Rattle.joined_parts.specs.declared.stamps.UnitStamp.{UnitStamp}
 
@@ -46,7 +40,3 @@ ahead_after stamps done ahead (c ∷ cs) = ahead_after stamps (done ++ c ∷ [])
 
 abbrev pub cuts_ahead : List UnitStamp → List Cut → List Cut
 cuts_ahead stamps cuts = ahead_after stamps [] [] cuts
-
--- the jumps ahead in a recording with these references and findings
-abbrev pub jumps_ahead : List FoundPcr → List FindingView → List Cut
-jumps_ahead references findings = cuts_ahead (stamps_in (programs_by (association findings) findings) findings) (cuts_in references)

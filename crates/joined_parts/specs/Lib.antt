@@ -7,6 +7,8 @@ pub mod UnitStamps
 pub mod Joins
 pub mod Joined
 pub mod JumpsAhead
+pub mod Holes
+pub mod ClockGaps
 pub mod FallingClocks
 pub mod Recordings
 pub mod Laws

@@ -5,6 +5,7 @@ ghost use Rattle.pid_findings.specs.Shown.{finding_view, what_view};
 ghost use Rattle.joined_parts.specs.Joined as spec;
 
 use crate::cuts::cuts_in;
+use crate::holes::jumps_of;
 use crate::joins::{Join, is_after, joins_of, later};
 use crate::stamps::{UnitStamp, stamp_of, stamps_in};
 use packet_pcr::FoundPcr;
@@ -144,7 +145,8 @@ pub fn part_joins(
     let programs = programs_in(alloc, findings)?;
     let stamps = stamps_in(alloc, &programs, findings)?;
     let cuts = cuts_in(alloc, references)?;
-    let joins = joins_of(alloc, &stamps, &cuts)?;
+    let jumps = jumps_of(alloc, &stamps, &cuts)?;
+    let joins = joins_of(alloc, &stamps, &jumps)?;
     Ok(PartJoins { programs, joins })
 }
 

@@ -1,16 +1,12 @@
 //! Where a clock jumps ahead, and the stamps of its units with it.
 
-ghost use Rattle.std.specs.Prelude.{◌≡◌, IfOk, OnOk, map};
-ghost use Rattle.pid_findings.specs.Shown.{finding_view};
+ghost use Rattle.std.specs.Prelude.{◌≡◌, IfOk, OnOk};
 ghost use Rattle.joined_parts.specs.JumpsAhead as spec;
 
-use crate::cuts::{Cut, cuts_in};
+use crate::cuts::Cut;
 use crate::joins::{NEAREST, is_between, next_cut};
-use crate::stamps::{UnitStamp, stamps_in};
+use crate::stamps::UnitStamp;
 use es_moments::distance;
-use packet_pcr::FoundPcr;
-use pid_findings::Finding;
-use stamp_repair::programs_in;
 use std::alloc::{AllocError, Global};
 
 // Half the number of stamps: a clock that jumps by less jumps ahead.
@@ -75,9 +71,13 @@ fn add_ahead(
     Ok(())
 }
 
-// Returns the cuts at which the stamps jump ahead.
+/// Returns the cuts at which the stamps jump ahead.
 #[tactic(auto, using(crate::proofs::JumpLists::ahead_more, crate::proofs::JumpLists::ahead_end))]
-fn cuts_ahead(alloc: Global, stamps: &[UnitStamp], cuts: &[Cut]) -> Result<Vec<Cut>, AllocError>
+pub(crate) fn cuts_ahead(
+    alloc: Global,
+    stamps: &[UnitStamp],
+    cuts: &[Cut],
+) -> Result<Vec<Cut>, AllocError>
     ensures { IfOk result (λ ahead. ahead.items ≡ spec.cuts_ahead stamps.now cuts.now) }
 {
     let mut done = Vec::new(alloc);
@@ -89,24 +89,4 @@ fn cuts_ahead(alloc: Global, stamps: &[UnitStamp], cuts: &[Cut]) -> Result<Vec<C
         later = rest;
     }
     Ok(ahead)
-}
-
-/// Returns the jumps ahead in a recording with these clock references, in the order of their packets, and these
-/// findings: cuts at which the stamps of units jump with the clock.
-#[tactic(auto, using(crate::proofs::JumpLists::ahead_end))]
-pub fn jumps_ahead(
-    alloc: Global,
-    references: &[FoundPcr],
-    findings: &[Finding<'_>],
-) -> Result<Vec<Cut>, AllocError>
-    ensures { IfOk result (λ jumps. jumps.items
-        ≡ spec.jumps_ahead references.now (map finding_view findings.now)) }
-{
-    let cuts = cuts_in(alloc, references)?;
-    if cuts.is_empty() {
-        return Ok(Vec::new(alloc));
-    }
-    let programs = programs_in(alloc, findings)?;
-    let stamps = stamps_in(alloc, &programs, findings)?;
-    cuts_ahead(alloc, &stamps, &cuts)
 }

@@ -15,10 +15,10 @@ returns c = λ bytes so.
     (carried_as bytes bytes _ _ (record { held = held; packets = c.self.inside.packets }) refl (sym c.as_slice.ensures.value) refl
     (subst (λ (x : CarriedView). IsCarriedTo bytes false x) (sym c.self.view_is) so)) in
     let parts = c.into_parts-slips.ensures in
-    stream_ended bytes held at p c.into_parts-slips.result.0.items c.into_parts-slips.result.1.items c.new-recodings.result.items c.new-jumps.result.items c.new-falling.result.items
+    stream_ended bytes held at p c.into_parts-slips.result.0.items c.into_parts-slips.result.1.items c.new-recodings.result.items c.new-gaps.result.items c.new-falling.result.items
     c.into_references-references.result.items
     c.end_stream.new.demux parts.slips parts.fields
     (c.in_ok-take_decided.ensures.last refl)
     (subst (λ (x : PacketsView). IsCarriedTo bytes true (record { held = drop at held; packets = x })) (sym same)
     (c.in_ok-take_decided.ensures.carried bytes begun))
-    c.new-recodings.ensures.items c.new-jumps.ensures.items c.new-falling.ensures.items c.into_references-references.ensures c.in_ok-end_stream.ensures
+    c.new-recodings.ensures.items c.new-gaps.ensures.items c.new-falling.ensures.items c.into_references-references.ensures c.in_ok-end_stream.ensures

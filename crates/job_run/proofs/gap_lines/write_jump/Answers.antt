@@ -1,6 +1,6 @@
 use Rattle.std.proofs.Common.{append_assoc}
-use Rattle.job_run.specs.JumpLines.{jump_text}
-use Rattle.job_run.proofs.jump_lines.write_words.Goals as goal
+use Rattle.job_run.specs.GapLines.{jump_text}
+use Rattle.job_run.proofs.gap_lines.write_jump.Goals as goal
 
 pub returns : goal.returns
 unfolding jump_text
