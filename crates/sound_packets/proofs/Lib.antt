@@ -1,0 +1,2 @@
+pub mod CutBytes
+pub mod KnownSteps

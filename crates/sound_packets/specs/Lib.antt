@@ -1,0 +1,4 @@
+pub mod KnownFrames
+pub mod Pieces
+pub mod CutPackets
+pub mod Laws
