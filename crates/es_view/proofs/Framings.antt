@@ -17,11 +17,12 @@ use Rattle.es_view.specs.declared.stream_entry.StreamEntry.{StreamEntry}
 use Rattle.es_events.specs.declared.tally.Tally.{Tally}
 use Rattle.es_events.specs.declared.video_tally.VideoTally.{VideoTally}
 use Rattle.es_events.specs.declared.view_options.ViewOptions.{ViewOptions}
+use Rattle.es_view.specs.LastPayloads.{kept}
 use Rattle.es_view.specs.EntryFrames.{AreCounted, Counted, FramedPayload, frames_among, payload_after, payload_events, place_of, walk_in, whole_after}
 use Rattle.es_view.specs.EntryFrames.{whole_events, front_after, count_of, video_counted}
 use Rattle.es_view.specs.Entries.{AreFrames, EntryState, Framed, IsEntry, arriving_at, beginning_in, counted_at, entry_after, entry_entered, events_entered}
 use Rattle.es_view.specs.Entries.{framed_after, held_after, held_in, is_unread, parts_delayed, payload_at, payload_of, seen_held, seen_tally, tally_in}
-use Rattle.es_view.specs.Entries.{unit_stay, video_tally_after, counter_after}
+use Rattle.es_view.specs.Entries.{unit_stay, video_tally_after}
 use Rattle.es_events.specs.MarkTallies.{with_beginning}
 use Rattle.es_events.specs.declared.mark_tally.MarkTally.{MarkTally}
 use Rattle.es_events.specs.Tallies.{more, none_counted}
@@ -83,18 +84,18 @@ framed_video entry e f k is = subst (λ (o : Option Framed). HoldsVideoOf entry.
 -- A packet has entered the buffers of a stream that is not viewed by access units.
 pub whole_entered : (entry entry' : StreamEntry) (options : ViewOptions) (index window : ℕ) (clock : Option PcrSample) (e : EntryState) (packet : PacketView) →
     IsEntry entry e → e.framed ≡ None →
-    entry'.pid ≡ entry.pid → entry'.clock_pid ≡ entry.clock_pid → entry'.counter ≡ entry.counter → entry'.frames ≡ None → entry'.limit ≡ entry.limit →
+    entry'.pid ≡ entry.pid → entry'.clock_pid ≡ entry.clock_pid → entry'.last ≡ entry.last → entry'.frames ≡ None → entry'.limit ≡ entry.limit →
     entry'.mark_tally ≡ entry.mark_tally →
     AreCounted entry'.seen
-    (whole_after options window (is_unread (beginning_in e.counter packet)) (arriving_at options index clock e packet) (counted_of e e.held e.tally)) →
+    (whole_after options window (is_unread (beginning_in e.last packet)) (arriving_at options index clock e packet) (counted_of e e.held e.tally)) →
     HoldsVideoOf entry'.seen.buffers e.video (after e.held options.arrival (arriving_at options index clock e packet)) →
     entry'.video_tally ≡ video_counted e.video_tally e.video e.held options.arrival (arriving_at options index clock e packet) →
     IsEntry entry' (entry_entered options index window clock e packet)
 unfolding held_in tally_in framed_after parts_delayed video_tally_after AreFrames
-whole_entered entry entry' options index window clock e packet k none pid clock_pid counter absent limit marks counted video videos = record {
+whole_entered entry entry' options index window clock e packet k none pid clock_pid last absent limit marks counted video videos = record {
   pid = pid ∙ k.pid;
   clock_pid = clock_pid ∙ k.clock_pid;
-  counter = counter ∙ k.counter;
+  last = last ∙ k.last;
   held = rw none counted.held;
   tally = rw none counted.tally;
   video = rw none video;
@@ -113,19 +114,19 @@ whole_found options index clock place e packet none = rw none refl
 -- A packet has entered the buffers of a stream that is viewed by access units.
 pub framed_entered : (entry entry' : StreamEntry) (options : ViewOptions) (index window : ℕ) (clock : Option PcrSample) (e : EntryState) (packet : PacketView)
     (f : Framed) (fr : EntryFrames) →
-    IsEntry entry e → e.framed ≡ Some f → entry'.pid ≡ entry.pid → entry'.clock_pid ≡ entry.clock_pid → entry'.counter ≡ entry.counter →
+    IsEntry entry e → e.framed ≡ Some f → entry'.pid ≡ entry.pid → entry'.clock_pid ≡ entry.clock_pid → entry'.last ≡ entry.last →
     entry'.frames ≡ Some fr →
     entry'.limit ≡ entry.limit → entry'.video_tally ≡ entry.video_tally → entry'.mark_tally ≡ entry.mark_tally →
-    fr.walk ≡ walk_after (walk_in (payload_at options index clock e.counter packet f) f.walk) (payload_at options index clock e.counter packet f).bytes →
-    fr.tick ≡ unwrap_or (payload_at options index clock e.counter packet f).tick f.tick →
-    AreCounted entry'.seen (counted_at options index window clock e.limit e.counter e.delayed packet f) →
-    HoldsVideoOf entry'.seen.buffers e.video (counted_at options index window clock e.limit e.counter e.delayed packet f).held →
+    fr.walk ≡ walk_after (walk_in (payload_at options index clock e.last packet f) f.walk) (payload_at options index clock e.last packet f).bytes →
+    fr.tick ≡ unwrap_or (payload_at options index clock e.last packet f).tick f.tick →
+    AreCounted entry'.seen (counted_at options index window clock e.limit e.last e.delayed packet f) →
+    HoldsVideoOf entry'.seen.buffers e.video (counted_at options index window clock e.limit e.last e.delayed packet f).held →
     IsEntry entry' (entry_entered options index window clock e packet)
 unfolding held_in tally_in framed_after parts_delayed video_tally_after AreFrames
-framed_entered entry entry' options index window clock e packet f fr k is pid clock_pid counter some limit same marks walk tick counted video = record {
+framed_entered entry entry' options index window clock e packet f fr k is pid clock_pid last some limit same marks walk tick counted video = record {
   pid = pid ∙ k.pid;
   clock_pid = clock_pid ∙ k.clock_pid;
-  counter = counter ∙ k.counter;
+  last = last ∙ k.last;
   held = rw is counted.held;
   tally = rw is counted.tally;
   video = rw is video;
@@ -138,7 +139,7 @@ framed_entered entry entry' options index window clock e packet f fr k is pid cl
 
 pub framed_found : (options : ViewOptions) (index : ℕ) (clock : Option PcrSample) (place : Place) (e : EntryState) (packet : PacketView) (f : Framed) →
     e.framed ≡ Some f →
-    payload_events options place e.limit (payload_at options index clock e.counter packet f) f.walk f.tick f.held ≡ events_entered options index clock place e
+    payload_events options place e.limit (payload_at options index clock e.last packet f) f.walk f.tick f.held ≡ events_entered options index clock place e
     packet e.framed
 unfolding events_entered
 framed_found options index clock place e packet f is = rw is refl
@@ -150,36 +151,36 @@ unfolding held_in framed_after held_after
 entered_held options index window clock e packet = by e.framed
   where
     by : (o : Option Framed) →
-        held_in (framed_after options index window clock e.limit e.counter e.delayed packet o)
+        held_in (framed_after options index window clock e.limit e.last e.delayed packet o)
         (after e.held options.arrival (arriving_at options index clock e packet))
         ≡ held_after options index clock e packet o
     by None = refl
     by (Some f) =
-        let p = payload_at options index clock e.counter packet f in
+        let p = payload_at options index clock e.last packet f in
         held_alone options (place_of e.limit p f.tick) window
-        (front_after options window (is_unread (beginning_in e.counter packet)) p.arriving (count_of p f.walk) (counted_of e f.held f.tally))
+        (front_after options window (is_unread (beginning_in e.last packet)) p.arriving (count_of p f.walk) (counted_of e f.held f.tally))
         (frames_among p f.walk)
 
 -- The content of the buffers after the packet was counted
 pub entry_counted : (entry entry' : StreamEntry) (options : ViewOptions) (index window : ℕ) (clock : Option PcrSample) (e : EntryState) (packet : PacketView) →
     IsEntry entry (entry_entered options index window clock e packet) → entry'.pid ≡ entry.pid → entry'.clock_pid ≡ entry.clock_pid →
-    entry'.counter ≡ counter_after e.counter packet → entry'.frames ≡ entry.frames → entry'.limit ≡ entry.limit → entry'.video_tally ≡ entry.video_tally →
+    entry'.last ≡ kept e.last packet → entry'.frames ≡ entry.frames → entry'.limit ≡ entry.limit → entry'.video_tally ≡ entry.video_tally →
     entry'.seen.buffers ≡ entry.seen.buffers → entry'.seen.tally ≡ entry.seen.tally →
-    entry'.seen.delayed ≡ more entry.seen.delayed (if is_some (unit_stay options index clock e.limit e.counter packet) then 1 else 0) →
-    entry'.mark_tally ≡ with_beginning entry.mark_tally (beginning_in e.counter packet) packet →
+    entry'.seen.delayed ≡ more entry.seen.delayed (if is_some (unit_stay options index clock e.limit e.last packet) then 1 else 0) →
+    entry'.mark_tally ≡ with_beginning entry.mark_tally (beginning_in e.last packet) packet →
     IsEntry entry' (entry_after options index window clock e packet)
-entry_counted entry entry' options index window clock e packet k pid clock_pid counter frames limit videos buffers tally delayed marks =
+entry_counted entry entry' options index window clock e packet k pid clock_pid last frames limit videos buffers tally delayed marks =
     let s = entry_entered options index window clock e packet in
     record {
       pid = pid ∙ k.pid;
       clock_pid = clock_pid ∙ k.clock_pid;
-      counter = counter;
+      last = last;
       held = subst (λ (b : StreamBuffers). IsHeld b (seen_held s)) (sym buffers) k.held;
       tally = tally ∙ k.tally;
       video = subst (λ (b : StreamBuffers). HoldsVideoOf b e.video (seen_held s)) (sym buffers) k.video;
       video_tally = videos ∙ k.video_tally;
-      mark_tally = marks ∙ ap (λ (t : MarkTally). with_beginning t (beginning_in e.counter packet) packet) k.mark_tally;
+      mark_tally = marks ∙ ap (λ (t : MarkTally). with_beginning t (beginning_in e.last packet) packet) k.mark_tally;
       frames = subst (λ (o : Option EntryFrames). AreFrames o s.framed) (sym frames) k.frames;
       limit = limit ∙ k.limit;
-      delayed = delayed ∙ ap (λ (n : ℕ). more n (if is_some (unit_stay options index clock e.limit e.counter packet) then 1 else 0)) k.delayed;
+      delayed = delayed ∙ ap (λ (n : ℕ). more n (if is_some (unit_stay options index clock e.limit e.last packet) then 1 else 0)) k.delayed;
     }

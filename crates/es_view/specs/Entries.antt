@@ -1,6 +1,6 @@
--- A stream that the tables name: its PID, the PID of its program's clock references, the counter of its last packet with a payload, its buffers by PES
--- packets, and their counts; for video the sizes of its two buffers, if they are viewed, and their counts; for sound its buffers by access units, if
--- these are viewed; how long a byte may stay in them, and how many units had bytes that stayed longer; and the counts of its units' marks.
+-- A stream that the tables name: its PID, the PID of its program's clock references, its last payload, its buffers by PES packets, and their counts;
+-- for video the sizes of its two buffers, if they are viewed, and their counts; for sound its buffers by access units, if these are viewed; how long a
+-- byte may stay in them, and how many units had bytes that stayed longer; and the counts of its units' marks.
 use Rattle.std.specs.Prelude.{◌≡◌, ℕ, ◌+◌, ◌-◌, ◌/◌, ◌^◌, ◌==◌, ◌&&◌, min, not, is_some, nat_le, nat_lt, unwrap_or, Bool, true, false, if◌then◌else◌, length}
 use Rattle.std.specs.Prelude.{List, [], ◌++◌, Option, Some, None}
 use Rattle.ts_packet.specs.Views.{PacketView}
@@ -17,6 +17,7 @@ use Rattle.events.specs.declared.event.Event.{Event}
 use Rattle.es_events.specs.declared.view_options.ViewOptions.{ViewOptions}
 use Rattle.es_events.specs.declared.clocks.Beginning.{Beginning}
 use Rattle.es_events.specs.declared.clocks.Beginning.TheVariants.{Nothing, Unread, Stamped}
+use Rattle.es_view.specs.LastPayloads.{LastView, is_repeated, kept}
 use Rattle.es_view.specs.declared.stream_entry.StreamEntry.{StreamEntry}
 use Rattle.es_events.specs.declared.tally.Tally.{Tally}
 use Rattle.es_events.specs.Clocks.{ahead_of, beginning_of, due_at, longest_stay}
@@ -49,7 +50,7 @@ pub record Framed : Type 0 where
 pub record EntryState : Type 0 where
   pub pid : ℕ
   pub clock_pid : ℕ
-  pub counter : Option ℕ
+  pub last : LastView
   pub held : Held
   pub tally : Tally
   pub video : Option VideoSizes
@@ -84,7 +85,7 @@ AreFrames (Some frames) (Some f) = (frames.walk ≡ f.walk) × (frames.tick ≡ 
 pub record IsEntry (entry : StreamEntry) (e : EntryState) : Type 0 where
   pub pid : entry.pid ≡ e.pid
   pub clock_pid : entry.clock_pid ≡ e.clock_pid
-  pub counter : entry.counter ≡ e.counter
+  pub last : entry.last ≡ e.last
   pub held : IsHeld entry.seen.buffers (seen_held e)
   pub tally : entry.seen.tally ≡ seen_tally e
   pub video : HoldsVideoOf entry.seen.buffers e.video (seen_held e)
@@ -96,20 +97,9 @@ pub record IsEntry (entry : StreamEntry) (e : EntryState) : Type 0 where
 
 -- 1. What a packet is to its buffers
 
--- a packet with the counter of the one before it repeats that (ISO/IEC 13818-1, 2.4.3.3)
-unfoldable pub same_counter : Option ℕ → ℕ → Bool
-same_counter None counter = false
-same_counter (Some before) counter = before == counter
-
-abbrev pub is_repeated : Option ℕ → PacketView → Bool
-is_repeated counter packet = is_some packet.payload && same_counter counter packet.header.continuity_counter
-
-abbrev pub counter_after : Option ℕ → PacketView → Option ℕ
-counter_after counter packet = if is_some packet.payload then Some packet.header.continuity_counter else counter
-
 -- the unit that begins with a packet: none in a duplicate packet
-abbrev pub beginning_in : Option ℕ → PacketView → Beginning
-beginning_in counter packet = if is_repeated counter packet then Nothing else beginning_of packet
+abbrev pub beginning_in : LastView → PacketView → Beginning
+beginning_in last packet = if is_repeated last packet then Nothing else beginning_of packet
 
 -- when a unit is due that begins with it: before the first clock reference none has begun
 unfoldable pub due_by : ViewOptions → ℕ → Option PcrSample → Beginning → Option DueTime
@@ -131,18 +121,18 @@ is_unread Nothing = false
 is_unread Unread = true
 is_unread (Stamped dts) = false
 
-abbrev pub arriving : ViewOptions → ℕ → ℕ → Option ℕ → Option PcrSample → PacketView → Arriving
-arriving options index rx counter clock packet = record {
+abbrev pub arriving : ViewOptions → ℕ → ℕ → LastView → Option PcrSample → PacketView → Arriving
+arriving options index rx last clock packet = record {
   index = index;
   size = length (unwrap_or packet.payload []);
-  begins = due_by options rx clock (beginning_in counter packet);
-  enters = not (is_repeated counter packet);
+  begins = due_by options rx clock (beginning_in last packet);
+  enters = not (is_repeated last packet);
 }
 
 -- 2. After a packet
 
 abbrev pub arriving_at : ViewOptions → ℕ → Option PcrSample → EntryState → PacketView → Arriving
-arriving_at options index clock e packet = arriving options index e.held.rx e.counter clock packet
+arriving_at options index clock e packet = arriving options index e.held.rx e.last clock packet
 
 abbrev pub entered_at : ViewOptions → ℕ → Option PcrSample → EntryState → PacketView → EnteredView
 entered_at options index clock e packet = entered e.held options.arrival (arriving_at options index clock e packet)
@@ -150,53 +140,53 @@ entered_at options index clock e packet = entered e.held options.arrival (arrivi
 -- the counts after a packet
 abbrev pub counted_tally : ViewOptions → ℕ → ℕ → Option PcrSample → EntryState → PacketView → Tally
 counted_tally options index window clock e packet =
-    tally_with e.tally window (is_unread (beginning_in e.counter packet)) (after e.held options.arrival (arriving_at options index clock e packet)) index
+    tally_with e.tally window (is_unread (beginning_in e.last packet)) (after e.held options.arrival (arriving_at options index clock e packet)) index
     (entered_at options index clock e packet)
 
 -- a packet of sound that is viewed by access units
 
-abbrev pub payload_of : ViewOptions → ℕ → ℕ → Option ℕ → Option PcrSample → PacketView → FramedPayload
-payload_of options index rx counter clock packet = record {
-  arriving = arriving options index rx counter clock packet;
+abbrev pub payload_of : ViewOptions → ℕ → ℕ → LastView → Option PcrSample → PacketView → FramedPayload
+payload_of options index rx last clock packet = record {
+  arriving = arriving options index rx last clock packet;
   base = payload_byte index (length (unwrap_or packet.payload []));
-  tick = unit_tick options clock (beginning_in counter packet);
-  beginning = beginning_in counter packet;
-  bytes = frame_bytes (is_repeated counter packet) packet;
+  tick = unit_tick options clock (beginning_in last packet);
+  beginning = beginning_in last packet;
+  bytes = frame_bytes (is_repeated last packet) packet;
 }
 
-abbrev pub payload_at : ViewOptions → ℕ → Option PcrSample → Option ℕ → PacketView → Framed → FramedPayload
-payload_at options index clock counter packet f = payload_of options index f.held.rx counter clock packet
+abbrev pub payload_at : ViewOptions → ℕ → Option PcrSample → LastView → PacketView → Framed → FramedPayload
+payload_at options index clock last packet f = payload_of options index f.held.rx last clock packet
 
-abbrev pub counted_at : ViewOptions → ℕ → ℕ → Option PcrSample → ℕ → Option ℕ → ℕ → PacketView → Framed → Counted
-counted_at options index window clock limit counter delayed packet f =
-    payload_after options window (is_unread (beginning_in counter packet)) limit (payload_at options index clock counter packet f) f.walk f.tick
+abbrev pub counted_at : ViewOptions → ℕ → ℕ → Option PcrSample → ℕ → LastView → ℕ → PacketView → Framed → Counted
+counted_at options index window clock limit last delayed packet f =
+    payload_after options window (is_unread (beginning_in last packet)) limit (payload_at options index clock last packet f) f.walk f.tick
     (record { held = f.held; tally = f.tally; delayed = delayed })
 
-abbrev pub framed_with : ViewOptions → ℕ → ℕ → Option PcrSample → ℕ → Option ℕ → ℕ → PacketView → Framed → Framed
-framed_with options index window clock limit counter delayed packet f = record {
-  walk = walk_after (walk_in (payload_at options index clock counter packet f) f.walk) (frame_bytes (is_repeated counter packet) packet);
-  tick = unwrap_or (unit_tick options clock (beginning_in counter packet)) f.tick;
-  held = (counted_at options index window clock limit counter delayed packet f).held;
-  tally = (counted_at options index window clock limit counter delayed packet f).tally;
+abbrev pub framed_with : ViewOptions → ℕ → ℕ → Option PcrSample → ℕ → LastView → ℕ → PacketView → Framed → Framed
+framed_with options index window clock limit last delayed packet f = record {
+  walk = walk_after (walk_in (payload_at options index clock last packet f) f.walk) (frame_bytes (is_repeated last packet) packet);
+  tick = unwrap_or (unit_tick options clock (beginning_in last packet)) f.tick;
+  held = (counted_at options index window clock limit last delayed packet f).held;
+  tally = (counted_at options index window clock limit last delayed packet f).tally;
 }
 
-unfoldable pub framed_after : ViewOptions → ℕ → ℕ → Option PcrSample → ℕ → Option ℕ → ℕ → PacketView → Option Framed → Option Framed
-framed_after options index window clock limit counter delayed packet None = None
-framed_after options index window clock limit counter delayed packet (Some f) = Some (framed_with options index window clock limit counter delayed packet f)
+unfoldable pub framed_after : ViewOptions → ℕ → ℕ → Option PcrSample → ℕ → LastView → ℕ → PacketView → Option Framed → Option Framed
+framed_after options index window clock limit last delayed packet None = None
+framed_after options index window clock limit last delayed packet (Some f) = Some (framed_with options index window clock limit last delayed packet f)
 
 -- how many units have had bytes that stay too long: the first byte of a unit that begins stays longest, and of each frame its own first byte
-abbrev pub unit_stay : ViewOptions → ℕ → Option PcrSample → ℕ → Option ℕ → PacketView → Option Stay
-unit_stay options index clock limit counter packet =
-    overstay_if options limit (payload_byte index (length (unwrap_or packet.payload []))) (unit_tick options clock (beginning_in counter packet))
+abbrev pub unit_stay : ViewOptions → ℕ → Option PcrSample → ℕ → LastView → PacketView → Option Stay
+unit_stay options index clock limit last packet =
+    overstay_if options limit (payload_byte index (length (unwrap_or packet.payload []))) (unit_tick options clock (beginning_in last packet))
 
-unfoldable pub parts_delayed : ViewOptions → ℕ → ℕ → Option PcrSample → ℕ → Option ℕ → ℕ → PacketView → Option Framed → ℕ
-parts_delayed options index window clock limit counter delayed packet None = delayed
-parts_delayed options index window clock limit counter delayed packet (Some f) = (counted_at options index window clock limit counter delayed packet f).delayed
+unfoldable pub parts_delayed : ViewOptions → ℕ → ℕ → Option PcrSample → ℕ → LastView → ℕ → PacketView → Option Framed → ℕ
+parts_delayed options index window clock limit last delayed packet None = delayed
+parts_delayed options index window clock limit last delayed packet (Some f) = (counted_at options index window clock limit last delayed packet f).delayed
 
-abbrev pub delayed_after : ViewOptions → ℕ → ℕ → Option PcrSample → ℕ → Option ℕ → ℕ → PacketView → Option Framed → ℕ
-delayed_after options index window clock limit counter delayed packet framed =
-    more (parts_delayed options index window clock limit counter delayed packet framed)
-    (if is_some (unit_stay options index clock limit counter packet) then 1 else 0)
+abbrev pub delayed_after : ViewOptions → ℕ → ℕ → Option PcrSample → ℕ → LastView → ℕ → PacketView → Option Framed → ℕ
+delayed_after options index window clock limit last delayed packet framed =
+    more (parts_delayed options index window clock limit last delayed packet framed)
+    (if is_some (unit_stay options index clock limit last packet) then 1 else 0)
 
 -- the two buffers of video are viewed of streams that are not viewed by access units
 unfoldable pub video_tally_after : ViewOptions → ℕ → Option PcrSample → Option Framed → EntryState → PacketView → VideoTally
@@ -208,15 +198,15 @@ abbrev pub entry_entered : ViewOptions → ℕ → ℕ → Option PcrSample → 
 entry_entered options index window clock e packet = record {
   pid = e.pid;
   clock_pid = e.clock_pid;
-  counter = e.counter;
+  last = e.last;
   held = after e.held options.arrival (arriving_at options index clock e packet);
   tally = counted_tally options index window clock e packet;
   video = e.video;
   video_tally = video_tally_after options index clock e.framed e packet;
   mark_tally = e.mark_tally;
-  framed = framed_after options index window clock e.limit e.counter e.delayed packet e.framed;
+  framed = framed_after options index window clock e.limit e.last e.delayed packet e.framed;
   limit = e.limit;
-  delayed = parts_delayed options index window clock e.limit e.counter e.delayed packet e.framed;
+  delayed = parts_delayed options index window clock e.limit e.last e.delayed packet e.framed;
 }
 
 -- the stream after a packet
@@ -224,15 +214,15 @@ abbrev pub entry_after : ViewOptions → ℕ → ℕ → Option PcrSample → En
 entry_after options index window clock e packet = record {
   pid = e.pid;
   clock_pid = e.clock_pid;
-  counter = counter_after e.counter packet;
+  last = kept e.last packet;
   held = after e.held options.arrival (arriving_at options index clock e packet);
   tally = counted_tally options index window clock e packet;
   video = e.video;
   video_tally = video_tally_after options index clock e.framed e packet;
-  mark_tally = with_beginning e.mark_tally (beginning_in e.counter packet) packet;
-  framed = framed_after options index window clock e.limit e.counter e.delayed packet e.framed;
+  mark_tally = with_beginning e.mark_tally (beginning_in e.last packet) packet;
+  framed = framed_after options index window clock e.limit e.last e.delayed packet e.framed;
   limit = e.limit;
-  delayed = delayed_after options index window clock e.limit e.counter e.delayed packet e.framed;
+  delayed = delayed_after options index window clock e.limit e.last e.delayed packet e.framed;
 }
 
 -- 3. At the end: the counts, with the current unit as the last unit
@@ -252,7 +242,7 @@ place_at packet e = record { pid = e.pid; packet = packet; rx = (seen_held e).rx
 unfoldable pub events_entered : ViewOptions → ℕ → Option PcrSample → Place → EntryState → PacketView → Option Framed → List Event
 events_entered options index clock place e packet None = whole_events options place (arriving_at options index clock e packet) e.video e.held
 events_entered options index clock place e packet (Some f) =
-    payload_events options place e.limit (payload_at options index clock e.counter packet f) f.walk f.tick f.held
+    payload_events options place e.limit (payload_at options index clock e.last packet f) f.walk f.tick f.held
 
 -- the last buffer of a byte before it is decoded
 unfoldable pub last_buffer : Option VideoSizes → BufferKind
@@ -263,14 +253,14 @@ last_buffer (Some sizes) = Elementary
 unfoldable pub held_after : ViewOptions → ℕ → Option PcrSample → EntryState → PacketView → Option Framed → Held
 held_after options index clock e packet None = after e.held options.arrival (arriving_at options index clock e packet)
 held_after options index clock e packet (Some f) =
-    frames_held options (place_of e.limit (payload_at options index clock e.counter packet f) f.tick)
-    (front_held options (payload_at options index clock e.counter packet f) f.walk f.held)
-    (frames_among (payload_at options index clock e.counter packet f) f.walk)
+    frames_held options (place_of e.limit (payload_at options index clock e.last packet f) f.tick)
+    (front_held options (payload_at options index clock e.last packet f) f.walk f.held)
+    (frames_among (payload_at options index clock e.last packet f) f.walk)
 
 abbrev pub entry_events : ViewOptions → ℕ → Option PcrSample → EntryState → PacketView → List Event
 entry_events options index clock e packet =
-    ahead_events (place_at index e) (ahead_by clock (beginning_in e.counter packet))
-    ++ (delayed_events options (place_at index e) (last_buffer e.video) e.limit (unit_stay options index clock e.limit e.counter packet)
+    ahead_events (place_at index e) (ahead_by clock (beginning_in e.last packet))
+    ++ (delayed_events options (place_at index e) (last_buffer e.video) e.limit (unit_stay options index clock e.limit e.last packet)
     ++ (events_entered options index clock (place_at index e) e packet e.framed
     ++ stays_ended options (place_at index e) (busy_seen e.video (seen_held e)) (busy_seen e.video (held_after options index clock e packet e.framed))))
 

@@ -1,3 +1,4 @@
+pub mod LastPayloads
 pub mod HeldEvents
 pub mod EntryFrames
 pub mod Entries

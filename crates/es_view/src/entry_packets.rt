@@ -5,6 +5,7 @@ ghost use Rattle.es_view.specs.Entries as spec;
 ghost use Rattle.es_view.specs.EntryFrames as frames;
 
 use crate::entry_frames::{FramedPayload, frame_bytes};
+use crate::last_payload::LastPayload;
 use arrival::{PCR_PERIOD, PcrSample};
 use es_events::clocks::{Beginning, LONGEST_STAY, ahead_of, beginning_of, due_at, due_tick};
 use es_events::entry_stays::{overstay_if, payload_byte};
@@ -12,38 +13,11 @@ use es_events::view_options::ViewOptions;
 use ts_packet::Packet;
 use tstd_rows::{Arriving, DueTime, Stay};
 
-#[tactic(auto, unfolding(crate::specs::Entries::same_counter))]
-fn same_counter(before: Option<u8>, counter: u8) -> bool
-    ensures { result ≡ spec.same_counter before counter }
-{
-    match before {
-        None => false,
-        Some(before) => before == counter,
-    }
-}
-
-// Returns whether a packet repeats the one before it on its PID.
-fn is_repeated(counter: Option<u8>, packet: &Packet<'_>) -> bool
-    ensures { result ≡ spec.is_repeated counter (packet_view packet.now) }
-{
-    packet.payload.is_some() && same_counter(counter, packet.header.continuity_counter)
-}
-
-pub(crate) fn counter_after(counter: Option<u8>, packet: &Packet<'_>) -> Option<u8>
-    ensures { result ≡ spec.counter_after counter (packet_view packet.now) }
-{
-    if packet.payload.is_some() {
-        Some(packet.header.continuity_counter)
-    } else {
-        counter
-    }
-}
-
 // Returns what begins with a packet.
-pub(crate) fn beginning_in(counter: Option<u8>, packet: &Packet<'_>) -> Beginning
-    ensures { result ≡ spec.beginning_in counter (packet_view packet.now) }
+pub(crate) fn beginning_in(last: &LastPayload, packet: &Packet<'_>) -> Beginning
+    ensures { result ≡ spec.beginning_in last.now (packet_view packet.now) }
 {
-    if is_repeated(counter, packet) {
+    if last.is_repeated(packet) {
         Beginning::Nothing
     } else {
         beginning_of(packet)
@@ -101,20 +75,20 @@ pub(crate) fn arriving(
     options: &ViewOptions,
     index: u64,
     rx: u32,
-    counter: Option<u8>,
+    last: &LastPayload,
     clock: &Option<PcrSample>,
     beginning: Beginning,
     packet: &Packet<'_>,
 ) -> Arriving
-    requires { beginning ≡ spec.beginning_in counter (packet_view packet.now) }
-    ensures { result ≡ spec.arriving options.now index rx counter clock.now (packet_view packet.now) }
+    requires { beginning ≡ spec.beginning_in last.now (packet_view packet.now) }
+    ensures { result ≡ spec.arriving options.now index rx last.now clock.now (packet_view packet.now) }
 {
     let payload = packet.payload.unwrap_or(&[]);
     Arriving {
         index,
         size: payload.len() as u64,
         begins: due_by(options, rx, clock, beginning),
-        enters: !is_repeated(counter, packet),
+        enters: !last.is_repeated(packet),
     }
 }
 
@@ -123,22 +97,22 @@ pub(crate) fn payload_of<'a>(
     options: &ViewOptions,
     index: u64,
     rx: u32,
-    counter: Option<u8>,
+    last: &LastPayload,
     clock: &Option<PcrSample>,
     beginning: Beginning,
     packet: &Packet<'a>,
 ) -> FramedPayload<'a>
-    requires { beginning ≡ spec.beginning_in counter (packet_view packet.now) }
+    requires { beginning ≡ spec.beginning_in last.now (packet_view packet.now) }
     ensures { frames.payload_view result
-        ≡ spec.payload_of options.now index rx counter clock.now (packet_view packet.now) }
+        ≡ spec.payload_of options.now index rx last.now clock.now (packet_view packet.now) }
 {
     let size = packet.payload.unwrap_or(&[]).len() as u64;
     FramedPayload {
-        arriving: arriving(options, index, rx, counter, clock, beginning, packet),
+        arriving: arriving(options, index, rx, last, clock, beginning, packet),
         base: payload_byte(index, size),
         tick: unit_tick(options, clock, beginning),
         beginning,
-        bytes: frame_bytes(is_repeated(counter, packet), packet),
+        bytes: frame_bytes(last.is_repeated(packet), packet),
     }
 }
 
@@ -163,12 +137,12 @@ pub(crate) fn unit_stay(
     index: u64,
     clock: &Option<PcrSample>,
     limit: u64,
-    counter: Option<u8>,
+    last: &LastPayload,
     beginning: Beginning,
     packet: &Packet<'_>,
 ) -> Option<Stay>
-    requires { beginning ≡ spec.beginning_in counter (packet_view packet.now) }
-    ensures { result ≡ spec.unit_stay options.now index clock.now limit counter (packet_view packet.now) }
+    requires { beginning ≡ spec.beginning_in last.now (packet_view packet.now) }
+    ensures { result ≡ spec.unit_stay options.now index clock.now limit last.now (packet_view packet.now) }
 {
     let size = packet.payload.unwrap_or(&[]).len() as u64;
     let tick = unit_tick(options, clock, beginning);

@@ -9,5 +9,6 @@ pub mod counted_buffers;
 pub mod entry_frames;
 mod entry_packets;
 mod held_events;
+pub mod last_payload;
 mod main_now;
 pub mod stream_entry;

@@ -10,10 +10,9 @@ ghost use Rattle.es_view.specs.Entries.{EntryState, IsEntry};
 
 use crate::counted_buffers::{BusyCounts, CountedBuffers};
 use crate::entry_frames::EntryFrames;
-use crate::entry_packets::{
-    ahead_by, arriving, beginning_in, counter_after, is_unread, payload_of, unit_stay,
-};
+use crate::entry_packets::{ahead_by, arriving, beginning_in, is_unread, payload_of, unit_stay};
 use crate::held_events::push_window_if;
+use crate::last_payload::LastPayload;
 use arrival::PcrSample;
 use es_events::clocks::Beginning;
 use es_events::entry_events::{Place, push_ahead_if, push_closing};
@@ -33,13 +32,13 @@ use tstd_rows::{BusyWatch, Stay, StreamBuffers, TRANSPORT_BYTES};
 /// The most units of a stream that may wait in its main buffer while more of its transport stream is viewed.
 const MOST_WAITING: usize = 4_096;
 
-/// A stream: its PID, the PID of its program's clock references, the counter of its last packet with a payload, its
-/// buffers with their counts, and the counts of MB and EB and of the marks of its units.
+/// A stream: its PID, the PID of its program's clock references, its last payload, its buffers with their counts, and
+/// the counts of MB and EB and of the marks of its units.
 #[derive(Drop)]
 pub struct StreamEntry {
     pub pid: u16,
     pub clock_pid: u16,
-    pub counter: Option<u8>,
+    pub last: LastPayload,
     pub seen: CountedBuffers,
     pub video_tally: VideoTally,
     pub mark_tally: MarkTally,
@@ -140,7 +139,7 @@ impl StreamEntry {
         packet: &Packet<'_>,
         events: &mut Vec<Event>,
     ) -> Result<(), AllocError>
-        requires { beginning ≡ spec.beginning_in self.old.counter (packet_view packet.now) }
+        requires { beginning ≡ spec.beginning_in self.old.last (packet_view packet.now) }
         ensures entry { (e : EntryState) → IsEntry self.old e → OnOk result
             (IsEntry self.new (spec.entry_entered options.now index window clock.now e (packet_view packet.now))) }
         ensures found { (e : EntryState) → IsEntry self.old e → OnOk result (events.new.items
@@ -151,8 +150,7 @@ impl StreamEntry {
         let rx = self.seen.buffers.rx;
         match &mut self.frames {
             None => {
-                let counter = self.counter;
-                let arriving = arriving(options, index, rx, counter, clock, beginning, packet);
+                let arriving = arriving(options, index, rx, &self.last, clock, beginning, packet);
                 self.seen.enter_whole(
                     options,
                     place,
@@ -165,8 +163,7 @@ impl StreamEntry {
                 Ok(())
             }
             Some(frames) => {
-                let counter = self.counter;
-                let payload = payload_of(options, index, rx, counter, clock, beginning, packet);
+                let payload = payload_of(options, index, rx, &self.last, clock, beginning, packet);
                 frames.enter(
                     options,
                     place,
@@ -198,15 +195,9 @@ impl StreamEntry {
             ≡ events.old.items ++ spec.entry_events options.now index clock.now e (packet_view packet.now)) }
     {
         let place = self.place(index);
-        let beginning = beginning_in(self.counter, packet);
+        let beginning = beginning_in(&self.last, packet);
         let stay = unit_stay(
-            options,
-            index,
-            clock,
-            self.limit,
-            self.counter,
-            beginning,
-            packet,
+            options, index, clock, self.limit, &self.last, beginning, packet,
         );
         push_ahead_if(events, &place, ahead_by(clock, beginning))?;
         let buffer = last_buffer(&self.seen.buffers);
@@ -216,7 +207,7 @@ impl StreamEntry {
             options, index, window, &place, clock, beginning, packet, events,
         )?;
         push_stays(events, options, &place, &before, &self.seen.buffers)?;
-        self.counter = counter_after(self.counter, packet);
+        self.last.keep(packet)?;
         self.seen.add_delayed_if(&stay);
         self.mark_tally.add_packet(beginning, packet);
         Ok(())

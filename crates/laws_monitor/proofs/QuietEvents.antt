@@ -216,15 +216,15 @@ entering : (options : ViewOptions) (index : ℕ) (clock : Option PcrSample) (pla
     Quiet (events_entered options index clock place e packet f)
 unfolding events_entered
 entering options index clock place e packet None = wholes options place (arriving_at options index clock e packet) e.video e.held
-entering options index clock place e packet (Some f) = payloads options place e.limit (payload_at options index clock e.counter packet f) f.walk f.tick f.held
+entering options index clock place e packet (Some f) = payloads options place e.limit (payload_at options index clock e.last packet f) f.walk f.tick f.held
 
 entries : (options : ViewOptions) (index : ℕ) (clock : Option PcrSample) (e : EntryState) (packet : PacketView) →
     Quiet (entry_events options index clock e packet)
 entries options index clock e packet =
-    join (ahead_events (place_at index e) (ahead_by clock (beginning_in e.counter packet))) _
-    (aheads (place_at index e) (ahead_by clock (beginning_in e.counter packet)))
-    (join (delayed_events options (place_at index e) (last_buffer e.video) e.limit (unit_stay options index clock e.limit e.counter packet)) _
-    (delays options (place_at index e) (last_buffer e.video) e.limit (unit_stay options index clock e.limit e.counter packet))
+    join (ahead_events (place_at index e) (ahead_by clock (beginning_in e.last packet))) _
+    (aheads (place_at index e) (ahead_by clock (beginning_in e.last packet)))
+    (join (delayed_events options (place_at index e) (last_buffer e.video) e.limit (unit_stay options index clock e.limit e.last packet)) _
+    (delays options (place_at index e) (last_buffer e.video) e.limit (unit_stay options index clock e.limit e.last packet))
     (join (events_entered options index clock (place_at index e) e packet e.framed) _ (entering options index clock (place_at index e) e packet e.framed)
     (stays options (place_at index e) e.video (seen_held e) (held_after options index clock e packet e.framed))))
 

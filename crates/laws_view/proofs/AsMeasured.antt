@@ -1,6 +1,7 @@
 -- In a view, the figures of a stream that carries units equal the figures that measuring its bytes finds.
 use Rattle.std.proofs.Common.{◌≡◌, ◌∙◌, sym, ℕ, ◌+◌, ◌&&◌, false, is_some, Bool, true, List, [], ◌∷◌, ◌++◌, length, map, take, Option, Some, None, refl, ap}
 use Rattle.std.proofs.Common.{subst, inl, inr, nat_eq, arith}
+use Rattle.std.proofs.lemmas.Bool.{cases_Bool}
 use Rattle.std.proofs.lemmas.List.{length-append}
 use Rattle.ts_packet.specs.Views.{PacketView}
 use Rattle.ts_packet.specs.Reading.{packet_at}
@@ -29,7 +30,8 @@ use Rattle.tstd_rows.specs.declared.arriving.Arriving.{Arriving}
 use Rattle.es_events.specs.declared.clocks.Beginning.TheVariants.{Stamped}
 use Rattle.es_events.specs.declared.view_options.ViewOptions.{ViewOptions}
 use Rattle.es_events.specs.Clocks.{beginning_of}
-use Rattle.es_view.specs.Entries.{arriving, due_by, is_repeated, same_counter}
+use Rattle.es_view.specs.Entries.{arriving, due_by}
+use Rattle.es_view.specs.LastPayloads.{LastView, is_repeated, same_counter}
 use Rattle.laws_view.specs.StreamPackets.{Before, Followed, clock_with, clocks_seen, known_after, known_after_all, seen_among, seen_in, sound_packet}
 use Rattle.laws_view.specs.CarriedStreams.{CutUnit, cut_pieces, cut_senders, cut_units}
 use Rattle.laws_view.specs.WholeStreams.{IsWhole, followed, known_at_begin, nothing_known, stream_packets}
@@ -57,33 +59,29 @@ unfolding due_by
 some_due options rx None dts e = absurd (let no : ⊥ = cc in no)
 some_due options rx (Some clock) dts e = refl
 
-first_time : (counter : Option ℕ) (packet : PacketView) → counter ≡ None → is_repeated counter packet ≡ false
+first_time : (last : LastView) (packet : PacketView) → last.counter ≡ None → is_repeated last packet ≡ false
 unfolding same_counter
-first_time counter packet none = rw none (by (is_some packet.payload))
-  where
-    by : (b : Bool) → (b && false) ≡ false
-    by true = refl
-    by false = refl
+first_time last packet none = elim (cases_Bool (is_some packet.payload)) [ inl some ↦ rw (some, none) refl | inr bare ↦ rw bare refl ]
 
 not_none : (o : Option DueTime) → is_some o ≡ true → due_with o None ≡ None → ⊥
 not_none None e none = let no : ⊥ = cc in no
 not_none (Some due) e none = let no : ⊥ = cc in no
 
-begins_some : (options : ViewOptions) (index rx : ℕ) (counter : Option ℕ) (clock : Option PcrSample) (packet : PacketView) (dts : ℕ) → counter ≡ None →
+begins_some : (options : ViewOptions) (index rx : ℕ) (last : LastView) (clock : Option PcrSample) (packet : PacketView) (dts : ℕ) → last.counter ≡ None →
     is_some clock ≡ true →
-    beginning_of packet ≡ Stamped dts → is_some (arriving options index rx counter clock packet).begins ≡ true
-begins_some options index rx counter clock packet dts none clocked begins = rw (first_time counter packet none, begins) (some_due options rx clock dts clocked)
+    beginning_of packet ≡ Stamped dts → is_some (arriving options index rx last clock packet).begins ≡ true
+begins_some options index rx last clock packet dts none clocked begins = rw (first_time last packet none, begins) (some_due options rx clock dts clocked)
 
 under_way : (f : Followed) (b : Before) (packet : PacketView) (first : List ℕ) (later : List (List ℕ)) (dts : ℕ) →
     sound_packet (packet_at first) ≡ Some packet →
-    nat_eq f.pid packet.header.pid ≡ true → b.counter ≡ None → is_some (clock_with f.options f.clock_pid b.index packet b.clock) ≡ true →
+    nat_eq f.pid packet.header.pid ≡ true → b.last.counter ≡ None → is_some (clock_with f.options f.clock_pid b.index packet b.clock) ≡ true →
     beginning_of packet ≡ Stamped dts →
     UnderWay None (seen_among f b (first ∷ later))
 unfolding seen_among seen_in UnderWay
 under_way f b packet first later dts sound own none clocked begins =
     rw (sound, own)
-    (not_none (arriving f.options b.index f.rx b.counter (clock_with f.options f.clock_pid b.index packet b.clock) packet).begins
-    (begins_some f.options b.index f.rx b.counter (clock_with f.options f.clock_pid b.index packet b.clock) packet dts none clocked begins))
+    (not_none (arriving f.options b.index f.rx b.last (clock_with f.options f.clock_pid b.index packet b.clock) packet).begins
+    (begins_some f.options b.index f.rx b.last (clock_with f.options f.clock_pid b.index packet b.clock) packet dts none clocked begins))
 
 -- The first packet of a stream begins a unit.
 first_begins : (base0 n pid index : ℕ) (packet : PacketView) (first : List ℕ) (later : List (List ℕ)) (us : List AccessUnit) →

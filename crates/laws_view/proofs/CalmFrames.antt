@@ -18,6 +18,7 @@ use Rattle.es_events.specs.declared.tally.Tally.{Tally}
 use Rattle.es_events.specs.declared.view_options.ViewOptions.{ViewOptions}
 use Rattle.es_view.specs.EntryFrames.{Counted, FramedPayload, count_of, frame_after, frames_after, frames_among, front_after, part_of, place_of}
 use Rattle.es_view.specs.Entries.{Framed, beginning_in, framed_with, is_unread, payload_of}
+use Rattle.es_view.specs.LastPayloads.{LastView}
 use Rattle.es_events.specs.Tallies.{in_window, more, tally_after, tally_with, with_unit_if}
 use Rattle.laws_view.proofs.EnteredBytes.{Alike, alike_trans, begin_arrives, payload_alike}
 use Rattle.laws_view.proofs.MainExcesses.{Quiet, begin_main, most_begin, most_begun, most_payload, quiet_payload, same_main}
@@ -187,14 +188,14 @@ calm_frames options limit y tick window c (p ∷ ps) calm =
     calm_frames options limit y tick window (frame_after options (place_of limit y tick) window c p) ps (calm_frame options limit y tick window c p calm)
 
 -- A packet keeps `Calm`.
-pub calm_packet : (options : ViewOptions) (index window : ℕ) (clock : Option PcrSample) (limit : ℕ) (counter : Option ℕ) (delayed : ℕ) (packet : PacketView)
+pub calm_packet : (options : ViewOptions) (index window : ℕ) (clock : Option PcrSample) (limit : ℕ) (last : LastView) (delayed : ℕ) (packet : PacketView)
     (f : Framed) →
     Calm f.held f.tally →
-    Calm (framed_with options index window clock limit counter delayed packet f).held
-    (framed_with options index window clock limit counter delayed packet f).tally
-calm_packet options index window clock limit counter delayed packet f calm =
-    let p : FramedPayload = payload_of options index f.held.rx counter clock packet in
+    Calm (framed_with options index window clock limit last delayed packet f).held
+    (framed_with options index window clock limit last delayed packet f).tally
+calm_packet options index window clock limit last delayed packet f calm =
+    let p : FramedPayload = payload_of options index f.held.rx last clock packet in
     let c : Counted = record { held = f.held; tally = f.tally; delayed = delayed } in
-    let unread : Bool = is_unread (beginning_in counter packet) in
+    let unread : Bool = is_unread (beginning_in last packet) in
     calm_frames options limit p f.tick window (front_after options window unread p.arriving (count_of p f.walk) c) (frames_among p f.walk)
     (calm_front options window unread p.arriving (count_of p f.walk) c calm)

@@ -155,10 +155,10 @@ unfolding least_of_both
 begun_counts options index window clocks named t packet stream =
     let e : EntryState = entry_begun options named t packet stream in
     let own : nat_eq e.pid packet.header.pid ≡ true = itself packet.header.pid in
-    let p : Arriving = arriving options index e.held.rx e.counter (clock_of clocks e.clock_pid) packet in
+    let p : Arriving = arriving options index e.held.rx e.last (clock_of clocks e.clock_pid) packet in
     let v : EnteredView = entered e.held options.arrival p in
     let h : Held = after e.held options.arrival p in
-    let unread : Bool = is_unread (beginning_in e.counter packet) in
+    let unread : Bool = is_unread (beginning_in e.last packet) in
     let then_counted : Tally = tally_after e.tally window unread v in
     let before = none_before window in
     let one = packet_least e.tally window unread v in

@@ -19,7 +19,8 @@ use Rattle.es_events.specs.declared.view_options.ViewOptions.{ViewOptions}
 use Rattle.es_events.specs.declared.clocks.Beginning.{Beginning}
 use Rattle.es_events.specs.declared.clocks.Beginning.TheVariants.{Nothing, Stamped}
 use Rattle.es_events.specs.Clocks.{beginning_of}
-use Rattle.es_view.specs.Entries.{arriving, beginning_in, counter_after, due_by, is_repeated, same_counter}
+use Rattle.es_view.specs.Entries.{arriving, beginning_in, due_by}
+use Rattle.es_view.specs.LastPayloads.{LastView, counter_after, is_repeated, same_counter}
 use Rattle.laws_view.specs.StreamPackets.{Before, Followed, clock_in, clock_with, clocks_seen, known_after, reference_in, seen_among, seen_in, sound_packet}
 use Rattle.laws_view.specs.CarriedStreams.{GoesBy}
 use Rattle.laws_view.proofs.Lists.{apart, some_is}
@@ -74,7 +75,7 @@ number_clocked rate base0 (f ∷ es) (v ∷ us) (clock ∷ clocks) h (suc j) e u
 
 -- Before payload packet n of the PID: the last counter, the unit of the last packet, and no open unit before the first clock reference.
 pub record Known (rate : ℕ) (f : Followed) (n : ℕ) (b : Before) (before : Option AccessUnit) (due : Option DueTime) : Type 0 where
-  pub counter : (b.counter ≡ None) ⊎ (b.counter ≡ Some ((n + 15) % 16))
+  pub counter : (b.last.counter ≡ None) ⊎ (b.last.counter ≡ Some ((n + 15) % 16))
   pub goes : (due ≡ None) ⊎ ((u : AccessUnit) × ((before ≡ Some u) × (due ≡ Some (due_time rate f.rx u.dts))))
   pub none : b.clock ≡ None → due ≡ None
 
@@ -84,10 +85,10 @@ unfolding same_counter
 other_counter n o (inl none) = rw none refl
 other_counter n o (inr some) = rw some (apart ((n + 15) % 16) (n % 16) (λ same. omega (arith, same)))
 
-not_repeated : (n : ℕ) (o : Option ℕ) (packet : PacketView) → (is_some packet.payload ≡ true → packet.header.continuity_counter ≡ n % 16) →
-    (o ≡ None) ⊎ (o ≡ Some ((n + 15) % 16)) → is_repeated o packet ≡ false
-not_repeated n o packet counter known = elim (cases_Bool (is_some packet.payload)) [
-  | inl some ↦ rw (some, counter some) (other_counter n o known)
+not_repeated : (n : ℕ) (last : LastView) (packet : PacketView) → (is_some packet.payload ≡ true → packet.header.continuity_counter ≡ n % 16) →
+    (last.counter ≡ None) ⊎ (last.counter ≡ Some ((n + 15) % 16)) → is_repeated last packet ≡ false
+not_repeated n last packet counter known = elim (cases_Bool (is_some packet.payload)) [
+  | inl some ↦ rw (some, counter some, other_counter n last.counter known) refl
   | inr none ↦ rw none refl
 ]
 
@@ -157,24 +158,24 @@ packet_goes : (rate base0 : ℕ) (f : Followed) (n : ℕ) (b : Before) (before :
     IsSent base0 n before (record { index = b.index; bytes = bytes; packet = packet }) u →
     BeginsBy rate base0 (record { index = b.index; bytes = bytes; packet = packet }) u (clock_with f.options f.clock_pid b.index packet b.clock) →
     Goes rate f (number_after n (record { index = b.index; bytes = bytes; packet = packet })) b packet due u
-    (arriving f.options b.index f.rx b.counter (clock_with f.options f.clock_pid b.index packet b.clock) packet)
+    (arriving f.options b.index f.rx b.last (clock_with f.options f.clock_pid b.index packet b.clock) packet)
 unfolding known_after
 packet_goes rate base0 f n b before due bytes packet u at_rate own known sent clock =
     let e : Entry = record { index = b.index; bytes = bytes; packet = packet } in
     let now : Option PcrSample = clock_with f.options f.clock_pid b.index packet b.clock in
     let nothing_yet : clock_with f.options f.clock_pid b.index packet b.clock ≡ None → due ≡ None =
     λ nothing. known.none (earlier (nat_eq f.clock_pid packet.header.pid) (reference_in f.options b.index packet) b.clock nothing) in
-    let new : is_repeated b.counter packet ≡ false = not_repeated n b.counter packet sent.counter known.counter in
-    let begins : due_by f.options f.rx now (beginning_in b.counter packet) ≡ due_by f.options f.rx now (beginning_of packet) = rw new refl in
+    let new : is_repeated b.last packet ≡ false = not_repeated n b.last packet sent.counter known.counter in
+    let begins : due_by f.options f.rx now (beginning_in b.last packet) ≡ due_by f.options f.rx now (beginning_of packet) = rw new refl in
     let with_unit = goes_with rate base0 f n b before due e u now at_rate known nothing_yet sent clock in
-    let is : (due_with (due_by f.options f.rx now (beginning_in b.counter packet)) due ≡ None) ⊎
-    (due_with (due_by f.options f.rx now (beginning_in b.counter packet)) due ≡ Some (due_time rate f.rx u.dts)) =
+    let is : (due_with (due_by f.options f.rx now (beginning_in b.last packet)) due ≡ None) ⊎
+    (due_with (due_by f.options f.rx now (beginning_in b.last packet)) due ≡ Some (due_time rate f.rx u.dts)) =
     rw begins with_unit in
     record {
       enters = rw new refl;
       unit = is;
       known = record {
-        counter = rw own (next_counter n b.counter b.index bytes packet sent.counter known.counter);
+        counter = rw own (next_counter n b.last.counter b.index bytes packet sent.counter known.counter);
         goes = elim is [ inl none ↦ inl none | inr some ↦ inr (u, (refl, some)) ];
         none = λ nothing. rw (begins, none_due f.options f.rx now (beginning_of packet) nothing, nothing_yet nothing) refl;
       };
@@ -212,13 +213,13 @@ own_follows : (rate base0 : ℕ) (f : Followed) (n : ℕ) (b : Before) (before :
     (clock_with f.options f.clock_pid b.index packet b.clock ∷ clocks_seen f (known_after f b (Some packet)) chunks) →
     Rest rate base0 f (known_after f b (Some packet)) chunks →
     Follows rate f.rx due
-    (arriving f.options b.index f.rx b.counter (clock_with f.options f.clock_pid b.index packet b.clock) packet ∷ seen_among f
+    (arriving f.options b.index f.rx b.last (clock_with f.options f.clock_pid b.index packet b.clock) packet ∷ seen_among f
     (known_after f b (Some packet)) chunks) us
 unfolding AllSent Clocked Follows
 own_follows rate base0 f n b before due bytes packet chunks [] at_rate own known all clock rest = absurd all
 own_follows rate base0 f n b before due bytes packet chunks (u ∷ us) at_rate own known all clock rest =
     let e : Entry = record { index = b.index; bytes = bytes; packet = packet } in
-    let p : Arriving = arriving f.options b.index f.rx b.counter (clock_with f.options f.clock_pid b.index packet b.clock) packet in
+    let p : Arriving = arriving f.options b.index f.rx b.last (clock_with f.options f.clock_pid b.index packet b.clock) packet in
     let goes = packet_goes rate base0 f n b before due bytes packet u at_rate own known all.0 clock.0 in
     (goes.enters, goes.unit, rest (number_after n e) (Some u) (due_with p.begins due) us all.1 clock.1 goes.known)
 
@@ -244,7 +245,7 @@ one_follows rate base0 f n b before due bytes (Some packet) chunks us at_rate kn
     now = clock_with f.options f.clock_pid b.index packet b.clock
 
     p : Arriving
-    p = arriving f.options b.index f.rx b.counter (clock_with f.options f.clock_pid b.index packet b.clock) packet
+    p = arriving f.options b.index f.rx b.last (clock_with f.options f.clock_pid b.index packet b.clock) packet
 
     by : (w : Bool) → nat_eq f.pid packet.header.pid ≡ w → AllSent base0 n before (if nat_eq f.pid packet.header.pid then e ∷ later else later) us →
         Clocked rate base0 (if nat_eq f.pid packet.header.pid then e ∷ later else later) us

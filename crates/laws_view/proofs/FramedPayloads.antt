@@ -15,8 +15,9 @@ use Rattle.tstd_rows.specs.Entering.{after, after_first, size_of}
 use Rattle.es_events.specs.declared.view_options.ViewOptions.{ViewOptions}
 use Rattle.es_view.specs.EntryFrames.{FramedPayload, count_of, frame_bytes, frames_among, frames_held, front_after, front_count, place_of}
 use Rattle.es_view.specs.EntryFrames.{unit_after, unit_in, walk_in}
-use Rattle.es_view.specs.Entries.{Framed, arriving, beginning_in, framed_with, is_repeated, is_unread, payload_of}
+use Rattle.es_view.specs.Entries.{Framed, arriving, beginning_in, framed_with, is_unread, payload_of}
 use Rattle.es_view.proofs.Frames.{held_alone}
+use Rattle.es_view.specs.LastPayloads.{LastView, is_repeated}
 use Rattle.laws_view.specs.StreamPackets.{most_packets}
 use Rattle.laws_view.proofs.FrameRows.{InTurn, count_le, frames_in_turn}
 use Rattle.laws_view.proofs.FramedBytes.{base_of, no_frames_held}
@@ -76,29 +77,29 @@ held_framed options limit p f =
     frames_held options (place_of limit p f.tick) (after_first f.held options.arrival p.arriving (min (count_of p f.walk) (size_of p.arriving)))
     (frames_among p f.walk)
 
-pub framed_held : (options : ViewOptions) (index window : ℕ) (clock : Option PcrSample) (limit : ℕ) (counter : Option ℕ) (delayed : ℕ) (packet : PacketView)
+pub framed_held : (options : ViewOptions) (index window : ℕ) (clock : Option PcrSample) (limit : ℕ) (last : LastView) (delayed : ℕ) (packet : PacketView)
     (f : Framed) →
-    (framed_with options index window clock limit counter delayed packet f).held ≡ held_framed options limit
-    (payload_of options index f.held.rx counter clock packet) f
-framed_held options index window clock limit counter delayed packet f =
-    let p : FramedPayload = payload_of options index f.held.rx counter clock packet in
+    (framed_with options index window clock limit last delayed packet f).held ≡ held_framed options limit
+    (payload_of options index f.held.rx last clock packet) f
+framed_held options index window clock limit last delayed packet f =
+    let p : FramedPayload = payload_of options index f.held.rx last clock packet in
     held_alone options (place_of limit p f.tick) window
-    (front_after options window (is_unread (beginning_in counter packet)) p.arriving (count_of p f.walk)
+    (front_after options window (is_unread (beginning_in last packet)) p.arriving (count_of p f.walk)
     (record { held = f.held; tally = f.tally; delayed = delayed })) (frames_among p f.walk)
 
 -- A packet brings the same bytes to the buffers of both views.
-payload_together : (options : ViewOptions) (rate n index rx : ℕ) (clock : Option PcrSample) (limit : ℕ) (counter : Option ℕ) (packet : PacketView) (h : Held)
+payload_together : (options : ViewOptions) (rate n index rx : ℕ) (clock : Option PcrSample) (limit : ℕ) (last : LastView) (packet : PacketView) (h : Held)
     (f : Framed) →
     options.arrival ≡ AtRate rate → Together rate n h f.held → n ≤ index → index < most_packets → length (unwrap_or packet.payload []) ≤ 184 →
-    Together rate (suc index) (after h (AtRate rate) (arriving options index rx counter clock packet))
-    (held_framed options limit (payload_of options index rx counter clock packet) f)
-payload_together options rate n index rx clock limit counter packet h f is t first early small = by (is_repeated counter packet) refl
+    Together rate (suc index) (after h (AtRate rate) (arriving options index rx last clock packet))
+    (held_framed options limit (payload_of options index rx last clock packet) f)
+payload_together options rate n index rx clock limit last packet h f is t first early small = by (is_repeated last packet) refl
   where
     p : FramedPayload
-    p = payload_of options index rx counter clock packet
+    p = payload_of options index rx last clock packet
 
     q : Arriving
-    q = arriving options index rx counter clock packet
+    q = arriving options index rx last clock packet
 
     size : ℕ
     size = length (unwrap_or packet.payload [])
@@ -109,7 +110,7 @@ payload_together options rate n index rx clock limit counter packet h f is t fir
     size_is : size_of q ≡ size
     size_is = small_size size small
 
-    repeats : is_repeated counter packet ≡ true → Together rate (suc index) (after h (AtRate rate) q) (held_framed options limit p f)
+    repeats : is_repeated last packet ≡ true → Together rate (suc index) (after h (AtRate rate) q) (held_framed options limit p f)
     repeats r =
         let none : p.bytes ≡ [] = ap (λ (b : Bool). frame_bytes b packet) r in
         let frames : frames_among p f.walk ≡ [] = ap (λ (bs : List ℕ). frames_in w bs) none ∙ no_frames w in
@@ -128,7 +129,7 @@ payload_together options rate n index rx clock limit counter packet h f is t fir
         (subst (λ (g : Held). Together rate (suc index) (after h (AtRate rate) q) g)
         (sym (no_frames_held options limit p f.tick (after_first f.held (AtRate rate) q (size_of q)))) one)))
 
-    goes_on : is_repeated counter packet ≡ false → Together rate (suc index) (after h (AtRate rate) q) (held_framed options limit p f)
+    goes_on : is_repeated last packet ≡ false → Together rate (suc index) (after h (AtRate rate) q) (held_framed options limit p f)
     goes_on r =
         let bytes : p.bytes ≡ frame_bytes false packet = ap (λ (b : Bool). frame_bytes b packet) r in
         let many : length p.bytes ≤ size = omega (arith, ap (λ (bs : List ℕ). length bs) bytes, frame_bytes_fewer packet) in
@@ -153,25 +154,25 @@ payload_together options rate n index rx clock limit counter packet h f is t fir
         (subst (λ (a : Arrival). Together rate (suc index) (after h (AtRate rate) q)
         (frames_held options (place_of limit p f.tick) (after_first f.held a q (size - left)) (frames_among p f.walk))) (sym is) one)
 
-    by : (b : Bool) → is_repeated counter packet ≡ b → Together rate (suc index) (after h (AtRate rate) q) (held_framed options limit p f)
+    by : (b : Bool) → is_repeated last packet ≡ b → Together rate (suc index) (after h (AtRate rate) q) (held_framed options limit p f)
     by true r = repeats r
     by false r = goes_on r
 
 -- The entry of a stream keeps the buffers `Together`.
-pub entry_together : (options : ViewOptions) (rate n index window : ℕ) (clock : Option PcrSample) (limit : ℕ) (counter : Option ℕ) (delayed : ℕ)
+pub entry_together : (options : ViewOptions) (rate n index window : ℕ) (clock : Option PcrSample) (limit : ℕ) (last : LastView) (delayed : ℕ)
     (packet : PacketView) (h : Held) (f : Framed) →
     options.arrival ≡ AtRate rate → Together rate n h f.held → n ≤ index → index < most_packets → length (unwrap_or packet.payload []) ≤ 184 →
-    Together rate (suc index) (after h options.arrival (arriving options index h.rx counter clock packet))
-    (framed_with options index window clock limit counter delayed packet f).held
-entry_together options rate n index window clock limit counter delayed packet h f is t first early small =
-    let one : Together rate (suc index) (after h (AtRate rate) (arriving options index f.held.rx counter clock packet))
-    (held_framed options limit (payload_of options index f.held.rx counter clock packet) f) =
-    payload_together options rate n index f.held.rx clock limit counter packet h f is t first early small in
-    let two : Together rate (suc index) (after h options.arrival (arriving options index h.rx counter clock packet))
-    (held_framed options limit (payload_of options index f.held.rx counter clock packet) f) =
-    subst (λ (a : Arrival). Together rate (suc index) (after h a (arriving options index h.rx counter clock packet))
-    (held_framed options limit (payload_of options index f.held.rx counter clock packet) f)) (sym is)
-    (subst (λ (r : ℕ). Together rate (suc index) (after h (AtRate rate) (arriving options index r counter clock packet))
-    (held_framed options limit (payload_of options index f.held.rx counter clock packet) f)) t.alike.rx one) in
-    subst (λ (g : Held). Together rate (suc index) (after h options.arrival (arriving options index h.rx counter clock packet)) g)
-    (sym (framed_held options index window clock limit counter delayed packet f)) two
+    Together rate (suc index) (after h options.arrival (arriving options index h.rx last clock packet))
+    (framed_with options index window clock limit last delayed packet f).held
+entry_together options rate n index window clock limit last delayed packet h f is t first early small =
+    let one : Together rate (suc index) (after h (AtRate rate) (arriving options index f.held.rx last clock packet))
+    (held_framed options limit (payload_of options index f.held.rx last clock packet) f) =
+    payload_together options rate n index f.held.rx clock limit last packet h f is t first early small in
+    let two : Together rate (suc index) (after h options.arrival (arriving options index h.rx last clock packet))
+    (held_framed options limit (payload_of options index f.held.rx last clock packet) f) =
+    subst (λ (a : Arrival). Together rate (suc index) (after h a (arriving options index h.rx last clock packet))
+    (held_framed options limit (payload_of options index f.held.rx last clock packet) f)) (sym is)
+    (subst (λ (r : ℕ). Together rate (suc index) (after h (AtRate rate) (arriving options index r last clock packet))
+    (held_framed options limit (payload_of options index f.held.rx last clock packet) f)) t.alike.rx one) in
+    subst (λ (g : Held). Together rate (suc index) (after h options.arrival (arriving options index h.rx last clock packet)) g)
+    (sym (framed_held options index window clock limit last delayed packet f)) two

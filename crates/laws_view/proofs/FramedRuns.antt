@@ -63,17 +63,17 @@ new_fits rate n step rx size (Some kind) f is =
 framed_fits : (options : ViewOptions) (rate n index window : ℕ) (clock : Option PcrSample) (packet : PacketView) (e : EntryState) (o : Option Framed)
     (f : Framed) → options.arrival ≡ AtRate rate →
     n ≤ index → index < most_packets → length (unwrap_or packet.payload []) ≤ 184 → ((g : Framed) → o ≡ Some g → Fits rate n e.held g) →
-    framed_after options index window clock e.limit e.counter e.delayed packet o ≡ Some f →
+    framed_after options index window clock e.limit e.last e.delayed packet o ≡ Some f →
     Fits rate (suc index) (after e.held options.arrival (arriving_at options index clock e packet)) f
 unfolding framed_after
 framed_fits options rate n index window clock packet e None f is first early small fits found = absurd (let no : ⊥ = cc in no)
 framed_fits options rate n index window clock packet e (Some g) f is first early small fits found =
-    let same : framed_with options index window clock e.limit e.counter e.delayed packet g ≡ f = cc in
+    let same : framed_with options index window clock e.limit e.last e.delayed packet g ≡ f = cc in
     let k = fits g refl in
     subst (λ (x : Framed). Fits rate (suc index) (after e.held options.arrival (arriving_at options index clock e packet)) x) same
     (record {
-      together = entry_together options rate n index window clock e.limit e.counter e.delayed packet e.held g is k.together first early small;
-      calm = calm_packet options index window clock e.limit e.counter e.delayed packet g k.calm;
+      together = entry_together options rate n index window clock e.limit e.last e.delayed packet e.held g is k.together first early small;
+      calm = calm_packet options index window clock e.limit e.last e.delayed packet g k.calm;
     })
 
 taken_fits : (options : ViewOptions) (rate n index window : ℕ) (clocks : ClockEntries) (packet : PacketView) (e : EntryState) (f : Framed) →

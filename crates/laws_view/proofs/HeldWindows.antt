@@ -47,9 +47,9 @@ views_of s e None = []
 views_of s e (Some packet) =
     if nat_eq e.pid packet.header.pid
     then (
-      is_unread (beginning_in e.counter packet),
+      is_unread (beginning_in e.last packet),
       entered e.held s.seen.options.arrival
-          (arriving s.seen.options s.seen.packets e.held.rx e.counter
+          (arriving s.seen.options s.seen.packets e.held.rx e.last
           (clock_with s.seen.options e.clock_pid s.seen.packets packet (clock_of s.seen.clocks e.clock_pid)) packet),
     ) ∷ []
     else []

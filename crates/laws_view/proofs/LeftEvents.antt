@@ -182,7 +182,7 @@ entering : (options : ViewOptions) (index : ℕ) (clock : Option PcrSample) (pla
 unfolding events_entered
 entering options index clock place e packet None = whole options place (arriving_at options index clock e packet) e.video e.held
 entering options index clock place e packet (Some f) =
-    payload options place e.limit (payload_at options index clock e.counter packet f) f.walk f.tick f.held
+    payload options place e.limit (payload_at options index clock e.last packet f) f.walk f.tick f.held
 
 busy : (options : ViewOptions) (place : Place) (buffer : BufferKind) (before after : BusyWatch) → Quiet (busy_ended options place buffer before after)
 unfolding fault_of rule_fault is_left is_other
@@ -207,8 +207,8 @@ ahead place (Some n) = refl
 entry : (options : ViewOptions) (index : ℕ) (clock : Option PcrSample) (e : EntryState) (packet : PacketView) →
     Quiet (entry_events options index clock e packet)
 entry options index clock e packet =
-    both _ _ (ahead (place_at index e) (ahead_by clock (beginning_in e.counter packet)))
-    (both _ _ (delayed options (place_at index e) (last_buffer e.video) e.limit (unit_stay options index clock e.limit e.counter packet))
+    both _ _ (ahead (place_at index e) (ahead_by clock (beginning_in e.last packet)))
+    (both _ _ (delayed options (place_at index e) (last_buffer e.video) e.limit (unit_stay options index clock e.limit e.last packet))
     (both _ _ (entering options index clock (place_at index e) e packet e.framed)
     (stays options (place_at index e) e.video (seen_held e) (held_after options index clock e packet e.framed))))
 

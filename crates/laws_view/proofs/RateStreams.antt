@@ -15,6 +15,7 @@ use Rattle.tstd.specs.PidPackets.{listed, packets_from, size_in}
 use Rattle.arrival.specs.declared.arrival.Arrival.{Arrival}
 use Rattle.arrival.specs.declared.arrival.Arrival.TheVariants.{Unknown, AtRate, OnLines}
 use Rattle.arrival.specs.Arrivals.{has_times}
+use Rattle.es_view.specs.LastPayloads.{no_payload}
 use Rattle.laws_view.specs.TimedPackets.{Timed, arriving_so}
 use Rattle.laws_view.specs.Times.{packet_times, times_among}
 use Rattle.laws_view.proofs.TimedPackets.{many_arrive}
@@ -193,7 +194,7 @@ as_whole request rate packets e w t is few =
     ap (λ (l : List Timed). stream_entering request e l (w.begun.first ∷ w.begun.later)) t.xs_are
     ∙ ap (λ (l : List Timed). stream_entering request e (arriving_so a pre) l) rest_is
     ∙ ap (λ (g : Followed). entering_among g (known_at_first f (arriving_so a pre)) (arriving_so a rest)) (followed_is a f pre same)
-    ∙ ap (λ (k : Before). entering_among f (record k { counter = None }) (arriving_so a rest)) (known_is a f nothing_known pre same)
+    ∙ ap (λ (k : Before). entering_among f (record k { last = no_payload }) (arriving_so a rest)) (known_is a f nothing_known pre same)
     ∙ entering_is a f (known_at_begin f pre) rest same in
     let h : Held = empty rate e.held.rx e.held.main.size in
     let vs_are : entered_by h (stream_entering request e w.begun.before (w.begun.first ∷ w.begun.later)) ≡ entered_each h a ps =

@@ -71,7 +71,7 @@ abbrev pub followed : ViewState → EntryState → Followed
 followed s e = record { options = s.seen.options; pid = e.pid; clock_pid = e.clock_pid; rx = e.held.rx }
 
 abbrev pub known : ViewState → EntryState → Before
-known s e = record { index = s.seen.packets; clock = clock_of s.seen.clocks e.clock_pid; counter = e.counter }
+known s e = record { index = s.seen.packets; clock = clock_of s.seen.clocks e.clock_pid; last = e.last }
 
 clock_more : (options : ViewOptions) (pid index : ℕ) (packet : PacketView) (clocks : ClockEntries) (o : Option PcrSample) →
     clock_of (with_sample clocks packet.header.pid o) pid ≡ (if nat_eq pid packet.header.pid then option_or o (clock_of clocks pid) else clock_of clocks pid)
@@ -176,7 +176,7 @@ packet_steps s s' packet window e options packets clocks = by (nat_eq e.pid pack
     now = clocks_after s.seen.clocks s.seen.options.arrival s.seen.packets packet
 
     p : Arriving
-    p = arriving s.seen.options s.seen.packets e.held.rx e.counter (clock_of now e.clock_pid) packet
+    p = arriving s.seen.options s.seen.packets e.held.rx e.last (clock_of now e.clock_pid) packet
 
     taken : EntryState
     taken = entry_taken s.seen.options s.seen.packets window now packet e
@@ -193,9 +193,9 @@ packet_steps s s' packet window e options packets clocks = by (nat_eq e.pid pack
       then_known = rw (h, packets, clocks, is) refl;
       size = rw h alike.size;
       held = rw (h, is) refl;
-      excesses = rw h (rw (sym is) (tally_excesses e.tally window (is_unread (beginning_in e.counter packet)) (entered e.held s.seen.options.arrival p)));
-      units = rw h (rw (sym is) (tally_units e.tally window (is_unread (beginning_in e.counter packet)) (entered e.held s.seen.options.arrival p)).0);
-      late = rw h (rw (sym is) (tally_units e.tally window (is_unread (beginning_in e.counter packet)) (entered e.held s.seen.options.arrival p)).1);
+      excesses = rw h (rw (sym is) (tally_excesses e.tally window (is_unread (beginning_in e.last packet)) (entered e.held s.seen.options.arrival p)));
+      units = rw h (rw (sym is) (tally_units e.tally window (is_unread (beginning_in e.last packet)) (entered e.held s.seen.options.arrival p)).0);
+      late = rw h (rw (sym is) (tally_units e.tally window (is_unread (beginning_in e.last packet)) (entered e.held s.seen.options.arrival p)).1);
     }
     by false h = record {
       same_stream = rw (h, options) refl;

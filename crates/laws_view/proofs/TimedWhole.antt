@@ -9,6 +9,7 @@ use Rattle.clock27.specs.Fullness.{fullness}
 use Rattle.clock27.specs.Peak.{IsPeak}
 use Rattle.ts_packet.specs.Reading.{packet_at}
 use Rattle.arrival.specs.Arrivals.{step_of}
+use Rattle.es_view.specs.LastPayloads.{no_payload}
 use Rattle.laws_view.specs.Leads.{AllLead}
 use Rattle.laws_view.specs.TimedPackets.{Timed}
 use Rattle.laws_view.specs.Times.{times_among}
@@ -196,10 +197,10 @@ assemble_by request step packets e some order few b =
     let f_is : followed s first ≡ f =
     followed_is s.seen.options f.options first.pid f.pid first.clock_pid f.clock_pid first.held.rx f.rx knows.options (sym b.grown.pid ∙ sym stay.pid)
     (sym b.grown.clock_pid ∙ sym stay.clock_pid) (sym b.grown.rx ∙ sym stay.rx) in
-    let counter : first.counter ≡ None = ap (λ (x : EntryState). x.counter) new in
+    let last : first.last ≡ no_payload = ap (λ (x : EntryState). x.last) new in
     let clock : clock_of s.seen.clocks first.clock_pid ≡ k.clock =
     ap (λ (q : ℕ). clock_of s.seen.clocks q) (sym b.grown.clock_pid ∙ sym stay.clock_pid) ∙ sym knows.clock in
-    let k_is : known s first ≡ k = rw (sym knows.index, clock, counter) refl in
+    let k_is : known s first ≡ k = rw (sym knows.index, clock, last) refl in
     let xs : List Entering = stream_entering request e b.before rest in
     let same : entering_among (followed s first) (known s first) rest ≡ xs =
     ap (λ (x : Followed). entering_among x (known s first) rest) f_is ∙ ap (λ (x : Before). entering_among f x rest) k_is in

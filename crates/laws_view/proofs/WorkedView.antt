@@ -23,7 +23,8 @@ use Rattle.es_events.specs.TraceEvents.{main_point_if, point_of, video_trace_eve
 use Rattle.es_events.specs.VideoEvents.{elementary_late_events, late_events_by, reported_cause, video_closing_events, video_ended_events}
 use Rattle.es_events.specs.VideoFigures.{figures_of, is_video_good, limits_of, sizes_if}
 use Rattle.es_events.specs.VideoTallies.{with_late_if, with_video_row}
-use Rattle.es_view.specs.Entries.{ahead_by, due_by, events_entered, framed_after, held_after, held_in, is_unread, last_buffer, parts_delayed, same_counter}
+use Rattle.es_view.specs.Entries.{ahead_by, due_by, events_entered, framed_after, held_after, held_in, is_unread, last_buffer, parts_delayed}
+use Rattle.es_view.specs.LastPayloads.{is_announced as last_is_announced, same_counter}
 use Rattle.es_view.specs.Entries.{tally_in, video_tally_after}
 use Rattle.es_view.specs.EntryFrames.{frames_after, frames_events, frames_held, front_count, is_leak_idle, leak_busy_of, leak_ended, leak_under_way}
 use Rattle.es_view.specs.EntryFrames.{unit_after, unit_tick, walk_begun}
@@ -144,7 +145,7 @@ unfolding has_times lead_of step_of times_at line_in clock_moment_by step_after 
     place_of sample_at clocks_sample_in with_sample ahead_events late_events busy_closing delayed_events overstay overstay_if entry_stays_place_at has_access
     has_alignment is_aligned time_since with_beginning with_unit_if main_point_if point_of video_trace_events elementary_late_events late_events_by
     reported_cause video_closing_events video_ended_events figures_of is_video_good limits_of sizes_if with_late_if with_video_row ahead_by due_by
-    events_entered framed_after held_after held_in is_unread last_buffer parts_delayed same_counter tally_in video_tally_after frames_after frames_events
+    events_entered framed_after held_after held_in is_unread last_buffer parts_delayed last_is_announced same_counter tally_in video_tally_after frames_after frames_events
     frames_held front_count is_leak_idle leak_busy_of leak_ended leak_under_way unit_after unit_tick walk_begun main_held buffer_fault fault_of input_fault
     kind_of_cause excess_kind owner_of rule_fault of_coding first_sixteen private_at private_in data_at five_at flags_at header_at pts_at pts_dts_at stamp_at stamps_at
     start_at has_flags bodiless bytes_without_body by_break by_role ended found_appended found_at found_if found_or_cut found_within last_bytes last_bytes_by

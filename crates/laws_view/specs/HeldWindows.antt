@@ -18,7 +18,7 @@ use Rattle.laws_view.specs.WindowLows.{HasPayload, SaysLow, still_held}
 
 -- what a view knows of a stream before the packets that come next
 abbrev pub known_then : ViewState → EntryState → Before
-known_then s e = record { index = s.seen.packets; clock = clock_of s.seen.clocks e.clock_pid; counter = e.counter }
+known_then s e = record { index = s.seen.packets; clock = clock_of s.seen.clocks e.clock_pid; last = e.last }
 
 -- 1. Packets that arrive in any way
 

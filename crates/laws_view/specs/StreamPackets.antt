@@ -12,7 +12,8 @@ use Rattle.tstd_rows.specs.Entering.{EnteredView, after, entered}
 use Rattle.tstd_rows.specs.declared.arriving.Arriving.{Arriving}
 use Rattle.es_events.specs.declared.view_options.ViewOptions.{ViewOptions}
 use Rattle.es_events.specs.Clocks.{place_of, sample_in}
-use Rattle.es_view.specs.Entries.{arriving, counter_after}
+use Rattle.es_view.specs.Entries.{arriving}
+use Rattle.es_view.specs.LastPayloads.{LastView, kept}
 
 -- packets from this index on enter no buffer: all packets before it lie in the first 2^40 bytes
 abbrev pub most_packets : ℕ
@@ -25,11 +26,11 @@ pub record Followed : Type 0 where
   pub clock_pid : ℕ
   pub rx : ℕ
 
--- the state before a packet: its index, the program's last clock reference, and the counter of the stream's last packet with a payload
+-- the state before a packet: its index, the program's last clock reference, and the stream's last payload
 pub record Before : Type 0 where
   pub index : ℕ
   pub clock : Option PcrSample
-  pub counter : Option ℕ
+  pub last : LastView
 
 -- a packet that can be read and has no transport_error_indicator; any other packet counts as none
 unfoldable pub sound_packet : Result PacketView PacketError → Option PacketView
@@ -45,11 +46,11 @@ clock_with options clock_pid index packet clock = if nat_eq clock_pid packet.hea
 
 -- the state after a packet
 unfoldable pub known_after : Followed → Before → Option PacketView → Before
-known_after s b None = record { index = b.index + 1; clock = b.clock; counter = b.counter }
+known_after s b None = record { index = b.index + 1; clock = b.clock; last = b.last }
 known_after s b (Some packet) = record {
   index = b.index + 1;
   clock = clock_with s.options s.clock_pid b.index packet b.clock;
-  counter = if nat_eq s.pid packet.header.pid then counter_after b.counter packet else b.counter;
+  last = if nat_eq s.pid packet.header.pid then kept b.last packet else b.last;
 }
 
 -- the packet as the stream's buffers see it, if it is on the stream's PID; a clock reference in it is used for it
@@ -57,7 +58,7 @@ unfoldable pub seen_in : Followed → Before → Option PacketView → List Arri
 seen_in s b None = []
 seen_in s b (Some packet) =
     if nat_eq s.pid packet.header.pid
-    then arriving s.options b.index s.rx b.counter (clock_with s.options s.clock_pid b.index packet b.clock) packet ∷ []
+    then arriving s.options b.index s.rx b.last (clock_with s.options s.clock_pid b.index packet b.clock) packet ∷ []
     else []
 
 -- all packets of the stream among these

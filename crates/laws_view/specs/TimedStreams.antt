@@ -10,6 +10,7 @@ use Rattle.tstd_rows.specs.TransportLaws.{Rises}
 use Rattle.arrival.specs.declared.arrival.Arrival.{Arrival}
 use Rattle.arrival.specs.declared.arrival.Arrival.TheVariants.{Unknown, AtRate}
 use Rattle.arrival.specs.Arrivals.{step_of}
+use Rattle.es_view.specs.LastPayloads.{no_payload}
 use Rattle.laws_view.specs.Leads.{AllLead}
 use Rattle.laws_view.specs.TimedPackets.{Timed, arriving_so, timed_packets}
 use Rattle.laws_view.specs.Times.{times_among}
@@ -72,7 +73,7 @@ entered_by h (x ∷ xs) = entered h x.arrival x.packet ∷ entered_by (after h x
 
 -- the packets of a stream from the packet where its buffers begin; before that packet no counter is known
 abbrev pub known_at_first : Followed → List Timed → Before
-known_at_first f before = record (known_by f nothing_known before) { counter = None }
+known_at_first f before = record (known_by f nothing_known before) { last = no_payload }
 
 abbrev pub stream_entering : RequestView → EntryState → List Timed → List Timed → List Entering
 stream_entering request e before packets =

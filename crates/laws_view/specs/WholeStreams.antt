@@ -32,16 +32,17 @@ use Rattle.es_events.specs.VideoEvents.{video_closing_events}
 use Rattle.es_events.specs.VideoFigures.{figures_of}
 use Rattle.ts_report.specs.StreamTables.{beginning, stream_buffers}
 use Rattle.ts_report.specs.Views.{ViewState, after_all, start}
+use Rattle.es_view.specs.LastPayloads.{no_payload}
 use Rattle.laws_view.specs.StreamUnits.{all_units, units_ended}
 use Rattle.laws_view.specs.StreamPackets.{Before, Followed, after_each, entered_each, known_after_all, most_packets, seen_among, sound_packet}
 
 -- the state before a stream's first packet
 abbrev pub nothing_known : Before
-nothing_known = record { index = 0; clock = None; counter = None }
+nothing_known = record { index = 0; clock = None; last = no_payload }
 
 -- the state before the packet where buffers begin: how many packets come before it, the program's last clock reference, and no counter
 abbrev pub known_at_begin : Followed → List (List ℕ) → Before
-known_at_begin f before = record (known_after_all f nothing_known before) { counter = None }
+known_at_begin f before = record (known_after_all f nothing_known before) { last = no_payload }
 
 abbrev pub followed : RequestView → EntryState → Followed
 followed request e = record { options = request.options; pid = e.pid; clock_pid = e.clock_pid; rx = e.held.rx }

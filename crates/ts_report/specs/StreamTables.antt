@@ -21,6 +21,7 @@ use Rattle.ts_watch.specs.Choices.{ChoiceView, buffers_for, chosen, frames_for, 
 use Rattle.es_events.specs.Clocks.{ClockEntries, clock_of}
 use Rattle.es_view.specs.Entries.{EntryState, Framed, IsEntry, end_events, entry_after, entry_events, traces_of, units_of}
 use Rattle.es_view.specs.EntryFrames.{unit_in}
+use Rattle.es_view.specs.LastPayloads.{no_payload}
 use Rattle.sound_frames.specs.declared.frame_headers.FrameKind.{FrameKind}
 use Rattle.sound_frames.specs.FrameWalks.{no_walk}
 use Rattle.es_buffers.specs.Stays.{longest_stay}
@@ -89,7 +90,7 @@ abbrev pub new_entry : ViewOptions → ℕ → ℕ → Buffers → Option VideoR
 new_entry options pid clock_pid buffers rates kind limit = record {
   pid = pid;
   clock_pid = clock_pid;
-  counter = None;
+  last = no_payload;
   held = empty (step_of options.arrival) buffers.rx buffers.main;
   tally = none_counted;
   video = sizes_if (step_of options.arrival) buffers.rx rates;

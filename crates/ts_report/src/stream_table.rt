@@ -22,6 +22,7 @@ use es_events::video_tally::VideoTally;
 use es_events::view_options::ViewOptions;
 use es_view::counted_buffers::CountedBuffers;
 use es_view::entry_frames::{EntryFrames, unit_in};
+use es_view::last_payload::LastPayload;
 use es_view::stream_entry::StreamEntry;
 use events::Event;
 use pid_map::PidMap;
@@ -101,10 +102,11 @@ fn new_entry(
 {
     let mut held = StreamBuffers::new(alloc, &options.arrival, buffers.rx, u64::from(buffers.main));
     view_video_if(&mut held, alloc, rates);
+    let last = LastPayload::new(alloc);
     StreamEntry {
         pid,
         clock_pid,
-        counter: None,
+        last,
         seen: CountedBuffers {
             buffers: held,
             tally: Tally::new(),

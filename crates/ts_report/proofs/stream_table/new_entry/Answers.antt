@@ -15,7 +15,7 @@ returns c =
     record {
       pid = refl;
       clock_pid = refl;
-      counter = refl;
+      last = c.new-last.ensures;
       held = subst (λ (h : Held). IsHeld c.view_video_if.new.buffers h) (sym (new_held (empty rate rx c.args.buffers.main) c.args.kind))
           (c.view_video_if.ensures.held (empty rate rx c.args.buffers.main) begun);
       tally = c.new.ensures ∙ sym (new_tally (empty rate rx c.args.buffers.main) c.args.kind);
