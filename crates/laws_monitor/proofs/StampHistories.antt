@@ -19,13 +19,13 @@ abbrev pid_at : PlacedPacket → ℕ
 pid_at p = p.packet.header.pid
 
 abbrev is_on : ℕ → PlacedPacket → Bool
-is_on pid p = has_pts p.packet && (p.packet.header.pid == pid)
+is_on pid p = has_pts p.said p.packet && (p.packet.header.pid == pid)
 
 abbrev last_place : ℕ → List PlacedPacket → Option ℕ
 last_place pid earlier = option_map (λ (p : PlacedPacket). p.place) (find (is_on pid) earlier)
 
 -- the last place of a PID after a packet, by what is known of the packet
-last_by : (pid : ℕ) (p : PlacedPacket) (earlier : List PlacedPacket) (t u : Bool) → has_pts p.packet ≡ t → (pid_at p == pid) ≡ u →
+last_by : (pid : ℕ) (p : PlacedPacket) (earlier : List PlacedPacket) (t u : Bool) → has_pts p.said p.packet ≡ t → (pid_at p == pid) ≡ u →
     last_place pid (p ∷ earlier) ≡ option_map (λ (q : PlacedPacket). q.place) (cond (t && u) (Some p) (find (is_on pid) earlier))
 last_by pid p earlier t u e f =
     ap₂ (λ (a b : Bool). option_map (λ (q : PlacedPacket). q.place) (cond (a && b) (Some p) (find (is_on pid) earlier))) e f
@@ -33,15 +33,15 @@ last_by pid p earlier t u e f =
 abbrev with_place : StampState → PlacedPacket → StampState
 with_place s p = record { timing = s.timing; lasts = insert_entry nat_eq s.lasts p.packet.header.pid p.place }
 
-taken_is : (s : StampState) (p : PlacedPacket) (t : Bool) → has_pts p.packet ≡ t → taken s p.place p.packet ≡ cond t (with_place s p) s
+taken_is : (s : StampState) (p : PlacedPacket) (t : Bool) → has_pts p.said p.packet ≡ t → taken s p.place p.said p.packet ≡ cond t (with_place s p) s
 taken_is s p t e = ap (λ (u : Bool). cond u (with_place s p) s) e
 
 place_after : (pid : ℕ) (s : StampState) (p : PlacedPacket) (earlier : List PlacedPacket) → lookup (nat_eq pid) s.lasts ≡ last_place pid earlier →
-    lookup (nat_eq pid) (taken s p.place p.packet).lasts ≡ last_place pid (p ∷ earlier)
-place_after pid s p earlier h = by (has_pts p.packet) refl (pid_at p == pid) refl
+    lookup (nat_eq pid) (taken s p.place p.said p.packet).lasts ≡ last_place pid (p ∷ earlier)
+place_after pid s p earlier h = by (has_pts p.said p.packet) refl (pid_at p == pid) refl
   where
-    by : (t : Bool) → has_pts p.packet ≡ t → (u : Bool) → (pid_at p == pid) ≡ u →
-        lookup (nat_eq pid) (taken s p.place p.packet).lasts ≡ last_place pid (p ∷ earlier)
+    by : (t : Bool) → has_pts p.said p.packet ≡ t → (u : Bool) → (pid_at p == pid) ≡ u →
+        lookup (nat_eq pid) (taken s p.place p.said p.packet).lasts ≡ last_place pid (p ∷ earlier)
     by false e u f = ap (λ (d : StampState). lookup (nat_eq pid) d.lasts) (taken_is s p false e) ∙ h ∙ sym (last_by pid p earlier false u e f)
     by true e true f =
         ap (λ (d : StampState). lookup (nat_eq pid) d.lasts) (taken_is s p true e)
@@ -58,8 +58,8 @@ unfolding state_of
 places timing pid [] = refl
 places timing pid (p ∷ earlier) = place_after pid (state_of timing earlier) p earlier (places timing pid earlier)
 
-timing_stays : (s : StampState) (p : PlacedPacket) → (taken s p.place p.packet).timing ≡ s.timing
-timing_stays s p = by (has_pts p.packet)
+timing_stays : (s : StampState) (p : PlacedPacket) → (taken s p.place p.said p.packet).timing ≡ s.timing
+timing_stays s p = by (has_pts p.said p.packet)
   where
     by : (t : Bool) → (cond t (with_place s p) s).timing ≡ s.timing
     by true = refl
@@ -116,14 +116,14 @@ module _ (timing : TableTiming) (item : PlacedPacket) (earlier : List PlacedPack
   record LateItem : Type 0 where
     before : PlacedPacket
     found : find (same_stamps item) earlier ≡ Some before
-    stamped : has_pts item.packet ≡ true
+    stamped : has_pts item.said item.packet ≡ true
     long : GREATEST_PTS_INTERVAL < time_between timing (item.place - before.place)
     named : error ≡ late timing item before.place
 
   late_item : error_after timing earlier item ≡ Some error → LateItem
-  late_item e = by (has_pts item.packet) refl e
+  late_item e = by (has_pts item.said item.packet) refl e
     where
-      by : (t : Bool) → has_pts item.packet ≡ t →
+      by : (t : Bool) → has_pts item.said item.packet ≡ t →
           cond t (too_late before_item.timing (pid_at item) item.index item.place (lookup (nat_eq (pid_at item)) before_item.lasts)) None ≡ Some error →
           LateItem
       by false f g = absurd cc

@@ -45,6 +45,7 @@ use Rattle.pid_times.specs.Gaps.{GapState, gap_at}
 use Rattle.pid_times.specs.GapEvents.{gap_event_if}
 use Rattle.pid_times.specs.Watched.{is_watched}
 use Rattle.ts_watch.specs.PidLabels.{label_of}
+use Rattle.ts_watch.specs.StampPids.{said}
 use Rattle.ts_watch.specs.TableEvents.{TimesState, begin_events, check_word_event, check_word_events, distance_events, error_events as table_error_events}
 use Rattle.ts_watch.specs.TableEvents.{finding_events, findings_events, is_bad, other_events, section_in, soon_events, whole_in, with_finding}
 use Rattle.ts_report.specs.Seen.{SeenState, cause_of, clock_errors, counter_events, counter_events_by, next_window, refused_events, report_on, timing_of}
@@ -199,10 +200,11 @@ unfolding pts_events fault_in
 pts_quiet None = refl
 pts_quiet (Some e) = refl
 
-stamps_quiet : (stamps : StampState) (index : ℕ) (place : Option ℕ) (packet : PacketView) → Quiet (stamp_events stamps index place packet)
+stamps_quiet : (stamps : StampState) (index : ℕ) (place : Option ℕ) (named : NamedView) (packet : PacketView) →
+    Quiet (stamp_events stamps index place named packet)
 unfolding stamp_events
-stamps_quiet stamps index None packet = refl
-stamps_quiet stamps index (Some place) packet = pts_quiet (stamping.error_at stamps index place packet)
+stamps_quiet stamps index None named packet = refl
+stamps_quiet stamps index (Some place) named packet = pts_quiet (stamping.error_at stamps index place (said named packet.header.pid) packet)
 
 scrambled_quiet : (index : ℕ) (named : NamedView) (packet : PacketView) → Quiet (scrambled_events index named packet)
 unfolding fault_in
@@ -221,7 +223,7 @@ gaps_quiet gaps index (Some place) named pid = gap_quiet named (gap_at gaps pid 
 
 rules_quiet : (s : RuleState) (arrival : Arrival) (index : ℕ) (named : NamedView) (packet : PacketView) → Quiet (packet_events s arrival index named packet)
 rules_quiet s arrival index named packet =
-    join (stamp_events s.stamps index (place_at arrival index) packet) _ (stamps_quiet s.stamps index (place_at arrival index) packet)
+    join (stamp_events s.stamps index (place_at arrival index) named packet) _ (stamps_quiet s.stamps index (place_at arrival index) named packet)
     (join (gap_events s.gaps index (place_at arrival index) named packet.header.pid) (scrambled_events index named packet)
     (gaps_quiet s.gaps index (place_at arrival index) named packet.header.pid) (scrambled_quiet index named packet))
 

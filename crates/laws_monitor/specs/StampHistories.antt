@@ -9,20 +9,21 @@ use Rattle.tr101290.specs.declared.stamps.PtsError.{PtsError}
 use Rattle.tr101290.specs.declared.stamps.TheConstants.{GREATEST_PTS_INTERVAL}
 use Rattle.laws_monitor.specs.Histories.{Follows, given_by}
 
--- a packet, with its index and its place in time
+-- a packet, with its index, its place in time, and whether the tables say that the time stamps of its PID have to repeat
 pub record PlacedPacket : Type 0 where
   pub index : ℕ
   pub place : ℕ
+  pub said : Option Bool
   pub packet : PacketView
 
 -- 1. The errors of a history
 
 unfoldable pub state_of : TableTiming → List PlacedPacket → StampState
 state_of timing [] = no_stamp timing
-state_of timing (p ∷ earlier) = taken (state_of timing earlier) p.place p.packet
+state_of timing (p ∷ earlier) = taken (state_of timing earlier) p.place p.said p.packet
 
 abbrev pub error_after : TableTiming → List PlacedPacket → PlacedPacket → Option PtsError
-error_after timing earlier p = error_at (state_of timing earlier) p.index p.place p.packet
+error_after timing earlier p = error_at (state_of timing earlier) p.index p.place p.said p.packet
 
 abbrev pub errors_of : TableTiming → List PlacedPacket → List PtsError
 errors_of timing packets = given_by (error_after timing) packets
@@ -31,14 +32,14 @@ errors_of timing packets = given_by (error_after timing) packets
 
 -- a packet of the PID in which a PES packet of audio or video with a PTS begins
 abbrev pub same_stamps : PlacedPacket → PlacedPacket → Bool
-same_stamps a b = has_pts b.packet && (b.packet.header.pid == a.packet.header.pid)
+same_stamps a b = has_pts b.said b.packet && (b.packet.header.pid == a.packet.header.pid)
 
 -- an error: a PTS comes more than 700 ms after the PTS before it of its PID
 pub record IsLateStamp (timing : TableTiming) (packets : List PlacedPacket) (error : PtsError) : Type 0 where
   pub before : PlacedPacket
   pub item : PlacedPacket
   pub follows : Follows same_stamps packets before item
-  pub stamped : has_pts item.packet ≡ true
+  pub stamped : has_pts item.said item.packet ≡ true
   pub long : GREATEST_PTS_INTERVAL < time_between timing (item.place - before.place)
   pub named : error ≡ record {
     pid = item.packet.header.pid;

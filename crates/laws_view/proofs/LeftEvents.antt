@@ -59,6 +59,7 @@ use Rattle.ts_watch.specs.Choices.{ChoiceView, takes}
 use Rattle.pid_times.specs.ClockWindows.{ClocksState}
 use Rattle.pid_times.specs.ClockWindows as clocks_by_window
 use Rattle.ts_watch.specs.PidLabels.{label_of}
+use Rattle.ts_watch.specs.StampPids.{said}
 use Rattle.pid_times.specs.Gaps.{GapState, gap_at}
 use Rattle.pid_times.specs.GapEvents.{gap_event_if}
 use Rattle.pid_times.specs.Watched.{is_watched}
@@ -276,10 +277,10 @@ unfolding pts_events fault_of rule_fault is_left is_other
 pts None = refl
 pts (Some e) = refl
 
-stamped : (stamps : StampState) (index : ℕ) (o : Option ℕ) (packet : PacketView) → Quiet (stamp_events stamps index o packet)
+stamped : (stamps : StampState) (index : ℕ) (o : Option ℕ) (named : NamedView) (packet : PacketView) → Quiet (stamp_events stamps index o named packet)
 unfolding stamp_events
-stamped stamps index None packet = refl
-stamped stamps index (Some place) packet = pts (error_at stamps index place packet)
+stamped stamps index None named packet = refl
+stamped stamps index (Some place) named packet = pts (error_at stamps index place (said named packet.header.pid) packet)
 
 paused : (named : NamedView) (o : Option ClockFault) → Quiet (gap_event_if named o)
 unfolding gap_event_if fault_of rule_fault is_left is_other
@@ -294,7 +295,7 @@ pauses gaps index (Some place) named pid = paused named (gap_at gaps pid index p
 pub of_rules : (s : RuleState) (arrival : Arrival) (index : ℕ) (named : NamedView) (packet : PacketView) → Quiet (packet_events s arrival index named packet)
 unfolding fault_of rule_fault is_left is_other
 of_rules s arrival index named packet =
-    both (stamp_events s.stamps index (place_in arrival index) packet) _ (stamped s.stamps index (place_in arrival index) packet)
+    both (stamp_events s.stamps index (place_in arrival index) named packet) _ (stamped s.stamps index (place_in arrival index) named packet)
     (both (gap_events s.gaps index (place_in arrival index) named packet.header.pid) (scrambled_events index named packet)
     (pauses s.gaps index (place_in arrival index) named packet.header.pid)
     (guarded (is_scrambled packet && is_map (label_of named packet.header.pid).coding)

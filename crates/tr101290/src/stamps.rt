@@ -60,27 +60,30 @@ fn is_stamped(stamps: &Stamps) -> bool
 }
 
 #[tactic(auto, unfolding(crate::specs::Stamps::by_header))]
-fn by_header(read: Result<(PesHeader, usize), PesError>) -> bool
-    ensures { result ≡ spec.by_header read }
+fn by_header(said: Option<bool>, read: Result<(PesHeader, usize), PesError>) -> bool
+    ensures { result ≡ spec.by_header said read }
 {
     match read {
         Err(_) => false,
-        Ok((header, _)) => is_timed_id(header.id) && is_stamped(&header.stamps),
+        Ok((header, _)) => said.unwrap_or(is_timed_id(header.id)) && is_stamped(&header.stamps),
+    }
+}
+
+#[tactic(auto, unfolding(crate::specs::Stamps::by_payload))]
+fn by_payload(said: Option<bool>, packet: &Packet<'_>) -> bool
+    ensures { result ≡ spec.by_payload said (packet_view packet.now).payload }
+{
+    match packet.payload {
+        None => false,
+        Some(payload) => by_header(said, read_header(payload)),
     }
 }
 
 // Returns whether a PES packet of audio or video with a PTS begins in a packet.
-#[tactic(auto, unfolding(crate::specs::Stamps::by_payload))]
-fn has_pts(packet: &Packet<'_>) -> bool
-    ensures { result ≡ spec.has_pts (packet_view packet.now) }
+fn has_pts(said: Option<bool>, packet: &Packet<'_>) -> bool
+    ensures { result ≡ spec.has_pts said (packet_view packet.now) }
 {
-    if !packet.header.payload_unit_start_indicator {
-        return false;
-    }
-    match packet.payload {
-        None => false,
-        Some(payload) => by_header(read_header(payload)),
-    }
+    packet.header.payload_unit_start_indicator && by_payload(said, packet)
 }
 
 #[tactic(auto, unfolding(crate::specs::Stamps::too_late))]
@@ -127,19 +130,22 @@ impl<A: Allocator + Copy> PtsWatch<A> {
         }
     }
 
-    /// Takes the packet at an index and a place, and returns the error of its PTS, if the PTS is too late.
+    /// Takes the packet at an index and a place, and returns the error of its PTS, if the PTS is too late. The tables
+    /// may say whether the time stamps of its PID have to repeat; if they do not, its stream_id says.
     ///
     /// After an `AllocError` the watch describes no stream: drop it.
     pub fn take(
         &mut self,
         index: u64,
         place: u64,
+        said: Option<bool>,
         packet: &Packet<'_>,
     ) -> Result<Option<PtsError>, AllocError>
-        ensures stamps { OnOk result (self.new ≡ spec.taken self.old place (packet_view packet.now)) }
-        ensures error { IfOk result (λ error. error ≡ spec.error_at self.old index place (packet_view packet.now)) }
+        ensures stamps { OnOk result (self.new ≡ spec.taken self.old place said (packet_view packet.now)) }
+        ensures error { IfOk result (λ error. error
+            ≡ spec.error_at self.old index place said (packet_view packet.now)) }
     {
-        if !has_pts(packet) {
+        if !has_pts(said, packet) {
             return Ok(None);
         }
         let pid = packet.header.pid;

@@ -3,6 +3,7 @@ pub mod WindowEvents
 pub mod Choices
 pub mod ClockEvents
 pub mod SectionPids
+pub mod StampPids
 pub mod TableNames
 pub mod TableEvents
 pub mod RuleEvents

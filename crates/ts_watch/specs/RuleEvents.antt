@@ -28,6 +28,7 @@ use Rattle.pid_times.specs.GapEvents.{gap_event_if}
 use Rattle.ts_watch.specs.ClockEvents.{inaccuracy_events, variable_events}
 use Rattle.es_events.specs.Clocks.{first_byte}
 use Rattle.ts_watch.specs.PidLabels.{label_of}
+use Rattle.ts_watch.specs.StampPids.{said}
 use Rattle.ts_tables.specs.NamedStreams.{NamedView}
 
 -- the last PTS and the last packet of each PID, the judge of the rate, and the first scrambled packet
@@ -94,17 +95,17 @@ place_at (OnLines lines) index = Some (moment_on lines (first_byte index))
 abbrev pub with_stamps : RuleState → StampState → RuleState
 with_stamps s stamps = record { stamps = stamps; gaps = s.gaps; judge = s.judge; scrambled = s.scrambled }
 
-unfoldable pub stamps_by : StampState → Option ℕ → PacketView → StampState
-stamps_by stamps None packet = stamps
-stamps_by stamps (Some place) packet = stamping.taken stamps place packet
+unfoldable pub stamps_by : StampState → Option ℕ → NamedView → PacketView → StampState
+stamps_by stamps None named packet = stamps
+stamps_by stamps (Some place) named packet = stamping.taken stamps place (said named packet.header.pid) packet
 
 unfoldable pub pts_events : Option PtsError → List Event
 pts_events None = []
 pts_events (Some e) = found.ClockFault kinds.PtsRepetition (record { pid = e.pid; packet = e.packet; value = e.value; limit = e.limit }) ∷ []
 
-unfoldable pub stamp_events : StampState → ℕ → Option ℕ → PacketView → List Event
-stamp_events stamps index None packet = []
-stamp_events stamps index (Some place) packet = pts_events (error_at stamps index place packet)
+unfoldable pub stamp_events : StampState → ℕ → Option ℕ → NamedView → PacketView → List Event
+stamp_events stamps index None named packet = []
+stamp_events stamps index (Some place) named packet = pts_events (error_at stamps index place (said named packet.header.pid) packet)
 
 -- 3. Times without a packet of a PID
 
@@ -140,16 +141,16 @@ first_scrambled None index packet = if is_scrambled packet then Some (record { p
 
 -- 5. A packet
 
-abbrev pub taken : RuleState → Arrival → ℕ → PacketView → RuleState
-taken s arrival index packet = record {
-  stamps = stamps_by s.stamps (place_at arrival index) packet;
+abbrev pub taken : RuleState → Arrival → ℕ → NamedView → PacketView → RuleState
+taken s arrival index named packet = record {
+  stamps = stamps_by s.stamps (place_at arrival index) named packet;
   gaps = gaps_by s.gaps (place_at arrival index) packet.header.pid;
   judge = s.judge;
   scrambled = first_scrambled s.scrambled index packet;
 }
 
 abbrev pub packet_events : RuleState → Arrival → ℕ → NamedView → PacketView → List Event
-packet_events s arrival index named packet = stamp_events s.stamps index (place_at arrival index) packet
+packet_events s arrival index named packet = stamp_events s.stamps index (place_at arrival index) named packet
     ++ (gap_events s.gaps index (place_at arrival index) named packet.header.pid ++ scrambled_events index named packet)
 
 -- 6. At the end: the held errors of accuracy, and an event if packets are scrambled without a CAT

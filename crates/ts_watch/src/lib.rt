@@ -7,6 +7,7 @@ pub mod clock_events;
 mod pid_labels;
 pub mod rule_watch;
 mod section_pids;
+mod stamp_pids;
 pub mod system_events;
 pub mod table_names;
 pub mod table_watch;

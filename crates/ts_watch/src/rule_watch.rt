@@ -5,6 +5,7 @@ ghost use Rattle.ts_watch.specs.RuleEvents as spec;
 
 use crate::clock_events::{push_inaccuracies, push_variable_if};
 use crate::pid_labels::label_of;
+use crate::stamp_pids::said;
 use arrival::Arrival;
 use es_events::clocks::first_byte;
 use events::{ClockFault, Event, FaultKind, PidName, RuleEvent, ScrambledPacket};
@@ -220,26 +221,48 @@ impl RuleWatch {
         }
     }
 
+    // Takes the PTS of the packet at an index and a place, if it has one, and appends its error. Only a packet in which
+    // a PES packet begins has one.
+    #[tactic(auto, unfolding(crate::specs::RuleEvents::stamps_by, crate::specs::RuleEvents::stamp_events, crate::specs::RuleEvents::pts_events))]
+    fn take_placed(
+        &mut self,
+        index: u64,
+        place: u64,
+        named: &NamedStreams,
+        packet: &Packet<'_>,
+        events: &mut Vec<Event>,
+    ) -> Result<(), AllocError>
+        ensures watch { OnOk result (self.new ≡ spec.with_stamps self.old
+            (spec.stamps_by self.old.stamps (Some place) named.now (packet_view packet.now))) }
+        ensures found { OnOk result (events.new.items ≡ events.old.items
+            ++ spec.stamp_events self.old.stamps index (Some place) named.now (packet_view packet.now)) }
+    {
+        if !packet.header.payload_unit_start_indicator {
+            return Ok(());
+        }
+        let said = said(named, packet.header.pid);
+        let error = self.stamps.take(index, place, said, packet)?;
+        push_pts_if(events, &error)
+    }
+
     // Takes the PTS of the packet at an index, if it has one, and appends its error.
     #[tactic(auto, unfolding(crate::specs::RuleEvents::stamps_by, crate::specs::RuleEvents::stamp_events))]
     fn take_stamp(
         &mut self,
         index: u64,
         place: Option<u64>,
+        named: &NamedStreams,
         packet: &Packet<'_>,
         events: &mut Vec<Event>,
     ) -> Result<(), AllocError>
         ensures watch { OnOk result (self.new
-            ≡ spec.with_stamps self.old (spec.stamps_by self.old.stamps place (packet_view packet.now))) }
+            ≡ spec.with_stamps self.old (spec.stamps_by self.old.stamps place named.now (packet_view packet.now))) }
         ensures found { OnOk result (events.new.items
-            ≡ events.old.items ++ spec.stamp_events self.old.stamps index place (packet_view packet.now)) }
+            ≡ events.old.items ++ spec.stamp_events self.old.stamps index place named.now (packet_view packet.now)) }
     {
         match place {
             None => Ok(()),
-            Some(place) => {
-                let error = self.stamps.take(index, place, packet)?;
-                push_pts_if(events, &error)
-            }
+            Some(place) => self.take_placed(index, place, named, packet, events),
         }
     }
 
@@ -283,12 +306,13 @@ impl RuleWatch {
         packet: &Packet<'_>,
         events: &mut Vec<Event>,
     ) -> Result<(), AllocError>
-        ensures watch { OnOk result (self.new ≡ spec.taken self.old arrival.now index (packet_view packet.now)) }
+        ensures watch { OnOk result (self.new
+            ≡ spec.taken self.old arrival.now index named.now (packet_view packet.now)) }
         ensures found { OnOk result (events.new.items
             ≡ events.old.items ++ spec.packet_events self.old arrival.now index named.now (packet_view packet.now)) }
     {
         let place = place_at(arrival, index);
-        self.take_stamp(index, place, packet, events)?;
+        self.take_stamp(index, place, named, packet, events)?;
         self.take_gap(index, place, named, packet.header.pid, events)?;
         push_scrambled_if(events, index, named, packet)?;
         self.scrambled = first_scrambled(self.scrambled, index, packet);
