@@ -207,7 +207,7 @@ run_faults_law d units slots request ranges promised kept few at small none =
     let faultless : faults (sections_in (start request) packets) ≡ [] =
     none_of_all (sections_in (start request) packets)
     (λ pid. run_table_events_law d units slots request ranges promised kept many at small pid (λ t i is on. none t i is))
-    (run_check_words_law d units slots request ranges kept many) in
+    (run_check_words_law d units slots request ranges kept many none) in
     all_left (start request) packets sound fine (run_counters_law d units slots request ranges kept many)
     (neither is_fault is_other_table (sections_in (start request) packets) faultless (run_homes_law d units slots request ranges kept many))
 

@@ -61,7 +61,7 @@ abbrev reported_sections : ℕ → List FindingView → List SectionBegin
 reported_sections table_id fs = filter (λ s. s.table_id == table_id) (filter_map section_begin fs)
 
 -- A unit is no section.
-unit_none : (id base0 pid : ℕ) (e : Ending) (u : AccessUnit) (i : ℕ) (is : List ℕ) → section_begin (with_pid_at pid (unit_found id base0 e u i is)) ≡ None
+pub unit_none : (id base0 pid : ℕ) (e : Ending) (u : AccessUnit) (i : ℕ) (is : List ℕ) → section_begin (with_pid_at pid (unit_found id base0 e u i is)) ≡ None
 unfolding unit_found section_by begin_of
 unit_none id base0 pid e u i is = elim (cases_Bool ((unit_header id base0 u).len == 0)) [
   | inl y ↦ rw y refl

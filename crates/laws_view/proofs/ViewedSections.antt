@@ -35,7 +35,7 @@ use Rattle.es_events.specs.declared.view_options.ViewOptions.{ViewOptions}
 use Rattle.ts_watch.specs.Choices.{RequestView}
 use Rattle.ts_watch.specs.TableEvents.{TimesState, begin_events, check_word_event, check_word_events, distance_events, error_events, finding_events}
 use Rattle.ts_watch.specs.TableEvents.{findings_events}
-use Rattle.ts_watch.specs.TableEvents.{is_bad, is_wrong, is_wrong_offset, other_events, section_in, soon_events, whole_in, with_finding}
+use Rattle.ts_watch.specs.TableEvents.{is_bad, is_wrong, is_wrong_short, other_events, section_in, soon_events, whole_in, with_finding}
 use Rattle.ts_watch.proofs.HeaderTables.{events_alike}
 use Rattle.ts_report.specs.StreamTables.{TableState}
 use Rattle.ts_report.specs.Views.{ViewState, after_packet, after_read, start, table_events_at}
@@ -46,14 +46,14 @@ use Rattle.laws_view.proofs.ViewedFindings.{Alike, FindsAlike, Next, next}
 
 -- 1. Findings without a wrong check word have no such event
 
--- sections that the demultiplexer refuses, and time offset tables
+-- sections that the demultiplexer refuses, and short sections with a check word
 abbrev wrongs : List FindingView → List Bool
 wrongs [] = []
 wrongs (f ∷ found) = is_wrong f.what ∷ wrongs found
 
-abbrev pub offsets : List FindingView → List Bool
-offsets [] = []
-offsets (f ∷ found) = is_wrong_offset (section_begin f) f.what ∷ offsets found
+abbrev pub shorts : List FindingView → List Bool
+shorts [] = []
+shorts (f ∷ found) = is_wrong_short (section_begin f) f.what ∷ shorts found
 
 abbrev pub Calm : List Bool → Type 0
 Calm [] = Unit {0}
@@ -98,14 +98,14 @@ no_wrong : (f : FindingView) (b : Bool) → b ≡ false → filter is_check_word
 no_wrong f true e = absurd (let no : ⊥ = cc in no)
 no_wrong f false e = refl
 
-calm_finding : (options : ViewOptions) (s : TimesState) (f : FindingView) → is_wrong f.what ≡ false → is_wrong_offset (section_begin f) f.what ≡ false →
+calm_finding : (options : ViewOptions) (s : TimesState) (f : FindingView) → is_wrong f.what ≡ false → is_wrong_short (section_begin f) f.what ≡ false →
     filter is_check_word (finding_events options s f) ≡ []
 calm_finding options s f e o =
     none_of (check_word_events f) _ (no_wrong f (is_bad f) (rw (e, o) refl))
     (none_of (other_events (whole_section f)) _ (no_other (whole_section f))
     (none_of (distance_events s.distances (whole_in options f)) _ (no_distance s.distances (whole_in options f)) (no_begin s (section_in options f))))
 
-calm_findings : (options : ViewOptions) (s : TimesState) (fs : List FindingView) → Calm (wrongs fs) → Calm (offsets fs) →
+calm_findings : (options : ViewOptions) (s : TimesState) (fs : List FindingView) → Calm (wrongs fs) → Calm (shorts fs) →
     filter is_check_word (findings_events options s fs) ≡ []
 unfolding findings_events
 calm_findings options s [] h o = refl
@@ -176,22 +176,22 @@ calm_packet o bytes (Ok packet) rest e = by packet.header.transport_error_indica
 -- 3. All packets of a view
 
 calm_if : (options : ViewOptions) (x : TimesState) (t : TableState) (fs : List FindingView) (o : StreamState) (bytes : List ℕ) → FindsAlike t fs o bytes →
-    Calm (wrongs (found_in o bytes)) → Calm (offsets (found_in o bytes)) → filter is_check_word (findings_events options x fs) ≡ []
+    Calm (wrongs (found_in o bytes)) → Calm (shorts (found_in o bytes)) → filter is_check_word (findings_events options x fs) ≡ []
 unfolding findings_events
 calm_if options x t fs o bytes (inl e) h c = ap (λ (found : List FindingView). filter is_check_word (findings_events options x found)) e.0
 calm_if options x t fs o bytes (inr e) h c =
     ap (filter is_check_word) (events_alike options x fs (found_in o bytes) e.0) ∙ calm_findings options x (found_in o bytes) h c
 
-calm_first : (xs ys : List FindingView) → Calm (offsets (xs ++ ys)) → Calm (offsets xs)
+calm_first : (xs ys : List FindingView) → Calm (shorts (xs ++ ys)) → Calm (shorts xs)
 calm_first [] ys h = tt
 calm_first (x ∷ xs) ys h = (h.0, calm_first xs ys h.1)
 
-calm_last : (xs ys : List FindingView) → Calm (offsets (xs ++ ys)) → Calm (offsets ys)
+calm_last : (xs ys : List FindingView) → Calm (shorts (xs ++ ys)) → Calm (shorts ys)
 calm_last [] ys h = h
 calm_last (x ∷ xs) ys h = calm_last xs ys h.1
 
 along : (s : ViewState) (o : StreamState) (packets : List (List ℕ)) → Alike s o → All (λ bytes. length bytes ≡ 188) packets →
-    faults_of_all (found_in_all o packets) ≡ [] → Calm (offsets (found_in_all o packets)) → filter is_check_word (sections_in s packets) ≡ []
+    faults_of_all (found_in_all o packets) ≡ [] → Calm (shorts (found_in_all o packets)) → filter is_check_word (sections_in s packets) ≡ []
 unfolding sections_in found_in_all found_in
 along s o [] h sizes none calm = refl
 along s o (bytes ∷ packets) h sizes none calm =
@@ -215,7 +215,7 @@ pub alike_first : (request : RequestView) → Alike (start request) demux.start
 alike_first request = record { takes = record { held = refl; found = refl }; packets = refl; states = λ pid free. refl }
 
 pub quiet : (request : RequestView) (bytes : List ℕ) → length bytes / 188 < 2 ^ 64 - 1 → IsSound bytes →
-    Calm (offsets (found_in_all demux.start (cut_packets bytes))) → filter is_check_word (sections_in (start request) (cut_packets bytes)) ≡ []
+    Calm (shorts (found_in_all demux.start (cut_packets bytes))) → filter is_check_word (sections_in (start request) (cut_packets bytes)) ≡ []
 quiet request bytes few h calm =
     along (start request) demux.start (cut_packets bytes) (alike_first request) (packet_sizes_are bytes)
     (faults_first (found_in_all demux.start (cut_packets bytes)) (finished (taken_all demux.start (cut_packets bytes))).found (sound_findings bytes few h))

@@ -350,7 +350,7 @@ run_verdict_law d units slots request ranges promised kept few at small none =
     let faultless : faults (sections_in (start request) packets) ≡ [] =
     none_of_all (sections_in (start request) packets)
     (λ pid. run_table_events_law d units slots request ranges promised kept many at small pid (λ t i is on. none t i is))
-    (run_check_words_law d units slots request ranges kept many) in
+    (run_check_words_law d units slots request ranges kept many none) in
     let first : Quiet d.description.rate (start request) = record { arrival = at; counts = record { errors = refl; refused = refl }; tables = refl } in
     let q : Quiet d.description.rate (after_all (start request) packets) =
     all_quiet d.description.rate (start request) packets first sound fine (run_counters_law d units slots request ranges kept many) faultless in

@@ -122,7 +122,7 @@ use Rattle.ts_report.specs.StoppedClocks.{clocks_by, clocks_in, last_place, long
 use Rattle.ts_report.specs.StoppedEvents.{is_expected_part, stopped_by}
 use Rattle.ts_watch.specs.SystemEvents.{kind_of, size_of}
 use Rattle.ts_watch.specs.TableEvents.{begin_events, distance_events, distances_after, error_events as table_events_error_events, findings_events, is_wrong}
-use Rattle.ts_watch.specs.TableEvents.{is_wrong_offset, more_errors, other_events, placed, placed_if, placed_whole, soon_events, with_begin, with_findings}
+use Rattle.ts_watch.specs.TableEvents.{is_wrong_short, more_errors, other_events, placed, placed_if, placed_whole, soon_events, with_begin, with_findings}
 use Rattle.ts_watch.specs.WindowEvents.{service_of, window_by}
 use Rattle.tstd_rows.specs.Busy.{busy_of, busy_with, leak_busy}
 use Rattle.tstd_rows.specs.Entering.{after as entering_after, after_begin, after_first, after_part, after_payload, entered, entered_first, entered_part}
@@ -178,7 +178,7 @@ unfolding has_times lead_of step_of times_at line_in clock_moment_by step_after 
     stopped_pids_by places_in rule_events_place_at pts_events stamp_events stamps_by said_by said_of access_pid association_pids descriptor_pid
     section_pids_map_pids may_name all_marked is_version oldest_of with_association with_each with_found with_named_map with_read is_long
     is_expected_part stopped_by clocks_by clocks_in last_place longest_without reference_place with_clocks kind_of size_of begin_events distance_events distances_after
-    table_events_error_events findings_events is_wrong is_wrong_offset more_errors other_events placed placed_if placed_whole soon_events with_begin
+    table_events_error_events findings_events is_wrong is_wrong_short more_errors other_events placed placed_if placed_whole soon_events with_begin
     with_findings service_of window_by busy_of busy_with leak_busy entering_after after_begin after_first after_part after_payload entered entered_first
     entered_part payload_main payload_main_least payload_main_most payload_transport payload_transport_most unit_ended payload_video video_of video_unit_ended
     video_unit_of excess_after excesses_ended excesses_grown elementary_under_way video_found video_unit arrivals_of main_fullness payload_left unit_of

@@ -1,13 +1,10 @@
 -- The counts of a view on what a multiplexer wrote go by buffers and units alone: its packets, counters, clock references and tables are good. The
 -- verdict also needs that no event is a fault: `LeftFaults` says which faults are left.
-use Rattle.std.specs.Prelude.{◌≡◌, ℕ, ◌%◌, ◌≤◌, ◌&&◌, false, List, [], length, Some, None}
+use Rattle.std.specs.Prelude.{◌≡◌, ℕ, ◌%◌, ◌≤◌, ◌&&◌, false, List, [], length, None}
 use Rattle.ts_packet.specs.PidList.{cut_packets}
 use Rattle.slot_contents.specs.Contents.{run_bytes}
 use Rattle.pes_packet.specs.AccessUnits.{AccessUnit}
-use Rattle.description_parts.specs.Described.{Described}
 use Rattle.description_parts.specs.Ranges.{IsInRange}
-use Rattle.description_parts.specs.Tables.{table_kind}
-use Rattle.description_parts.specs.declared.table_kind.TableKind.TheVariants.{Private}
 use Rattle.slot_plan.specs.Promised.{Promised}
 use Rattle.mux_core.specs.Scheduled.{Scheduled}
 use Rattle.mux_core.specs.Headline.{UnitsKept}
@@ -20,11 +17,8 @@ use Rattle.ts_watch.specs.SystemEvents.{all_fit}
 use Rattle.ts_report.specs.StreamTables as streams
 use Rattle.ts_report.specs.Views.{after_all, is_good, start}
 use Rattle.laws_view.specs.StreamPackets.{most_packets}
+pub use Rattle.laws_view.specs.ViewedSections.{HasNoReadyMade}
 use Rattle.laws_view.specs.ViewedTables.{AreBytes}
-
--- no table of the description is ready-made
-abbrev pub HasNoReadyMade : Described → Type 0
-HasNoReadyMade d = (t i : ℕ) → table_kind d t ≡ Some (Private i) → ⊥
 
 -- the counts are good at the end exactly if the buffers of programs' tables fit and each stream is good: its buffers, and its units
 abbrev pub GoesByBuffers : RequestView → List ℕ → Type 0

@@ -190,7 +190,8 @@ pub fn muxed_tables()
     ensures jobs { JobTablesLaw }
 {}
 
-/// States that no event of a view of this output is of a section with a wrong check word (ETSI TR 101 290, 5.2.2, 2.2).
+/// States that without ready-made tables no event of a view of this output is of a section with a wrong check word (ETSI
+/// TR 101 290, 5.2.2, 2.2).
 pub fn muxed_check_words()
     ensures run { RunCheckWordsLaw }
     ensures jobs { JobCheckWordsLaw }

@@ -17,8 +17,8 @@ use Rattle.tr101290.specs.declared.distances.WholeSection.{WholeSection}
 use Rattle.tr101290.specs.declared.intervals.SectionBegin.{SectionBegin}
 use Rattle.es_events.specs.declared.view_options.ViewOptions.{ViewOptions}
 use Rattle.ts_watch.specs.TableNames.{NamesState, with_each, with_found}
-use Rattle.ts_watch.specs.TableEvents.{TimesState, begin_events, distance_events, finding_events, findings_events, has_wrong_word, is_bad, is_wrong}
-use Rattle.ts_watch.specs.TableEvents.{is_wrong_offset, other_events, placed, placed_if}
+use Rattle.ts_watch.specs.TableEvents.{TimesState, begin_events, distance_events, finding_events, findings_events, has_word, has_wrong_word, is_bad, is_wrong}
+use Rattle.ts_watch.specs.TableEvents.{is_wrong_short, other_events, placed, placed_if}
 use Rattle.ts_watch.specs.TableEvents.{with_begin, with_finding, with_findings, with_whole}
 
 -- 1. A finding
@@ -94,14 +94,14 @@ word_besides (IsBadPacket error) = refl
 word_besides IsErrored = refl
 word_besides (IsStray size) = refl
 
-offset_besides : (o : Option SectionBegin) (w : WhatView) → is_wrong_offset o (without_body w) ≡ is_wrong_offset o w
-unfolding is_wrong_offset
+offset_besides : (o : Option SectionBegin) (w : WhatView) → is_wrong_short o (without_body w) ≡ is_wrong_short o w
+unfolding is_wrong_short
 offset_besides None w = refl
-offset_besides (Some s) w = ap (λ (b : Bool). ((s.pid == 0x14) && (s.table_id == 0x73)) && b) (word_besides w)
+offset_besides (Some s) w = ap (λ (b : Bool). has_word s.pid s.table_id && b) (word_besides w)
 
 bad_besides : (f : FindingView) → is_bad (finding_without_body f) ≡ is_bad f
 bad_besides f = ap₂ (λ (a b : Bool). a || b) (wrong_besides f.what)
-    (ap (λ (o : Option SectionBegin). is_wrong_offset o (without_body f.what)) (section_besides f.pid f.begun f.what)
+    (ap (λ (o : Option SectionBegin). is_wrong_short o (without_body f.what)) (section_besides f.pid f.begun f.what)
     ∙ offset_besides (section_begin f) f.what)
 
 -- 2. The state after a finding, and its events

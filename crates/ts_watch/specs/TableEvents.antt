@@ -131,13 +131,18 @@ unfoldable pub has_wrong_word : WhatView → Bool
 has_wrong_word (IsSection bytes) = not (check_word bytes == 0)
 has_wrong_word _ = false
 
--- such a time offset table: it has a check word, though its section_syntax_indicator is 0 (ETSI EN 300 468, 5.2.6)
-unfoldable pub is_wrong_offset : Option SectionBegin → WhatView → Bool
-is_wrong_offset None what = false
-is_wrong_offset (Some section) what = ((section.pid == 0x14) && (section.table_id == 0x73)) && has_wrong_word what
+-- tables with a check word, though their section_syntax_indicator is 0: time offset tables (ETSI EN 300 468, 5.2.6) and splice information
+-- (ANSI/SCTE 35, table_id 0xFC)
+abbrev pub has_word : ℕ → ℕ → Bool
+has_word pid table_id = ((pid == 0x14) && (table_id == 0x73)) || (table_id == 0xFC)
+
+-- such a section whose check word is wrong
+unfoldable pub is_wrong_short : Option SectionBegin → WhatView → Bool
+is_wrong_short None what = false
+is_wrong_short (Some section) what = has_word section.pid section.table_id && has_wrong_word what
 
 abbrev pub is_bad : FindingView → Bool
-is_bad f = is_wrong f.what || is_wrong_offset (section_begin f) f.what
+is_bad f = is_wrong f.what || is_wrong_short (section_begin f) f.what
 
 abbrev pub check_word_event : FindingView → Event
 check_word_event f = found.CheckWord (record { pid = unwrap_or f.pid 0; packet = f.packet })

@@ -26,13 +26,20 @@ fn has_wrong_word(what: &What<'_>) -> bool
     }
 }
 
-#[tactic(auto, unfolding(crate::specs::TableEvents::is_wrong_offset))]
-fn is_wrong_offset(begin: Option<SectionBegin>, what: &What<'_>) -> bool
-    ensures { result ≡ spec.is_wrong_offset begin (what_view what.now) }
+// Returns whether sections of a table have a check word, though their section_syntax_indicator is 0.
+fn has_word(pid: u16, table_id: u8) -> bool
+    ensures { result ≡ spec.has_word pid table_id }
+{
+    (pid == 0x14 && table_id == 0x73) || table_id == 0xfc
+}
+
+#[tactic(auto, unfolding(crate::specs::TableEvents::is_wrong_short))]
+fn is_wrong_short(begin: Option<SectionBegin>, what: &What<'_>) -> bool
+    ensures { result ≡ spec.is_wrong_short begin (what_view what.now) }
 {
     match begin {
         None => false,
-        Some(section) => section.pid == 0x14 && section.table_id == 0x73 && has_wrong_word(what),
+        Some(section) => has_word(section.pid, section.table_id) && has_wrong_word(what),
     }
 }
 
@@ -40,7 +47,7 @@ fn is_wrong_offset(begin: Option<SectionBegin>, what: &What<'_>) -> bool
 pub(crate) fn is_bad(finding: &Finding<'_>) -> bool
     ensures { result ≡ spec.is_bad (finding_view finding.now) }
 {
-    is_wrong(&finding.what) || is_wrong_offset(section_begin(finding), &finding.what)
+    is_wrong(&finding.what) || is_wrong_short(section_begin(finding), &finding.what)
 }
 
 /// Appends the event of a section whose check word is wrong, if the finding is such a section.
