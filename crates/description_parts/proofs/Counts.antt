@@ -15,7 +15,7 @@ use Rattle.description_parts.specs.Contents.{described, described_sections, desc
 use Rattle.description_parts.specs.Described.{Described}
 use Rattle.description_parts.specs.Ranges.{HasCounts}
 use Rattle.description_keys.specs.EventKeys.{event_rules}
-use Rattle.description_keys.specs.NetworkKeys.{network_rules}
+use Rattle.description_keys.specs.NetworkKeys.{network_rules, network_stream_rules}
 use Rattle.description_keys.specs.ProgramKeys.{program_rules}
 use Rattle.description_keys.specs.StreamKeys.{stream_rules}
 use Rattle.description_keys.specs.TableKeys.{table_rules}
@@ -23,6 +23,7 @@ use Rattle.description_keys.specs.TopKeys.{is_transponder, limit_in, top_rules}
 use Rattle.description_keys.specs.Rules.{Rule}
 use Rattle.description_keys.specs.Refusals.{array_rule, first_fault, key_fault, network_rule, parts_of, programs_of, rules, streams_of, tables_of}
 use Rattle.description_keys.specs.Refusals.{unknown_key_fault}
+use Rattle.description_keys.specs.declared.key_row.KeyPart.TheVariants.{Document, Network}
 use Rattle.description_keys.specs.declared.fault.DescFault.{DescFault}
 use Rattle.description_keys.specs.declared.fault.DescFault.TheVariants.{Key}
 
@@ -100,7 +101,7 @@ not_false false h = absurd (cc)
 
 -- A number of tables that is accepted is in its range.
 in_array : (d : Data) (code : ℕ) (absent : Bool) (name : List ℕ) (low most more : ℕ) (rules : List Rule)
-    → Accepts d (array_rule code absent name low most more ∷ rules) → tables_at absent name low (limit_in d most more) d ≡ true
+    → Accepts d (array_rule Document code absent name low most more ∷ rules) → tables_at absent name low (limit_in d most more) d ≡ true
 in_array d code absent name low most more rules h =
     let here : 0 < 1 = omega arith in
     not_false (tables_at absent name low (limit_in d most more) d) (h.0 0 d here)
@@ -126,14 +127,16 @@ pub record NoFault (d : Data) : Type 0 where
 pub no_fault : (d : Data) → key_fault d ≡ None → NoFault d
 unfolding rules
 no_fault d h =
-    let tables : List Rule = array_rule 70 true (codes "table") 0 16 64 ∷ table_rules in
-    let events : List Rule = array_rule 60 true (codes "event") 0 256 1024 ∷ event_rules in
-    let streams : List Rule = array_rule 40 true (codes "stream") 0 32 254 ∷ stream_rules in
-    let programs : List Rule = array_rule 30 false (codes "program") 1 16 64 ∷ program_rules in
+    let tables : List Rule = array_rule Document 70 true (codes "table") 0 16 64 ∷ table_rules in
+    let events : List Rule = array_rule Document 60 true (codes "event") 0 256 1024 ∷ event_rules in
+    let streams : List Rule = array_rule Document 40 true (codes "stream") 0 32 254 ∷ stream_rules in
+    let programs : List Rule = array_rule Document 30 false (codes "program") 1 16 64 ∷ program_rules in
+    let others : List Rule = array_rule Network 25 true (codes "stream") 0 64 64 ∷ network_stream_rules in
     let network : List Rule = network_rule ∷ network_rules in
     let all = accepts d rules (or_none (unknown_key_fault d) (first_fault rules d) h).1 in
-    let one = two_parts d top_rules (network ++ (programs ++ (streams ++ (events ++ tables)))) all in
-    let two = two_parts d network (programs ++ (streams ++ (events ++ tables))) one.1 in
+    let one = two_parts d top_rules (network ++ (others ++ (programs ++ (streams ++ (events ++ tables))))) all in
+    let named = two_parts d network (others ++ (programs ++ (streams ++ (events ++ tables)))) one.1 in
+    let two = two_parts d others (programs ++ (streams ++ (events ++ tables))) named.1 in
     let three = two_parts d programs (streams ++ (events ++ tables)) two.1 in
     let four = two_parts d streams (events ++ tables) three.1 in
     let five = two_parts d events tables four.1 in

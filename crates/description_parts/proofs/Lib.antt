@@ -5,6 +5,7 @@ pub mod Counts
 pub mod ChannelRanges
 pub mod VersionRanges
 pub mod RoomLengths
+pub mod LoopRanges
 pub mod PartsInRange
 pub mod Distinct
 pub mod Declared
@@ -12,3 +13,5 @@ pub mod NamedSharers
 pub mod WholeInRange
 pub mod Places
 pub mod SdtParts
+pub mod Cuts
+pub mod NitParts

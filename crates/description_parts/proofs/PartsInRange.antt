@@ -1,8 +1,9 @@
 -- Each part of a description is in its ranges.
-use Rattle.std.proofs.Common.{◌≡◌, ℕ, pos, suc, zero, ◌≤◌, ◌<◌, ◌-◌, ◌*◌, ◌/◌, max, ◌==◌, nat_le, Bool, true, false, List, [], ◌∷◌, length, filter, get_or}
+use Rattle.std.proofs.Common.{◌≡◌, ℕ, pos, suc, zero, ◌≤◌, ◌<◌, ◌-◌, ◌*◌, ◌/◌, max, ◌==◌, nat_le, Bool, true, false, List, [], ◌∷◌, length, map, filter, get_or}
 use Rattle.std.proofs.Common.{Option, None, Some, IfSome, unwrap_or, refl, arith, if◌then◌else◌, All, codes, inl, inr, is_none, replicate}
 use Rattle.std.proofs.Math.Nat.{le_trans, div-le_self}
 use Rattle.std.proofs.lemmas.Bool.{leb-true, or_cases, eqb-true}
+use Rattle.std.proofs.lemmas.List.{length-map}
 use Rattle.std.proofs.lemmas.List.Elements.{All-nil, All-cons, All-map, All-weaker, All-append, All-replicate}
 use Rattle.std.specs.Option.{option_or, option_to_list}
 use Rattle.std.specs.List.{filter_map, cons_option}
@@ -11,7 +12,7 @@ use Rattle.unit_timing.specs.declared.allowance.Allowance.{Allowance}
 use Rattle.unit_timing.specs.declared.framing.FrameDeclaration.{FrameDeclaration}
 use Rattle.unit_timing.specs.declared.framing.LastBytes.TheVariants.{Each, Sums}
 use Rattle.unit_timing.specs.declared.multiplexing_buffer.MultiplexingBuffer.{MultiplexingBuffer}
-use Rattle.description_parts.specs.Ranges.{IsPid, IsBytes, IsNetwork, IsEvent, IsProgram, IsStreamId, IsGroups, IsPace, IsAllowance, IsMultiplexingBuffer}
+use Rattle.description_parts.specs.Ranges.{IsPid, IsBytes, IsNetwork, IsNetworkStream, IsEvent, IsProgram, IsStreamId, IsGroups, IsPace, IsAllowance, IsMultiplexingBuffer}
 use Rattle.description_parts.specs.Ranges.{AreLastBytes, IsFraming, IsStream, IsEntry, IsTable}
 use Rattle.description_values.specs.Values.{integer_in, integer_at, elements, is_one_section, section_in}
 use Rattle.description_keys.specs.StreamKeys.{is_owned_by, sharers_of, number_in, is_stream_id, stream_id, is_video_id, id_or_private}
@@ -19,20 +20,22 @@ use Rattle.description_keys.specs.StreamKeys.{greatest_size, leaves_out_buffers,
 use Rattle.description_keys.specs.StreamKeys.{greatest_group_packets, stream_group_packets, is_paced, stream_burst_packets, stream_pace, stream_allowance}
 use Rattle.description_keys.specs.StreamKeys.{has_multiplexing, greatest_rbx, multiplexing_of, has_framing, greatest_frame, stream_frame, stream_interval}
 use Rattle.description_keys.specs.StreamKeys.{stream_frame_size, stream_frame_rest, other_frames, has_rest, has_left, bytes_in, padded, frame_left_of, framing_of}
-use Rattle.description_parts.specs.Contents.{described_network, described_event, described_number, described_program, described_stream, described_sections}
+use Rattle.description_parts.specs.Contents.{described_network, described_other, described_event, described_number, described_program, described_stream, described_sections}
 use Rattle.description_parts.specs.Contents.{described_entry, described_table}
 use Rattle.description_parts.specs.Channels.{described_channels}
 use Rattle.description_parts.specs.Described.{DescribedEntry}
+use Rattle.description_parts.specs.declared.network_stream.NetworkStream.{NetworkStream}
 use Rattle.description_keys.specs.ProgramKeys.{clock_pid_in, program_pcr_pid}
 use Rattle.description_keys.specs.TableKeys.{is_listed}
 use Rattle.description_keys.specs.TopKeys.{clock_pid_of}
-use Rattle.description_keys.specs.Refusals.{events_of, programs_of}
+use Rattle.description_keys.specs.Refusals.{events_of, other_streams_of, programs_of}
 use Rattle.description_parts.proofs.KeyRanges.{Within, holds_of, at_key-all, integer_in-within, integer_at-within, integer_or-within, optional_integer-within}
 use Rattle.description_parts.proofs.KeyRanges.{moment_at-within}
-use Rattle.description_parts.proofs.TextRanges.{text_at-is, text_or-is, descriptors-is, descriptors_at-is, language_at-is, optional_language-is, IsSectionBytes}
+use Rattle.description_parts.proofs.TextRanges.{descriptors-is, descriptors_at-is, optional_language-is, IsSectionBytes}
 use Rattle.description_parts.proofs.TextRanges.{sections-are, weaker, then_tested}
 use Rattle.description_parts.proofs.ChannelRanges.{channels_are, two_are}
 use Rattle.description_parts.proofs.Counts.{HasLength}
+use Rattle.description_parts.proofs.LoopRanges.{event_loop_is, network_loop_is, service_loop_is}
 use Rattle.description_parts.proofs.VersionRanges.{version_at-is}
 
 pid_is : (key : List ℕ) (d : Data) → IsPid (unwrap_or (integer_at key (pos 32) (pos 8190) d) 32)
@@ -51,12 +54,37 @@ clock_is document d =
     (or_all (Within 32 8190) (program_pcr_pid d) (clock_pid_of document) own shared) (record { least = omega arith; most = omega arith }) in
     record { low = w.least; high = w.most }
 
-pub network_is : (document d : Data) → IsNetwork (described_network document d)
-network_is document d = record {
-  id = (integer_at-within (codes "id") 0 65535 0 d (omega arith) (omega arith)).most;
-  name = text_at-is 200 (codes "name") d;
-  descriptors = two_are 700 266 _ (described_channels (programs_of document)) (descriptors-is (codes "descriptors") d) (channels_are (programs_of document));
+-- The other transport streams of the network
+other_is : (d : Data) → IsNetworkStream (described_other d)
+other_is d = record {
+  transport_stream_id = (integer_at-within (codes "ts_id") 0 65535 0 d (omega arith) (omega arith)).most;
+  original_network_id = (integer_at-within (codes "original_network_id") 0 65535 0 d (omega arith) (omega arith)).most;
+  descriptors = descriptors-is 700 (codes "descriptors") d;
 }
+
+record AreOthers (ss : List NetworkStream) : Type 0 where
+  few : length ss ≤ 64
+  streams : All IsNetworkStream ss
+
+others_if : (b : Bool) (ds : List Data) → (b ≡ true → length ds ≤ 64) → AreOthers (if b then map described_other ds else [])
+others_if false ds h = record { few = omega arith; streams = All-nil IsNetworkStream }
+others_if true ds h = record {
+  few = omega (arith, length-map ds described_other, h refl);
+  streams = All-map IsNetworkStream described_other ds (λ k other within. other_is (get_or ds k other));
+}
+
+pub network_is : (document d : Data) → IsNetwork (described_network document d)
+network_is document d =
+    let ds = other_streams_of (Some d) in
+    let others = others_if (nat_le (length ds) 64) ds (leb-true (length ds) 64) in
+    record {
+      id = (integer_at-within (codes "id") 0 65535 0 d (omega arith) (omega arith)).most;
+      network_descriptors = network_loop_is d;
+      descriptors = two_are 700 266 _ (described_channels (programs_of document)) (descriptors-is 700 (codes "descriptors") d)
+          (channels_are (programs_of document));
+      most_streams = others.few;
+      streams = others.streams;
+    }
 
 pub event_is : (d : Data) → IsEvent (described_event d)
 event_is d =
@@ -66,9 +94,7 @@ event_is d =
       start = (moment_at-within (codes "start") d).most;
       some_time = duration.least;
       most_time = duration.most;
-      language = language_at-is (codes "language") d;
-      name = text_at-is 100 (codes "name") d;
-      text = text_at-is 150 (codes "text") d;
+      descriptors = event_loop_is d;
     }
 
 pub program_is : (document d : Data) → IsProgram (described_program document d)
@@ -76,6 +102,7 @@ program_is document d =
     let number = integer_at-within (codes "number") 1 65535 1 d (omega arith) (omega arith) in
     let limit = integer_or-within (codes "pcr_limit") 1 100 40 1 d (omega arith) (omega arith) (omega arith) (omega arith) in
     let packets = integer_or-within (codes "pmt_packets") 1 6 1 1 d (omega arith) (omega arith) (omega arith) (omega arith) in
+    let status = integer_or-within (codes "running_status") 0 7 4 0 d (omega arith) (omega arith) (omega arith) (omega arith) in
     record {
       some_number = number.least;
       most_number = number.most;
@@ -87,10 +114,9 @@ program_is document d =
       most_packets = packets.most;
       pmt_version = version_at-is 3 (described_number d) document;
       eit_count = version_at-is 4 (described_number d) document;
-      descriptors = descriptors-is (codes "descriptors") d;
-      service_type = (integer_or-within (codes "service_type") 0 255 1 0 d (omega arith) (omega arith) (omega arith) (omega arith)).most;
-      provider = text_or-is 100 (codes "provider") d;
-      name = text_or-is 100 (codes "name") d;
+      descriptors = descriptors-is 700 (codes "descriptors") d;
+      service_descriptors = service_loop_is d;
+      running_status = omega (arith, status.most);
       events = All-map IsEvent described_event (filter (is_owned_by (described_number d)) (events_of document))
           (λ k other within. event_is (get_or (filter (is_owned_by (described_number d)) (events_of document)) k other));
     }
@@ -288,7 +314,7 @@ stream_is d =
       most_main = main.most;
       tag = tag_is d;
       language = optional_language-is (codes "language") d;
-      descriptors = descriptors-is (codes "descriptors") d;
+      descriptors = descriptors-is 700 (codes "descriptors") d;
       allowance = allowance_is d small;
       few_sharers = few_sharers (elements (codes "shared_with") d);
       multiplexing = buffer_if (greatest_rbx d) (has_multiplexing d) (multiplexing_of d) (buffer_is d rx.least);
@@ -298,7 +324,7 @@ stream_is d =
 entry_is : (d : Data) → IsEntry (described_entry d)
 entry_is d =
     let kind = integer_at-within (codes "stream_type") 1 255 1 d (omega arith) (omega arith) in
-    record { some_type = kind.least; most_type = kind.most; descriptors = descriptors_at-is (codes "descriptors") d }
+    record { some_type = kind.least; most_type = kind.most; descriptors = descriptors_at-is 700 (codes "descriptors") d }
 
 listed_is : (b : Bool) (e : DescribedEntry) → IsEntry e → All IsEntry (option_to_list (if b then Some e else None))
 listed_is true e is = All-cons IsEntry e [] is (All-nil IsEntry)

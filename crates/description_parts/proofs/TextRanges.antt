@@ -79,20 +79,21 @@ pub weaker : {X : Type 0} (P Q : X → Type 0) (o : Option X) → ((x : X) → P
 weaker P Q None h p = tt
 weaker P Q (Some x) h p = h x p
 
-descriptors_in-is : (d : Data) → IfSome (descriptors_in d) (IsBytes 700)
-descriptors_in-is d =
-    weaker (λ bytes. IsBytes 700 bytes × (are_whole_descriptors bytes ≡ true)) (IsBytes 700) (descriptors_in d) (λ bytes p. p.0)
-    (then_tested (IsBytes 700) are_whole_descriptors (option_and_then (hex_bytes 700) (as_str d))
-    (then_all (IsBytes 700) (hex_bytes 700) (as_str d) (hex_bytes-is 700)))
+descriptors_in-is : (most : ℕ) (d : Data) → IfSome (descriptors_in most d) (IsBytes most)
+descriptors_in-is most d =
+    weaker (λ bytes. IsBytes most bytes × (are_whole_descriptors bytes ≡ true)) (IsBytes most) (descriptors_in most d) (λ bytes p. p.0)
+    (then_tested (IsBytes most) are_whole_descriptors (option_and_then (hex_bytes most) (as_str d))
+    (then_all (IsBytes most) (hex_bytes most) (as_str d) (hex_bytes-is most)))
 
-pub descriptors-is : (key : List ℕ) (d : Data) → IsBytes 700 (unwrap_or (descriptors_or_none key d) [])
-descriptors-is key d =
-    holds_of (IsBytes 700) (descriptors_or_none key d) [] (at_key-all (IsBytes 700) key (Some []) descriptors_in d (no_bytes 700) descriptors_in-is)
-    (no_bytes 700)
+pub descriptors-is : (most : ℕ) (key : List ℕ) (d : Data) → IsBytes most (unwrap_or (descriptors_or_none most key d) [])
+descriptors-is most key d =
+    holds_of (IsBytes most) (descriptors_or_none most key d) []
+    (at_key-all (IsBytes most) key (Some []) (descriptors_in most) d (no_bytes most) (descriptors_in-is most)) (no_bytes most)
 
-pub descriptors_at-is : (key : List ℕ) (d : Data) → IsBytes 700 (unwrap_or (descriptors_at key d) [])
-descriptors_at-is key d = holds_of (IsBytes 700) (descriptors_at key d) [] (at_key-all (IsBytes 700) key None descriptors_in d tt descriptors_in-is)
-    (no_bytes 700)
+pub descriptors_at-is : (most : ℕ) (key : List ℕ) (d : Data) → IsBytes most (unwrap_or (descriptors_at most key d) [])
+descriptors_at-is most key d =
+    holds_of (IsBytes most) (descriptors_at most key d) []
+    (at_key-all (IsBytes most) key None (descriptors_in most) d tt (descriptors_in-is most)) (no_bytes most)
 
 -- A section has at least its first three bytes.
 at_least_three : (bytes : List ℕ) → is_one_section bytes ≡ true → 3 ≤ length bytes

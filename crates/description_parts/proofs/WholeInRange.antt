@@ -12,8 +12,8 @@ use Rattle.toml.specs.Data.{Data, get}
 use Rattle.description_parts.specs.Described.{Described, DescribedNetwork}
 use Rattle.description_parts.specs.Ranges.{IsInRange, IsNetwork, IsProgram, IsStream, IsTable, IsListed, IsSharing, named_pids, program_numbers}
 use Rattle.description_parts.specs.Ranges.{longest_section}
-use Rattle.description_parts.specs.Tables.{only_if, has_events_table, kind_lengths, service_tables, table_kinds, pmt_length, map_length, nit_length, network_length}
-use Rattle.description_parts.specs.Tables.{most_bytes, numbers_from}
+use Rattle.description_parts.specs.Tables.{only_if, has_events_table, kind_lengths, service_tables, table_kinds, pmt_length, map_length, nit_lengths, nit_parts, network_lengths}
+use Rattle.description_parts.specs.Tables.{most_bytes, numbers_from, room_length}
 use Rattle.description_values.specs.Values.{integer_in, is_distinct}
 use Rattle.description_keys.specs.ProgramKeys.{clock_pid_in, program_pcr_pid, refuses_pcr_pid}
 use Rattle.description_keys.specs.StreamKeys.{owner_number, has_owner, has_sharers, stream_sharers}
@@ -98,13 +98,24 @@ only_none : {X : Type 0} (p : X → Bool) (b : Bool) (x : X) → list_any p (onl
 only_none p true x h is = (or_parts (p x) false h).0
 only_none p false x h is = absurd (cc)
 
+texts_fit : (packets : ℕ) (ls : List ℕ) → list_any (nat_lt longest_section) (map (room_length most_bytes packets) ls) ≡ false
+    → All (λ l. l ≤ longest_section) ls
+texts_fit packets [] h = All-nil (λ l. l ≤ longest_section)
+texts_fit packets (l ∷ ls) h =
+    let room = room_length most_bytes packets l in
+    let both = or_parts (nat_lt longest_section room) (list_any (nat_lt longest_section) (map (room_length most_bytes packets) ls)) h in
+    All-cons (λ m. m ≤ longest_section) l ls (within_trans (room_least most_bytes packets l) (ltb-false longest_section room both.0))
+    (texts_fit packets ls both.1)
+
+abbrev NetworkFits : Described → DescribedNetwork → Type 0
+NetworkFits d n = All (λ l. l ≤ longest_section) (nit_lengths n 0 (nit_parts d n))
+
 network_fits : (d : Described) (o : Option DescribedNetwork)
-    → (is_some o ≡ true → list_any (nat_lt longest_section) (map (network_length d) (option_to_list o)) ≡ false)
-    → All (λ n. nit_length n ≤ longest_section) (option_to_list o)
-network_fits d None h = All-nil (λ n. nit_length n ≤ longest_section)
+    → (is_some o ≡ true → list_any (nat_lt longest_section) (elim o [ None ↦ [] | Some n ↦ network_lengths d n ]) ≡ false)
+    → All (NetworkFits d) (option_to_list o)
+network_fits d None h = All-nil (NetworkFits d)
 network_fits d (Some n) h =
-    let fits = within_trans (room_least most_bytes d.rooms.nit (nit_length n)) (one_length (network_length d) (Some n) n refl (h refl)) in
-    All-cons (λ n. nit_length n ≤ longest_section) n [] fits (All-nil (λ n. nit_length n ≤ longest_section))
+    All-cons (NetworkFits d) n [] (texts_fit d.rooms.nit (nit_lengths n 0 (nit_parts d n)) (h refl)) (All-nil (NetworkFits d))
 
 all_short : (ls : List ℕ) → list_any (nat_lt longest_section) ls ≡ false → All (λ l. l ≤ longest_section) ls
 all_short [] h = All-nil (λ l. l ≤ longest_section)
@@ -113,7 +124,7 @@ all_short (l ∷ ls) h =
     All-cons (λ m. m ≤ longest_section) l ls (ltb-false longest_section l both.0) (all_short ls both.1)
 
 record ServicesFit (d : Described) : Type 0 where
-  nit : All (λ n. nit_length n ≤ longest_section) (option_to_list d.network)
+  nit : All (NetworkFits d) (option_to_list d.network)
   sdt : IsTrue d.has_sdt → All (λ l. l ≤ longest_section) (kind_lengths d Sdt)
 
 services_fit : (d : Described) → list_any (is_too_long d) (table_kinds d) ≡ false → ServicesFit d
@@ -232,6 +243,6 @@ described-in_range document keys joint =
       distinct_pids = IsDistinct-is (named_pids (described document)) parts.pids;
       distinct_numbers = numbers;
       pmt_lengths = pmt_fits (described document) parts.lengths;
-      nit_length = services.nit;
+      nit_lengths = services.nit;
       sdt_lengths = services.sdt;
     }

@@ -1,34 +1,39 @@
--- A service description as numbers and byte lists, which the contracts of this crate and of the crates above it use. Texts are kept
--- as they are written in descriptors (ETSI EN 300 468, annex A), moments as seconds since 1970 (UTC).
+-- A service description as numbers and byte lists, which the contracts of this crate and of the crates above it use. The loops of
+-- descriptors are the bytes that sections have, moments are seconds since 1970 (UTC).
 use Rattle.std.specs.Prelude.{ℕ, Bool, List, Option}
-use Rattle.dvb_tables.specs.declared.schedule.Event.{Event}
+use Rattle.dvb_tables.specs.TransportStreams.{TransportStreamView}
 use Rattle.description_parts.specs.declared.map_entry.MapEntry.{MapEntry}
 use Rattle.description_parts.specs.declared.network.Network.{Network}
+use Rattle.description_parts.specs.declared.network_stream.NetworkStream.{NetworkStream}
 use Rattle.description_parts.specs.declared.rooms.Rooms.{Rooms}
 use Rattle.description_parts.specs.declared.stream.StreamDescription.{StreamDescription}
 use Rattle.description_parts.specs.declared.versions.Versions.{Versions}
 
--- the network that the stream belongs to (EN 300 468, 5.2.1)
+-- the network that the stream belongs to (EN 300 468, 5.2.1): its own descriptors, those of this transport stream, and its other
+-- transport streams
 abbrev pub DescribedNetwork : Type 0
 DescribedNetwork = Network
 
--- one event of a program's schedule (EN 300 468, 5.2.4): start is a moment, duration counts seconds
+-- a transport stream of the network, as a section of the NIT has it
+abbrev pub network_stream_view : NetworkStream → TransportStreamView
+network_stream_view s = record {
+  transport_stream_id = s.transport_stream_id;
+  original_network_id = s.original_network_id;
+  descriptors = s.descriptors;
+}
+
+-- one event of a program's schedule (EN 300 468, 5.2.4): start is a moment, duration counts seconds, descriptors is its loop
 pub record DescribedEvent : Type 0 where
   pub id : ℕ
   pub start : ℕ
   pub duration : ℕ
-  pub language : List ℕ
-  pub name : List ℕ
-  pub text : List ℕ
-
--- the content of an event
-abbrev pub event_view : Event → DescribedEvent
-event_view e = record { id = e.id; start = e.start; duration = e.duration; language = e.language; name = e.name; text = e.text }
+  pub descriptors : List ℕ
 
 -- one program (ISO/IEC 13818-1, 2.4.4.8) and its service (EN 300 468, 5.2.3), with its events in order of start;
 -- pcr_pid is the PID of its PCRs, has_clock whether these are its own or the ones that programs share, pcr_limit the greatest time
 -- between two of them, in ms; pmt_packets is the least number of packets of its PMT's section, is_on_air whether its streams are in its PMT,
--- pmt_version the version_number there, and eit_count the number from which the version_number of its sections of the EIT is counted
+-- pmt_version the version_number there, and eit_count the number from which the version_number of its sections of the EIT is counted;
+-- service_descriptors is the loop of its service, running_status, free_ca and eit_schedule are the service's status and flags
 pub record DescribedProgram : Type 0 where
   pub number : ℕ
   pub pmt_pid : ℕ
@@ -40,9 +45,10 @@ pub record DescribedProgram : Type 0 where
   pub pmt_version : ℕ
   pub eit_count : ℕ
   pub descriptors : List ℕ
-  pub service_type : ℕ
-  pub provider : List ℕ
-  pub name : List ℕ
+  pub service_descriptors : List ℕ
+  pub running_status : ℕ
+  pub free_ca : Bool
+  pub eit_schedule : Bool
   pub events : List DescribedEvent
 
 -- one elementary stream of the program of that number. Its units come at least `interval` apart and `lead` before their

@@ -1,8 +1,10 @@
 pub mod Described
+pub mod Cuts
 pub mod Tables
 pub mod Numbers
 pub mod Ranges
 pub mod SdtParts
+pub mod NitParts
 pub mod Shown
 pub mod Channels
 pub mod Contents

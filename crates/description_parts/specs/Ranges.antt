@@ -11,7 +11,8 @@ use Rattle.unit_timing.specs.declared.framing.LastBytes.TheVariants.{Each, Sums}
 use Rattle.unit_timing.specs.declared.multiplexing_buffer.MultiplexingBuffer.{MultiplexingBuffer}
 use Rattle.description_parts.specs.Described.{Described, DescribedNetwork, DescribedProgram, DescribedStream, DescribedEvent, DescribedEntry, DescribedTable}
 use Rattle.description_values.specs.Values.{is_one_section}
-use Rattle.description_parts.specs.Tables.{pmt_length, nit_length, kind_lengths, greatest_unit_packets}
+use Rattle.description_parts.specs.Tables.{pmt_length, nit_lengths, nit_parts, kind_lengths, greatest_unit_packets}
+use Rattle.description_parts.specs.declared.network_stream.NetworkStream.{NetworkStream}
 use Rattle.description_parts.specs.declared.rooms.Rooms.{Rooms}
 use Rattle.description_parts.specs.declared.table_kind.TableKind.TheVariants.{Sdt}
 use Rattle.description_parts.specs.declared.versions.Versions.{Versions}
@@ -35,19 +36,24 @@ pub record IsLanguage (code : List ℕ) : Type 0 where
 abbrev pub last_moment : ℕ
 last_moment = 2145916799
 
+pub record IsNetworkStream (s : NetworkStream) : Type 0 where
+  pub transport_stream_id : s.transport_stream_id ≤ 65535
+  pub original_network_id : s.original_network_id ≤ 65535
+  pub descriptors : IsBytes 700 s.descriptors
+
 pub record IsNetwork (n : DescribedNetwork) : Type 0 where
   pub id : n.id ≤ 65535
-  pub name : IsBytes 200 n.name
+  pub network_descriptors : IsBytes 902 n.network_descriptors
   pub descriptors : IsBytes 966 n.descriptors
+  pub most_streams : length n.streams ≤ 64
+  pub streams : All IsNetworkStream n.streams
 
 pub record IsEvent (e : DescribedEvent) : Type 0 where
   pub id : e.id ≤ 65535
   pub start : e.start ≤ last_moment
   pub some_time : 1 ≤ e.duration
   pub most_time : e.duration ≤ 359999
-  pub language : IsLanguage e.language
-  pub name : IsBytes 100 e.name
-  pub text : IsBytes 150 e.text
+  pub descriptors : IsBytes 4000 e.descriptors
 
 pub record IsProgram (p : DescribedProgram) : Type 0 where
   pub some_number : 1 ≤ p.number
@@ -61,9 +67,8 @@ pub record IsProgram (p : DescribedProgram) : Type 0 where
   pub pmt_version : p.pmt_version < 32
   pub eit_count : p.eit_count < 32
   pub descriptors : IsBytes 700 p.descriptors
-  pub service_type : p.service_type ≤ 255
-  pub provider : IsBytes 100 p.provider
-  pub name : IsBytes 100 p.name
+  pub service_descriptors : IsBytes 1004 p.service_descriptors
+  pub running_status : p.running_status < 8
   pub events : All IsEvent p.events
 
 -- the packets of a section of the PAT, the SDT, the NIT and the EIT
@@ -223,5 +228,5 @@ pub record IsInRange (d : Described) : Type 0 where
   pub distinct_pids : IsDistinct nat_eq (named_pids d)
   pub distinct_numbers : IsDistinct nat_eq (program_numbers d)
   pub pmt_lengths : All (λ p. pmt_length d p ≤ longest_section) d.programs
-  pub nit_length : All (λ n. nit_length n ≤ longest_section) (option_to_list d.network)
+  pub nit_lengths : All (λ n. All (λ l. l ≤ longest_section) (nit_lengths n 0 (nit_parts d n))) (option_to_list d.network)
   pub sdt_lengths : IsTrue d.has_sdt → All (λ l. l ≤ longest_section) (kind_lengths d Sdt)

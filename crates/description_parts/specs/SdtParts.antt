@@ -1,22 +1,14 @@
 -- The services in the sections of the service description table (EN 300 468, 5.2.3).
-use Rattle.std.specs.Prelude.{◌≡◌, ℕ, suc, ◌≤◌, Bool, List, [], ◌∷◌, ◌++◌, length, sum_by, flat_map, All, IsTrue, if◌then◌else◌}
+use Rattle.std.specs.Prelude.{◌≡◌, ℕ, ◌≤◌, Bool, List, [], ◌∷◌, length, sum_by, All, IsTrue}
+use Rattle.description_parts.specs.Cuts.{joined}
 use Rattle.description_parts.specs.Described.{Described, DescribedProgram}
 use Rattle.description_parts.specs.Ranges.{IsInRange, IsProgram}
-use Rattle.description_parts.specs.Tables.{most_services, sdt_parts, service_length, takes_service}
-
--- how many of the next services a section takes that has these already
-abbrev pub services_taken : List DescribedProgram → List DescribedProgram → ℕ
-services_taken begun [] = 0
-services_taken begun (p ∷ ps) = if takes_service begun p then suc (services_taken (begun ++ p ∷ []) ps) else 0
-
--- the services of all sections, in order
-abbrev pub all_services : List (List DescribedProgram) → List DescribedProgram
-all_services parts = flat_map (λ part. part) parts
+use Rattle.description_parts.specs.Tables.{most_services, sdt_parts, service_length}
 
 -- the sections have all programs, each once and in order; there is one section if all services fit in it; for a transponder each section has
 -- room for its services
 pub record AreSdtParts (is_transponder : Bool) (ps : List DescribedProgram) (parts : List (List DescribedProgram)) : Type 0 where
-  pub whole : all_services parts ≡ ps
+  pub whole : joined parts ≡ ps
   pub some : 1 ≤ length parts
   pub most : length parts ≤ length ps
   pub programs : All (All IsProgram) parts

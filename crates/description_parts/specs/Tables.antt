@@ -1,9 +1,11 @@
 -- The tables of a description: their numbers, PIDs, limits, sections and lengths (EN 300 468, 5.1.3; TR 101 290, 5.2).
-use Rattle.std.specs.Prelude.{ℕ, ◌+◌, ◌*◌, ◌/◌, ◌%◌, ◌-◌, max, min, not, ◌||◌, Bool, List, [], ◌∷◌, ◌++◌, Option, None, Some, is_some, length, map, filter, sum_by, nat_le}
+use Rattle.std.specs.Prelude.{ℕ, ◌+◌, ◌*◌, ◌/◌, ◌%◌, ◌-◌, max, min, not, ◌&&◌, ◌||◌, Bool, false, List, [], ◌∷◌, ◌++◌, Option, None, Some, is_some, length, map, filter, sum_by, nat_le}
 use Rattle.std.specs.Prelude.{slice_index_or, slice_get, option_and_then, position, unwrap_or, ◌==◌, if◌then◌else◌}
 use Rattle.std.specs.List.{list_any}
 use Rattle.std.specs.Option.{option_to_list}
 use Rattle.description_parts.specs.Described.{Described, DescribedNetwork, DescribedProgram, DescribedStream, DescribedEvent, DescribedEntry, DescribedTable}
+use Rattle.description_parts.specs.Cuts.{cut}
+use Rattle.description_parts.specs.declared.network_stream.NetworkStream.{NetworkStream}
 use Rattle.description_parts.specs.declared.table_kind.TableKind.{TableKind}
 use Rattle.description_parts.specs.declared.table_kind.TableKind.TheVariants.{Pat, Pmt, Nit, Sdt, Eit, Tdt, Private}
 
@@ -116,6 +118,13 @@ is_shared_with number s = list_any (λ n. n == number) s.shared_with
 abbrev pub shared_length : ℕ → DescribedStream → ℕ
 shared_length number s = if is_shared_with number s then 5 + es_info_length s else 0
 
+-- a program on air has the stream of that number, as its own or shared
+abbrev pub has_on_air : DescribedStream → DescribedProgram → Bool
+has_on_air s p = p.is_on_air && (p.number == s.program || is_shared_with p.number s)
+
+abbrev pub stream_on_air : Described → ℕ → Bool
+stream_on_air d k = elim (slice_get d.streams k) [ None ↦ false | Some s ↦ list_any (has_on_air s) d.programs ]
+
 -- the entry of a table in the PMT of the program of a number
 abbrev pub entry_if_of : ℕ → DescribedEntry → Option DescribedEntry
 entry_if_of number e = if e.program == number then Some e else None
@@ -131,36 +140,58 @@ abbrev pub pmt_length : Described → DescribedProgram → ℕ
 pmt_length d p = section_overhead + 4 + length p.descriptors + sum_by (entry_length p.number) d.streams + sum_by (shared_length p.number) d.streams
     + sum_by (listed_length p.number) d.tables
 
-abbrev pub nit_length : DescribedNetwork → ℕ
-nit_length n = section_overhead + 2 + (2 + length n.name) + 2 + 6 + length n.descriptors
+-- the transport streams of the network: this one, and the others
+abbrev pub network_streams : Described → DescribedNetwork → List NetworkStream
+network_streams d n = record {
+  transport_stream_id = d.transport_stream_id;
+  original_network_id = d.original_network_id;
+  descriptors = n.descriptors;
+} ∷ n.streams
+
+-- the bytes of a transport stream in the NIT
+abbrev pub network_stream_length : NetworkStream → ℕ
+network_stream_length s = 6 + length s.descriptors
+
+-- the bytes of the network's descriptors and of transport streams in a section of the NIT of section_length 1,021 at most
+abbrev pub most_network_bytes : ℕ
+most_network_bytes = 1008
+
+-- the transport streams in the sections of the NIT, the network's descriptors in the first: as many sections as they need for a
+-- transponder, otherwise one
+abbrev pub nit_parts : Described → DescribedNetwork → List (List NetworkStream)
+nit_parts d n = if d.is_transponder
+    then cut network_stream_length most_network_bytes (length n.network_descriptors) [] (network_streams d n)
+    else network_streams d n ∷ []
+
+-- the bytes of the section of the NIT at a place, with these transport streams
+abbrev pub nit_length : DescribedNetwork → ℕ → List NetworkStream → ℕ
+nit_length n place part =
+    section_overhead + 4 + (if place == 0 then length n.network_descriptors else 0) + sum_by network_stream_length part
+
+-- the bytes of all sections, from a place on
+abbrev pub nit_lengths : DescribedNetwork → ℕ → List (List NetworkStream) → List ℕ
+nit_lengths n place [] = []
+nit_lengths n place (part ∷ parts) = nit_length n place part ∷ nit_lengths n (place + 1) parts
 
 -- the bytes of a service in the SDT
 abbrev pub service_length : DescribedProgram → ℕ
-service_length p = 5 + (2 + 3 + length p.provider + length p.name)
+service_length p = 5 + length p.service_descriptors
 
 -- the bytes of services in a section of the SDT of section_length 1,021 at most
 abbrev pub most_services : ℕ
 most_services = 1009
 
--- the services of each section, in order: a section takes the next service if it has none yet, or has room for it
-abbrev pub takes_service : List DescribedProgram → DescribedProgram → Bool
-takes_service begun p = length begun == 0 || nat_le (sum_by service_length (begun ++ p ∷ [])) most_services
-
-abbrev pub services_cut : List DescribedProgram → List DescribedProgram → List (List DescribedProgram)
-services_cut begun [] = begun ∷ []
-services_cut begun (p ∷ ps) = if takes_service begun p then services_cut (begun ++ p ∷ []) ps else begun ∷ services_cut (p ∷ []) ps
-
 -- the programs in the sections of the SDT: as many sections as they need for a transponder, otherwise one
 abbrev pub sdt_parts : Described → List (List DescribedProgram)
-sdt_parts d = if d.is_transponder then services_cut [] d.programs else d.programs ∷ []
+sdt_parts d = if d.is_transponder then cut service_length most_services 0 [] d.programs else d.programs ∷ []
 
 -- the bytes of a section of the SDT with these services
 abbrev pub sdt_length : List DescribedProgram → ℕ
 sdt_length ps = section_overhead + 3 + sum_by service_length ps
 
--- the bytes of an event in an EIT section, with its short_event descriptor
+-- the bytes of an event in an EIT section
 abbrev pub event_length : DescribedEvent → ℕ
-event_length e = 12 + (2 + 3 + 1 + length e.name + 1 + length e.text)
+event_length e = 12 + length e.descriptors
 
 -- the bytes of the longest event of a list, 0 of none
 abbrev pub longest_event : List DescribedEvent → ℕ
@@ -192,12 +223,12 @@ eit_place d j = if d.is_transponder then (j % length (scheduled_programs d), j /
 abbrev pub tdt_length : ℕ
 tdt_length = 8
 
--- the greatest lengths of a program's PMT, of the NIT and of a section of the SDT, with their rooms
+-- the greatest lengths of a program's PMT, of the sections of the NIT and of a section of the SDT, with their rooms
 abbrev pub map_length : Described → DescribedProgram → ℕ
 map_length d p = room_length most_bytes p.pmt_packets (pmt_length d p)
 
-abbrev pub network_length : Described → DescribedNetwork → ℕ
-network_length d n = room_length most_bytes d.rooms.nit (nit_length n)
+abbrev pub network_lengths : Described → DescribedNetwork → List ℕ
+network_lengths d n = map (room_length most_bytes d.rooms.nit) (nit_lengths n 0 (nit_parts d n))
 
 abbrev pub services_length : Described → List DescribedProgram → ℕ
 services_length d ps = room_length most_bytes d.rooms.sdt (sdt_length ps)
@@ -206,7 +237,7 @@ services_length d ps = room_length most_bytes d.rooms.sdt (sdt_length ps)
 abbrev pub kind_lengths : Described → TableKind → List ℕ
 kind_lengths d Pat = room_length most_bytes d.rooms.pat (pat_length d) ∷ []
 kind_lengths d (Pmt p) = map (map_length d) (option_to_list (slice_get d.programs p))
-kind_lengths d Nit = map (network_length d) (option_to_list d.network)
+kind_lengths d Nit = elim d.network [ None ↦ [] | Some n ↦ network_lengths d n ]
 kind_lengths d Sdt = map (services_length d) (sdt_parts d)
 kind_lengths d Eit = if d.is_transponder
     then map (schedule_length (eit_room d)) (scheduled_programs d) ++ map (schedule_length (eit_room d)) (scheduled_programs d)

@@ -1,11 +1,11 @@
 //! The contents of a document, key by key.
 
-ghost use Rattle.std.specs.Prelude.{◌≡◌, ◌++◌, [], map, option_map, unwrap_or, None, IfOk};
+ghost use Rattle.std.specs.Prelude.{◌≡◌, ◌≤◌, ◌+◌, ◌++◌, [], length, map, option_map, unwrap_or, None, IfOk};
+ghost use Rattle.arrayvec.specs.ArrayVec.{array_vec_len};
 ghost use Rattle.std.specs.List.{filter_map};
 ghost use Rattle.toml.specs.View.{view};
 ghost use Rattle.description_values.specs.Values.{section_in};
-ghost use Rattle.description_parts.specs.Described.{event_view};
-ghost use Rattle.description_keys.specs.NetworkKeys.{network_descriptors};
+ghost use Rattle.description_keys.specs.NetworkKeys.{network_descriptors, own_descriptors};
 ghost use Rattle.description_keys.specs.TopKeys as top;
 ghost use Rattle.description_keys.specs.Refusals as refusals;
 ghost use Rattle.description_parts.specs.Channels.{described_channels};
@@ -13,8 +13,10 @@ ghost use Rattle.description_parts.specs.Contents as spec;
 
 use crate::channels::{append, push_channels};
 use crate::contents::Contents;
+use crate::event::EventDescription;
 use crate::map_entry::MapEntry;
 use crate::network::{Network, NetworkDescriptors};
+use crate::network_stream::{NetworkStream, NetworkStreams};
 use crate::private_table::PrivateTable;
 use crate::program::ProgramDescription;
 use crate::rooms::Rooms;
@@ -26,13 +28,14 @@ use description_keys::clock_keys::{clock_pid, clock_pid_in, has_own_clock};
 use description_keys::eit_keys::has_eit;
 use description_keys::frame_keys::framing;
 use description_keys::limits::is_transponder;
+use description_keys::loop_keys::{has_event_loop, has_service_loop};
 use description_keys::multiplexing_keys::multiplexing;
 use description_keys::owner::{is_owned_by, owner_number, program_number};
 use description_keys::sharers::sharers;
 use description_keys::version_keys::version_at;
 use description_keys::{stream_keys, table_keys};
 use description_values::arrays::elements;
-use description_values::descriptors::descriptors_or_none;
+use description_values::descriptors::{descriptor_bytes_or_none, descriptors_or_none};
 use description_values::moments::moment_at;
 use description_values::private_section::section_of;
 use description_values::texts::{
@@ -40,7 +43,7 @@ use description_values::texts::{
 };
 use description_values::values::{boolean_or, number_at, number_or};
 use description_values::{DescriptorLoop, PrivateSection};
-use dvb_tables::Event;
+use dvb_tables::{Event, Text, push_network_name, push_service, push_short_event};
 use std::alloc::{AllocError, Global};
 use toml::Value;
 
@@ -56,39 +59,160 @@ fn network_descriptors(document: &Value, network: &Value) -> NetworkDescriptors
     NetworkDescriptors { bytes }
 }
 
-fn network_of(document: &Value, network: &Value) -> Network
-    ensures { result ≡ spec.described_network (view document.now) (view network.now) }
+// Appends the descriptor of the network's name, if there is a name.
+#[tactic(auto, unfolding(dvb_tables::specs::Descriptors::network_name_descriptor))]
+fn push_name(out: &mut ArrayVec<u8, 966>, network: &Value)
+    requires { array_vec_len out.old ≤ 700 }
+    ensures value { out.new.items ≡ out.old.items ++ spec.name_descriptors (view network.now) }
+    ensures most { length out.new.items ≤ length out.old.items + 202 }
 {
-    Network {
-        id: number_at(network, "id", 0, 65_535) as u16,
-        name: text_at(network, "name").unwrap_or(empty_text()),
-        descriptors: network_descriptors(document, network),
+    if network.get("name").is_some() {
+        let name: Text<200> = text_at(network, "name").unwrap_or(empty_text());
+        push_network_name(out, &name);
     }
 }
 
-fn event_of(event: &Value) -> Event
-    ensures { event_view result ≡ spec.described_event (view event.now) }
+// Returns the descriptors of the network itself: its name, and the declared ones.
+fn own_descriptors(network: &Value) -> NetworkDescriptors
+    ensures { result ≡ spec.name_descriptors (view network.now) ++ unwrap_or (own_descriptors (view network.now)) [] }
 {
-    Event {
-        id: number_at(event, "id", 0, 65_535) as u16,
-        start: moment_at(event, "start").unwrap_or(0),
-        duration: number_at(event, "duration", 1, 359_999) as u32,
+    let declared = descriptors_or_none(network, "network_descriptors").unwrap_or(
+        DescriptorLoop::none(),
+    );
+    let mut bytes = ArrayVec::new();
+    push_name(&mut bytes, network);
+    append(&mut bytes, declared.as_bytes());
+    NetworkDescriptors { bytes }
+}
+
+fn other_stream(stream: &Value) -> NetworkStream
+    ensures { result ≡ spec.described_other (view stream.now) }
+{
+    NetworkStream {
+        transport_stream_id: number_at(stream, "ts_id", 0, 65_535) as u16,
+        original_network_id: number_at(stream, "original_network_id", 0, 65_535) as u16,
+        descriptors: descriptors_or_none(stream, "descriptors").unwrap_or(DescriptorLoop::none()),
+    }
+}
+
+fn few_streams(alloc: Global, parts: &[Value]) -> Result<NetworkStreams, AllocError>
+    requires { length parts.now ≤ 64 }
+    ensures { IfOk result (λ s. s ≡ map spec.described_other (map view parts.now)) }
+{
+    let mut streams = Vec::new(alloc);
+    for part in parts {
+        streams.push(other_stream(part))?;
+    }
+    Ok(NetworkStreams { streams })
+}
+
+// Returns the other transport streams of the network, if they are at most 64.
+fn other_streams(alloc: Global, parts: &[Value]) -> Result<NetworkStreams, AllocError>
+    ensures { IfOk result (λ s. s ≡ spec.described_others (map view parts.now)) }
+{
+    if parts.len() <= 64 {
+        few_streams(alloc, parts)
+    } else {
+        few_streams(alloc, &[])
+    }
+}
+
+fn network_of(alloc: Global, document: &Value, network: &Value) -> Result<Network, AllocError>
+    ensures { IfOk result (λ n. n ≡ spec.described_network (view document.now) (view network.now)) }
+{
+    let streams = other_streams(alloc, elements(network, "stream"))?;
+    Ok(Network {
+        id: number_at(network, "id", 0, 65_535) as u16,
+        network_descriptors: own_descriptors(network),
+        descriptors: network_descriptors(document, network),
+        streams,
+    })
+}
+
+// Returns the descriptor of an event's name and text.
+fn short_event(event: &Value) -> ArrayVec<u8, 4000>
+    ensures { result.items ≡ spec.short_event (view event.now) }
+{
+    let text = Event {
+        id: 0,
+        start: 0,
+        duration: 0,
         language: language_at(event, "language").unwrap_or(*b"und"),
         name: text_at(event, "name").unwrap_or(empty_text()),
         text: text_at(event, "text").unwrap_or(empty_text()),
+    };
+    let mut bytes = ArrayVec::new();
+    push_short_event(&mut bytes, &text);
+    bytes
+}
+
+fn event_bytes(event: &Value) -> ArrayVec<u8, 4000>
+    ensures { result.items ≡ spec.event_loop (view event.now) }
+{
+    if has_event_loop(event) {
+        descriptor_bytes_or_none(event, "descriptors").unwrap_or(ArrayVec::new())
+    } else {
+        short_event(event)
     }
 }
 
-fn events_of(alloc: Global, number: u16, events: &[Value]) -> Result<Vec<Event>, AllocError>
-    ensures { IfOk result (λ v. map event_view v.items ≡ spec.described_events number (map view events.now)) }
+// Returns a copy of bytes that takes no more memory than they need.
+fn kept(alloc: Global, bytes: &[u8]) -> Result<Vec<u8>, AllocError>
+    ensures { IfOk result (λ v. v.items ≡ bytes.now) }
+{
+    let mut kept = Vec::new(alloc);
+    kept.extend_from_slice(bytes)?;
+    Ok(kept)
+}
+
+fn event_of(alloc: Global, event: &Value) -> Result<EventDescription, AllocError>
+    ensures { IfOk result (λ e. e ≡ spec.described_event (view event.now)) }
+{
+    let descriptors = kept(alloc, event_bytes(event).as_slice())?;
+    Ok(EventDescription {
+        id: number_at(event, "id", 0, 65_535) as u16,
+        start: moment_at(event, "start").unwrap_or(0),
+        duration: number_at(event, "duration", 1, 359_999) as u32,
+        descriptors,
+    })
+}
+
+fn events_of(
+    alloc: Global,
+    number: u16,
+    events: &[Value],
+) -> Result<Vec<EventDescription>, AllocError>
+    ensures { IfOk result (λ v. v.items ≡ spec.described_events number (map view events.now)) }
 {
     let mut owned = Vec::new(alloc);
     for event in events {
         if is_owned_by(number, event) {
-            owned.push(event_of(event))?;
+            owned.push(event_of(alloc, event)?)?;
         }
     }
     Ok(owned)
+}
+
+// Returns the descriptor of a service's type, provider and name.
+fn named_service(program: &Value) -> ArrayVec<u8, 1004>
+    ensures { result.items ≡ spec.named_service (view program.now) }
+{
+    let service_type = number_or(1, program, "service_type", 0, 255) as u8;
+    let provider: Text<100> = text_or_empty(program, "provider").unwrap_or(empty_text());
+    let name: Text<100> = text_or_empty(program, "name").unwrap_or(empty_text());
+    let mut bytes = ArrayVec::new();
+    push_service(&mut bytes, service_type, &provider, &name);
+    bytes
+}
+
+fn service_bytes(program: &Value) -> ArrayVec<u8, 1004>
+    ensures { result.items ≡ spec.service_loop (view program.now) }
+{
+    if has_service_loop(program) {
+        descriptor_bytes_or_none(program, "service_descriptors").unwrap_or(ArrayVec::new())
+    } else {
+        named_service(program)
+    }
 }
 
 fn program_of(
@@ -100,6 +224,7 @@ fn program_of(
 {
     let number = program_number(program).unwrap_or(1);
     let events = events_of(alloc, number, elements(document, "event"))?;
+    let service_descriptors = kept(alloc, service_bytes(program).as_slice())?;
     Ok(ProgramDescription {
         number,
         pmt_pid: number_at(program, "pmt_pid", 32, 8_190) as u16,
@@ -111,9 +236,10 @@ fn program_of(
         pmt_version: version_at(3, number, document),
         eit_count: version_at(4, number, document),
         descriptors: descriptors_or_none(program, "descriptors").unwrap_or(DescriptorLoop::none()),
-        service_type: number_or(1, program, "service_type", 0, 255) as u8,
-        provider: text_or_empty(program, "provider").unwrap_or(empty_text()),
-        name: text_or_empty(program, "name").unwrap_or(empty_text()),
+        service_descriptors,
+        running_status: number_or(4, program, "running_status", 0, 7) as u8,
+        free_ca: boolean_or(false, program, "free_ca").unwrap_or(false),
+        eit_schedule: boolean_or(false, program, "eit_schedule").unwrap_or(false),
         events,
     })
 }
@@ -220,12 +346,12 @@ fn tables_of(alloc: Global, parts: &[Value]) -> Result<Vec<PrivateTable>, AllocE
     Ok(tables)
 }
 
-fn network_in(document: &Value) -> Option<Network>
-    ensures { result ≡ option_map (spec.described_network (view document.now)) (refusals.network_of (view document.now)) }
+fn network_in(alloc: Global, document: &Value) -> Result<Option<Network>, AllocError>
+    ensures { IfOk result (λ o. o ≡ option_map (spec.described_network (view document.now)) (refusals.network_of (view document.now))) }
 {
     match document.get("network") {
-        None => None,
-        Some(network) => Some(network_of(document, network)),
+        None => Ok(None),
+        Some(network) => Ok(Some(network_of(alloc, document, network)?)),
     }
 }
 
@@ -267,6 +393,7 @@ pub fn contents_of(alloc: Global, document: &Value) -> Result<Contents, AllocErr
     let programs = programs_of(alloc, document, elements(document, "program"))?;
     let streams = streams_of(alloc, elements(document, "stream"))?;
     let tables = tables_of(alloc, elements(document, "table"))?;
+    let network = network_in(alloc, document)?;
     Ok(Contents {
         rate: rate_of(document),
         start: moment_at(document, "start").unwrap_or(0),
@@ -280,7 +407,7 @@ pub fn contents_of(alloc: Global, document: &Value) -> Result<Contents, AllocErr
         has_eit: has_eit(document),
         rooms: rooms_of(document),
         versions: versions_of(document),
-        network: network_in(document),
+        network,
         programs,
         streams,
         tables,

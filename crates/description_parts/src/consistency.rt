@@ -173,10 +173,7 @@ impl Contents {
                 None => false,
                 Some(program) => self.map_length(program) > 1024,
             },
-            TableKind::Nit => match self.network() {
-                None => false,
-                Some(network) => self.network_length(network) > 1024,
-            },
+            TableKind::Nit => has_long(self.network_lengths().as_slice()),
             TableKind::Sdt => has_long(self.sdt_lengths().as_slice()),
             TableKind::Pat | TableKind::Eit | TableKind::Tdt | TableKind::Private(_) => false,
         }

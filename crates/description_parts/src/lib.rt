@@ -7,8 +7,10 @@
 
 // What a description holds.
 mod contents;
+mod event;
 mod map_entry;
 mod network;
+mod network_stream;
 mod private_table;
 mod program;
 mod rooms;
@@ -18,9 +20,11 @@ mod versions;
 // Tables: their numbers, the lengths of their sections, the services of the SDT. Whose clock references programs have.
 mod clocks;
 pub mod laws;
+mod nit_parts;
 mod numbers;
 mod sdt_parts;
 pub mod section_lengths;
+mod section_places;
 pub mod table_kind;
 
 // Parts of a document, and whether they are consistent.
@@ -29,8 +33,10 @@ mod channels;
 pub mod consistency;
 
 pub use contents::Contents;
+pub use event::EventDescription;
 pub use map_entry::MapEntry;
 pub use network::{Network, NetworkDescriptors};
+pub use network_stream::{NetworkStream, NetworkStreams};
 pub use private_table::PrivateTable;
 pub use program::ProgramDescription;
 pub use rooms::Rooms;

@@ -2,12 +2,12 @@
 
 ghost use Rattle.std.specs.Prelude.{◌≡◌, ◌≤◌, List, ℕ, length};
 
+use crate::network_stream::NetworkStreams;
 use arrayvec::ArrayVec;
-use dvb_tables::Text;
 use std::marker::Model;
 
-/// The descriptors of the network's transport stream: at most 700 bytes, and channel numbers of at most 64 services. A
-/// contract sees these bytes.
+/// The descriptors of the network, or of its transport stream: at most 700 bytes, and a name, or channel numbers of at most 64
+/// services. A contract sees these bytes.
 #[derive(Drop)]
 pub struct NetworkDescriptors {
     pub(crate) bytes: ArrayVec<u8, 966>,
@@ -33,7 +33,9 @@ impl NetworkDescriptors {
 #[derive(Drop)]
 pub struct Network {
     pub id: u16,
-    pub name: Text<200>,
-    /// The descriptors of its one transport stream.
+    pub network_descriptors: NetworkDescriptors,
+    /// The descriptors of this transport stream.
     pub descriptors: NetworkDescriptors,
+    /// The other transport streams.
+    pub streams: NetworkStreams,
 }

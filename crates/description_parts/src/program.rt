@@ -1,10 +1,11 @@
 //! A program of the description.
 
-ghost use Rattle.std.specs.Prelude.{◌≡◌, map};
-ghost use Rattle.description_parts.specs.Described.{event_view};
+ghost use Rattle.std.specs.Prelude.{◌≡◌, ◌≤◌, length};
+ghost use Rattle.dvb_tables.specs.RunningStates.{status_of};
 
+use crate::event::EventDescription;
 use description_values::DescriptorLoop;
-use dvb_tables::{Event, Text};
+use dvb_tables::RunningStatus;
 use std::marker::Model;
 
 /// A program (ISO/IEC 13818-1, 2.4.4.8) with its service (EN 300 468, 5.2.3) and the service's events.
@@ -20,15 +21,16 @@ pub struct ProgramDescription {
     pub(crate) pmt_version: u8,
     pub(crate) eit_count: u8,
     pub(crate) descriptors: DescriptorLoop,
-    pub(crate) service_type: u8,
-    pub(crate) provider: Text<100>,
-    pub(crate) name: Text<100>,
-    pub(crate) events: Vec<Event>,
+    pub(crate) service_descriptors: Vec<u8>,
+    pub(crate) running_status: u8,
+    pub(crate) free_ca: bool,
+    pub(crate) eit_schedule: bool,
+    pub(crate) events: Vec<EventDescription>,
 }
 
 impl Model for ProgramDescription {
-    ghost use Rattle.std.specs.Prelude.{map};
-    ghost use Rattle.description_parts.specs.Described.{DescribedProgram, event_view};
+    ghost use Rattle.std.specs.Prelude.{◌<◌, ◌≤◌, length};
+    ghost use Rattle.description_parts.specs.Described.{DescribedProgram};
 
     ghost Value = { DescribedProgram };
 
@@ -43,11 +45,14 @@ impl Model for ProgramDescription {
       pmt_version = p.pmt_version;
       eit_count = p.eit_count;
       descriptors = p.descriptors;
-      service_type = p.service_type;
-      provider = p.provider;
-      name = p.name;
-      events = map event_view p.events.items;
+      service_descriptors = p.service_descriptors.items;
+      running_status = p.running_status;
+      free_ca = p.free_ca;
+      eit_schedule = p.eit_schedule;
+      events = p.events.items;
     } };
+
+    ghost invariant = { λ p. (length p.service_descriptors.items ≤ 1004) × (p.running_status < 8) };
 }
 
 impl ProgramDescription {
@@ -121,30 +126,38 @@ impl ProgramDescription {
         &self.descriptors
     }
 
-    /// Returns service_type of its service.
-    pub fn service_type(&self) -> u8
-        ensures { result ≡ self.now.service_type }
+    /// Returns the loop of descriptors of its service.
+    pub fn service_descriptors(&self) -> &[u8]
+        ensures value { result.now ≡ self.now.service_descriptors }
+        ensures fits { length self.now.service_descriptors ≤ 1004 }
     {
-        self.service_type
+        self.service_descriptors.as_slice()
     }
 
-    /// Returns the provider of its service.
-    pub fn provider(&self) -> &Text<100>
-        ensures { result.now ≡ self.now.provider }
+    /// Returns running_status of its service, if the program is on air.
+    pub fn running_status(&self) -> RunningStatus
+        ensures { result ≡ status_of self.now.running_status }
     {
-        &self.provider
+        RunningStatus::of_code(self.running_status)
     }
 
-    /// Returns the name of its service.
-    pub fn name(&self) -> &Text<100>
-        ensures { result.now ≡ self.now.name }
+    /// Returns free_CA_mode of its service.
+    pub fn free_ca(&self) -> bool
+        ensures { result ≡ self.now.free_ca }
     {
-        &self.name
+        self.free_ca
+    }
+
+    /// Returns EIT_schedule_flag of its service.
+    pub fn eit_schedule(&self) -> bool
+        ensures { result ≡ self.now.eit_schedule }
+    {
+        self.eit_schedule
     }
 
     /// Returns the events of its service, in order.
-    pub fn events(&self) -> &[Event]
-        ensures { map event_view result.now ≡ self.now.events }
+    pub fn events(&self) -> &[EventDescription]
+        ensures { result.now ≡ self.now.events }
     {
         self.events.as_slice()
     }

@@ -1,54 +1,38 @@
 //! The services in each section of the service description table (EN 300 468, 5.2.3).
 
-ghost use Rattle.std.specs.Prelude.{◌≡◌, ◌<◌, ◌≤◌, ◌+◌, ◌^◌, ◌==◌, ◌||◌, nat_le, [], length, option_map, slice_get};
-ghost use Rattle.std.specs.Prelude.{IfSome};
-ghost use Rattle.description_parts.specs.SdtParts.{services_taken};
-ghost use Rattle.description_parts.specs.Tables.{most_services, sdt_parts, services_cut};
+ghost use Rattle.std.specs.Prelude.{◌≡◌, ◌≤◌, [], length, map, option_map, slice_get, IfSome};
+ghost use Rattle.description_parts.specs.Cuts.{cut};
+ghost use Rattle.description_parts.specs.Tables.{most_services, sdt_parts, service_length};
 
 use crate::contents::Contents;
 use crate::program::ProgramDescription;
 use crate::section_lengths::service_length;
+use crate::section_places::places_at;
+use arrayvec::ArrayVec;
 
-// Returns whether a section that has some services, of some bytes, takes one of a length.
-fn takes(services: usize, bytes: usize, length: usize) -> bool
-    requires { bytes + length < 2 ^ 32 }
-    ensures { result ≡ (services == 0 || nat_le (bytes + length) most_services) }
-{
-    services == 0 || bytes + length <= 1009
-}
-
-// Returns how many of the services the first section takes: at least one, and as many as its loop of 1,009 bytes holds.
-fn first_services(programs: &[ProgramDescription]) -> usize
+fn service_lengths(programs: &[ProgramDescription]) -> ArrayVec<u16, 64>
     requires { length programs.now ≤ 64 }
-    ensures value { result ≡ services_taken [] programs.now }
-    ensures bound { result ≤ length programs.now }
+    ensures { result.items ≡ map service_length programs.now }
 {
-    let mut bytes = 0;
-    for place in 0..programs.len() {
-        let length = service_length(&programs[place]);
-        if !takes(place, bytes, length) {
-            return place;
-        }
-        bytes += length;
+    let mut lengths = ArrayVec::new();
+    for program in programs {
+        lengths.push(service_length(program) as u16);
     }
-    programs.len()
+    lengths
 }
 
 // Returns the services of a section, of as many sections as the services need.
 fn part_at(programs: &[ProgramDescription], part: usize) -> Option<&[ProgramDescription]>
     requires { length programs.now ≤ 64 }
-    ensures value { option_map (λ s. s.now) result ≡ slice_get (services_cut [] programs.now) part }
+    ensures value { option_map (λ s. s.now) result
+        ≡ slice_get (cut service_length most_services 0 [] programs.now) part }
     ensures few { IfSome result (λ s. length s.now ≤ 64) }
 {
-    let mut rest = programs;
-    for _ in 0..part {
-        let count = first_services(rest);
-        if count == rest.len() {
-            return None;
-        }
-        rest = &rest[count..];
+    let lengths = service_lengths(programs);
+    match places_at(lengths.as_slice(), 1009, 0, part) {
+        None => None,
+        Some((begin, end)) => Some(&programs[begin..end]),
     }
-    Some(&rest[..first_services(rest)])
 }
 
 impl Contents {

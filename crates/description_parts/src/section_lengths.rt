@@ -1,12 +1,12 @@
 //! The greatest lengths of sections, over all moments.
 
-ghost use Rattle.std.specs.Prelude.{◌≡◌, ◌≤◌, ◌+◌, ◌++◌, [], ◌∷◌, length, map, max, sum_by, filter};
+ghost use Rattle.std.specs.Prelude.{◌≡◌, ◌≤◌, ◌+◌, ◌==◌, ◌++◌, [], ◌∷◌, length, map, max, sum_by, filter, All, if◌then◌else◌};
 ghost use Rattle.arrayvec.specs.ArrayVec.{array_vec_len};
-ghost use Rattle.description_parts.specs.Described.{event_view};
 ghost use Rattle.description_parts.specs.Ranges.{IsInRange};
 ghost use Rattle.description_parts.specs.Tables as spec;
 
 use crate::contents::Contents;
+use crate::event::EventDescription;
 use crate::network::Network;
 use crate::private_table::PrivateTable;
 use crate::program::ProgramDescription;
@@ -14,7 +14,6 @@ use crate::stream::StreamDescription;
 use crate::table_kind::{TableKind, is_scheduled};
 use arrayvec::ArrayVec;
 use description_values::PrivateSection;
-use dvb_tables::Event;
 
 // Returns the greatest length of a section whose text takes `length` bytes, with room for a number of packets: at most `most`
 // bytes, and one packet reserves nothing.
@@ -115,15 +114,15 @@ fn tables_length(number: u16, tables: &[PrivateTable]) -> usize
 // Returns the number of bytes of a service in the SDT.
 pub(crate) fn service_length(program: &ProgramDescription) -> usize
     ensures value { result ≡ spec.service_length program.now }
-    ensures bound { result ≤ 210 }
+    ensures bound { result ≤ 1009 }
 {
-    10 + program.provider().as_bytes().len() + program.name().as_bytes().len()
+    5 + program.service_descriptors().len()
 }
 
 fn service_bytes(programs: &[ProgramDescription]) -> usize
     requires { length programs.now ≤ 64 }
     ensures value { result ≡ sum_by spec.service_length programs.now }
-    ensures bound { result ≤ 13440 }
+    ensures bound { result ≤ 64576 }
 {
     let mut total = 0;
     for program in programs {
@@ -136,22 +135,22 @@ fn service_bytes(programs: &[ProgramDescription]) -> usize
 fn sdt_length(services: &[ProgramDescription]) -> usize
     requires { length services.now ≤ 64 }
     ensures value { result ≡ spec.sdt_length services.now }
-    ensures bound { result ≤ 13455 }
+    ensures bound { result ≤ 64591 }
 {
     15 + service_bytes(services)
 }
 
 // Returns the number of bytes of an event in an EIT section.
-fn event_length(event: &Event) -> usize
-    ensures value { result ≡ spec.event_length (event_view event.now) }
-    ensures bound { result ≤ 269 }
+fn event_length(event: &EventDescription) -> usize
+    ensures value { result ≡ spec.event_length event.now }
+    ensures bound { result ≤ 4012 }
 {
-    19 + event.name.as_bytes().len() + event.text.as_bytes().len()
+    12 + event.descriptors().len()
 }
 
-fn longest_event(events: &[Event]) -> usize
-    ensures value { result ≡ spec.longest_event (map event_view events.now) }
-    ensures bound { result ≤ 269 }
+fn longest_event(events: &[EventDescription]) -> usize
+    ensures value { result ≡ spec.longest_event events.now }
+    ensures bound { result ≤ 4012 }
 {
     let mut longest = 0;
     for event in events {
@@ -160,16 +159,38 @@ fn longest_event(events: &[Event]) -> usize
     longest
 }
 
-fn nit_length(network: &Network) -> usize
-    ensures value { result ≡ spec.nit_length network.now }
-    ensures bound { result ≤ 1190 }
+fn total(lengths: &[u16]) -> usize
+    requires few { length lengths.now ≤ 65 }
+    requires bounded { All (λ n. n ≤ 972) lengths.now }
+    ensures value { result ≡ sum_by (λ n. n) lengths.now }
+    ensures bound { result ≤ 63180 }
 {
-    24 + network.name.as_bytes().len() + network.descriptors.as_bytes().len()
+    let mut total = 0;
+    for length in lengths {
+        total += *length as usize;
+    }
+    total
+}
+
+// Returns the number of bytes of the section of the NIT at a place, with transport streams of these lengths.
+fn nit_length(network: &Network, place: usize, lengths: &[u16]) -> usize
+    requires few { length lengths.now ≤ 65 }
+    requires bounded { All (λ n. n ≤ 972) lengths.now }
+    ensures value { result ≡ 16 + (if place == 0 then length network.now.network_descriptors else 0)
+        + sum_by (λ n. n) lengths.now }
+    ensures bound { result ≤ 64162 }
+{
+    let before = if place == 0 {
+        network.network_descriptors.as_bytes().len()
+    } else {
+        0
+    };
+    16 + before + total(lengths)
 }
 
 fn eit_length(program: &ProgramDescription) -> usize
     ensures value { result ≡ spec.eit_length program.now }
-    ensures bound { result ≤ 287 }
+    ensures bound { result ≤ 4030 }
 {
     18 + longest_event(program.events())
 }
@@ -292,12 +313,22 @@ impl Contents {
         room_length(1024, program.pmt_packets(), self.pmt_length(program))
     }
 
-    // Returns the greatest length of the NIT.
-    pub(crate) fn network_length(&self, network: &Network) -> usize
-        ensures value { result ≡ spec.network_length self.now network.now }
-        ensures bound { result ≤ 1190 }
+    // Returns the greatest lengths of the sections of the NIT.
+    fn lengths_in(&self, network: &Network) -> ArrayVec<u16, 128>
+        ensures { result.items ≡ spec.network_lengths self.now network.now }
     {
-        room_length(1024, self.rooms().nit, nit_length(network))
+        let streams = self.network_stream_lengths(network);
+        let mut lengths = ArrayVec::new();
+        for part in 0..66 {
+            match self.nit_places(network, part) {
+                None => return lengths,
+                Some((begin, end)) => {
+                    let length = nit_length(network, part, &streams[begin..end]);
+                    lengths.push(room_length(1024, self.rooms().nit, length) as u16);
+                }
+            }
+        }
+        lengths
     }
 
     // Returns the greatest length of a section of the SDT with these services.
@@ -318,12 +349,13 @@ impl Contents {
         }
     }
 
-    fn network_lengths(&self) -> ArrayVec<u16, 128>
+    // Returns the lengths of the sections of the NIT.
+    pub(crate) fn network_lengths(&self) -> ArrayVec<u16, 128>
         ensures { result.items ≡ spec.kind_lengths self.now TableKind.Nit }
     {
         match self.network() {
             None => ArrayVec::new(),
-            Some(network) => one(self.network_length(network) as u16),
+            Some(network) => self.lengths_in(network),
         }
     }
 

@@ -2,11 +2,12 @@
 
 ghost use Rattle.std.specs.Prelude.{◌≡◌, ◌<◌, ◌≤◌, ◌+◌, ◌++◌};
 ghost use Rattle.std.specs.List.{list_any};
-ghost use Rattle.description_parts.specs.Tables.{only_if, has_event, is_scheduled};
+ghost use Rattle.description_parts.specs.Tables.{only_if, has_event, has_on_air, is_scheduled};
 ghost use Rattle.arrayvec.specs.ArrayVec.{array_vec_len};
 
 use crate::contents::Contents;
 use crate::program::ProgramDescription;
+use crate::stream::StreamDescription;
 use arrayvec::ArrayVec;
 
 /// A table of the description; the numbers are places in its programs and in its private tables.
@@ -59,9 +60,24 @@ fn has_schedule(programs: &[ProgramDescription]) -> bool
     programs.iter().any(|program| has_event(program))
 }
 
+// Returns whether a program is on air and has a stream, as its own or shared.
+fn has_on_air(stream: &StreamDescription, program: &ProgramDescription) -> bool
+    ensures { result ≡ has_on_air stream.now program.now }
+{
+    let number = program.number();
+    program.is_on_air() && (number == stream.program || stream.shared_with.contains(number))
+}
+
+/// Returns whether a program on air has a stream, as its own or shared.
+pub fn has_one_on_air(stream: &StreamDescription, programs: &[ProgramDescription]) -> bool
+    ensures { result ≡ list_any (has_on_air stream.now) programs.now }
+{
+    programs.iter().any(|program| has_on_air(stream, program))
+}
+
 impl Contents {
     ghost use Rattle.description_parts.specs.Tables.{service_tables, table_count, table_kind, table_pid, kind_pid};
-    ghost use Rattle.description_parts.specs.Tables.{table_limit, kind_limit, has_events_table};
+    ghost use Rattle.description_parts.specs.Tables.{table_limit, kind_limit, has_events_table, stream_on_air};
 
     /// Returns whether the description has an EIT.
     pub fn has_events_table(&self) -> bool
@@ -112,6 +128,16 @@ impl Contents {
             Some(TableKind::Private(private))
         } else {
             None
+        }
+    }
+
+    /// Returns whether a program on air has the stream of a number, as its own or shared.
+    pub fn stream_on_air(&self, stream: usize) -> bool
+        ensures { result ≡ stream_on_air self.now stream }
+    {
+        match self.streams().get(stream) {
+            None => false,
+            Some(stream) => has_one_on_air(stream, self.programs()),
         }
     }
 

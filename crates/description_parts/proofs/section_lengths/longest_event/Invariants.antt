@@ -1,10 +1,9 @@
-use Rattle.std.proofs.Common.{◌≡◌, ◌≤◌, max, map, drop}
-use Rattle.description_parts.specs.Described.{event_view}
+use Rattle.std.proofs.Common.{◌≡◌, ◌≤◌, max, drop}
 use Rattle.description_parts.specs.Tables.{longest_event}
 use Rattle.description_parts.proofs.section_lengths.longest_event.Given as goal
 
 abbrev pub invariant-loop-event : goal.invariant-loop-event
 invariant-loop-event l = record {
-  longest : longest_event (map event_view l.events) ≡ max l.longest (longest_event (map event_view (drop l.event-index l.events)));
-  bound : l.longest ≤ 269;
+  longest : longest_event l.events ≡ max l.longest (longest_event (drop l.event-index l.events));
+  bound : l.longest ≤ 4012;
 }

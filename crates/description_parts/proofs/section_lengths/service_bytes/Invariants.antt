@@ -5,5 +5,5 @@ use Rattle.description_parts.proofs.section_lengths.service_bytes.Given as goal
 abbrev pub invariant-loop-program : goal.invariant-loop-program
 invariant-loop-program l = record {
   total : l.total ≡ sum_by service_length (take l.program-index l.programs);
-  bound : l.total ≤ 210 * l.program-index;
+  bound : l.total ≤ 1009 * l.program-index;
 }
