@@ -1,11 +1,11 @@
 -- The worked service with video and sound is in its ranges.
 use Rattle.std.specs.Prelude.{Contains}
 use Rattle.std.specs.List.{IsDistinct}
-use Rattle.std.proofs.Common.{◌≡◌, ◌≤◌, ℕ, false, [], ◌∷◌, Some, None, refl, inr, arith}
-use Rattle.std.proofs.lemmas.List.Elements.{All-nil, All-cons}
+use Rattle.std.proofs.Common.{◌≡◌, ◌≤◌, ◌<◌, ℕ, false, All, [], ◌∷◌, Some, None, refl, inr, arith}
+use Rattle.std.proofs.lemmas.List.Elements.{All-nil, All-cons, All-from_recursion}
 use Rattle.description_parts.specs.Described.{DescribedNetwork, DescribedProgram, DescribedStream}
-use Rattle.description_parts.specs.Tables.{pmt_length, nit_length}
-use Rattle.description_parts.specs.Ranges.{IsLanguage, IsNetwork, IsProgram, IsEvent, IsMultiplexingBuffer, IsFraming, IsStream, IsTable}
+use Rattle.description_parts.specs.Tables.{pmt_length, nit_lengths, nit_parts}
+use Rattle.description_parts.specs.Ranges.{IsBytes, IsLanguage, IsNetwork, IsProgram, IsEvent, IsMultiplexingBuffer, IsFraming, IsStream, IsTable}
 use Rattle.description_parts.specs.Ranges.{IsListed, IsSharing, IsInRange, program_numbers, longest_section}
 use Rattle.laws_run.specs.WorkedVideo.{video_stream, video_buffer, sound_stream, sound_framing, video_program, video_service}
 use Rattle.laws_run.proofs.WorkedRanges.{pid, no_bytes, no_versions, one_packet}
@@ -76,6 +76,12 @@ sound_is = record {
   framing = All-cons (IsFraming 100) sound_framing [] framing_is (All-nil (IsFraming 100));
 }
 
+service_loop : IsBytes 1004 (72 ∷ 3 ∷ 1 ∷ 0 ∷ 0 ∷ [])
+service_loop = record {
+  fits = omega arith;
+  octets = All-from_recursion (λ (b : ℕ). b < 256) (72 ∷ 3 ∷ 1 ∷ 0 ∷ 0 ∷ []) (omega arith, (omega arith, (omega arith, (omega arith, (omega arith, tt)))));
+}
+
 program_is : IsProgram video_program
 program_is = record {
   some_number = omega arith;
@@ -89,9 +95,8 @@ program_is = record {
   pmt_version = omega arith;
   eit_count = omega arith;
   descriptors = no_bytes 700;
-  service_type = omega arith;
-  provider = no_bytes 100;
-  name = no_bytes 100;
+  service_descriptors = service_loop;
+  running_status = omega arith;
   events = All-nil IsEvent;
 }
 
@@ -138,6 +143,6 @@ video_in_range = record {
   pmt_lengths =
       All-cons (λ (p : DescribedProgram). pmt_length video_service p ≤ longest_section) video_program [] (omega arith)
       (All-nil (λ (p : DescribedProgram). pmt_length video_service p ≤ longest_section));
-  nit_length = All-nil (λ (n : DescribedNetwork). nit_length n ≤ longest_section);
+  nit_lengths = All-nil (λ (n : DescribedNetwork). All (λ (l : ℕ). l ≤ longest_section) (nit_lengths n 0 (nit_parts video_service n)));
   sdt_lengths = λ no. absurd (cc);
 }

@@ -39,9 +39,10 @@ worked_program = record {
   pmt_version = 0;
   eit_count = 0;
   descriptors = [];
-  service_type = 2;
-  provider = [];
-  name = [];
+  service_descriptors = 72 ∷ 3 ∷ 2 ∷ 0 ∷ 0 ∷ [];
+  running_status = 4;
+  free_ca = false;
+  eit_schedule = false;
   events = [];
 }
 

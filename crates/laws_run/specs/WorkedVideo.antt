@@ -74,9 +74,10 @@ video_program = record {
   pmt_version = 0;
   eit_count = 0;
   descriptors = [];
-  service_type = 1;
-  provider = [];
-  name = [];
+  service_descriptors = 72 ∷ 3 ∷ 1 ∷ 0 ∷ 0 ∷ [];
+  running_status = 4;
+  free_ca = false;
+  eit_schedule = false;
   events = [];
 }
 

@@ -1,16 +1,18 @@
 -- The round of a table is not long.
 use Rattle.std.specs.Prelude.{sum_by, All, if◌then◌else◌}
-use Rattle.std.proofs.Common.{◌≡◌, ℕ, ◌+◌, ◌*◌, ◌≤◌, Bool, true, false, List, [], ◌∷◌, ◌++◌, length, map, get_or, Option, None, Some, slice_get, refl, ap, sym, ◌∙◌}
+use Rattle.std.proofs.Common.{◌≡◌, ℕ, suc, ◌+◌, ◌*◌, ◌≤◌, Bool, true, false, List, [], ◌∷◌, ◌++◌, length, map, get_or, Option, None, Some, slice_get, refl, ap, sym, ◌∙◌}
 use Rattle.std.proofs.Common.{flat_map, length-append, arith}
 use Rattle.std.specs.Option.{option_to_list, unwrap_or}
 use Rattle.std.proofs.lemmas.List.Elements.{All-filter, All-get_or, All-head, All-tail}
 use Rattle.std.proofs.lemmas.List.Sums.{count_by-le-length, length-filter, sum_by-append, sum_by-cons}
 use Rattle.std.proofs.lemmas.Option.{slice_get_within, unwrap_or-slice_get}
-use Rattle.description_parts.specs.Described.{Described, DescribedProgram, DescribedEvent, DescribedTable}
-use Rattle.description_parts.specs.Ranges.{IsInRange, IsProgram, IsEvent, IsBytes, IsTable}
-use Rattle.description_parts.specs.Tables.{packets_of_section, pat_length, map_length, most_bytes, most_eit_bytes, network_length, nit_length, pmt_length, room_length}
-use Rattle.description_parts.specs.Tables.{service_length, longest_event, eit_length, eit_lengths, eit_room, is_scheduled, schedule_length, services_length}
+use Rattle.description_parts.specs.Described.{Described, DescribedNetwork, DescribedProgram, DescribedEvent, DescribedTable}
+use Rattle.description_parts.specs.Ranges.{IsInRange, IsNetwork, IsProgram, IsEvent, IsBytes, IsTable}
+use Rattle.description_parts.specs.Tables.{packets_of_section, pat_length, map_length, most_bytes, most_eit_bytes, network_lengths, nit_lengths, nit_parts, pmt_length}
+use Rattle.description_parts.specs.Tables.{room_length, service_length, longest_event, eit_length, eit_lengths, eit_room, is_scheduled, schedule_length, services_length}
 use Rattle.description_parts.specs.Tables.{kind_lengths, sdt_length, sdt_parts, scheduled_programs, table_kind, round_packets}
+use Rattle.description_parts.specs.declared.network_stream.NetworkStream.{NetworkStream}
+use Rattle.description_parts.proofs.NitParts.{nit_few}
 use Rattle.description_parts.proofs.RoomLengths.{room_most, room_places}
 use Rattle.description_parts.proofs.SdtParts.{sdt_parts_law}
 use Rattle.description_parts.specs.declared.table_kind.TableKind.{TableKind}
@@ -32,21 +34,21 @@ at_most_one : {X : Type 0} (o : Option X) → length (option_to_list o) ≤ 1
 at_most_one None = omega arith
 at_most_one (Some x) = omega arith
 
-few_services : (ps : List DescribedProgram) → All IsProgram ps → sum_by service_length ps ≤ 210 * length ps
+few_services : (ps : List DescribedProgram) → All IsProgram ps → sum_by service_length ps ≤ 1009 * length ps
 few_services [] all = omega arith
 few_services (p ∷ ps) all = let is = All-head IsProgram p ps all in
-    omega (arith, is.provider.fits, is.name.fits, few_services ps (All-tail IsProgram p ps all), sum_by-cons service_length p ps)
+    omega (arith, is.service_descriptors.fits, few_services ps (All-tail IsProgram p ps all), sum_by-cons service_length p ps)
 
-longest : (es : List DescribedEvent) → All IsEvent es → longest_event es ≤ 269
+longest : (es : List DescribedEvent) → All IsEvent es → longest_event es ≤ 4012
 longest [] all = omega arith
-longest (e ∷ es) all = let is = All-head IsEvent e es all in omega (arith, is.name.fits, is.text.fits, longest es (All-tail IsEvent e es all))
+longest (e ∷ es) all = let is = All-head IsEvent e es all in omega (arith, is.descriptors.fits, longest es (All-tail IsEvent e es all))
 
-short_section : (n : ℕ) (p : DescribedProgram) → n ≤ 23 → IsProgram p → packets_of_section (schedule_length n p) ≤ 25
+short_section : (n : ℕ) (p : DescribedProgram) → n ≤ 23 → IsProgram p → packets_of_section (schedule_length n p) ≤ 45
 short_section n p few is = omega (arith, longest p.events is.events, room_places most_eit_bytes n (eit_length p), few)
 
 -- The sections of the EIT are two for each program, in either order.
 few_firsts : (n : ℕ) (ps : List DescribedProgram) → n ≤ 23 → All IsProgram ps
-    → sum_by packets_of_section (map (schedule_length n) ps) ≤ 25 * length ps
+    → sum_by packets_of_section (map (schedule_length n) ps) ≤ 45 * length ps
 few_firsts n [] few all = omega arith
 few_firsts n (p ∷ ps) few all =
     omega (
@@ -56,7 +58,7 @@ few_firsts n (p ∷ ps) few all =
       sum_by-cons packets_of_section (schedule_length n p) (map (schedule_length n) ps),
     )
 
-few_pairs : (n : ℕ) (ps : List DescribedProgram) → n ≤ 23 → All IsProgram ps → sum_by packets_of_section (eit_lengths n ps) ≤ 50 * length ps
+few_pairs : (n : ℕ) (ps : List DescribedProgram) → n ≤ 23 → All IsProgram ps → sum_by packets_of_section (eit_lengths n ps) ≤ 90 * length ps
 few_pairs n [] few all = omega arith
 few_pairs n (p ∷ ps) few all =
     omega (
@@ -68,7 +70,7 @@ few_pairs n (p ∷ ps) few all =
     )
 
 few_events : (b : Bool) (n : ℕ) (ps : List DescribedProgram) → n ≤ 23 → All IsProgram ps →
-    sum_by packets_of_section (if b then map (schedule_length n) ps ++ map (schedule_length n) ps else eit_lengths n ps) ≤ 50 * length ps
+    sum_by packets_of_section (if b then map (schedule_length n) ps ++ map (schedule_length n) ps else eit_lengths n ps) ≤ 90 * length ps
 few_events true n ps few all =
     omega (arith, few_firsts n ps few all, sum_by-append packets_of_section (map (schedule_length n) ps) (map (schedule_length n) ps))
 few_events false n ps few all = few_pairs n ps few all
@@ -79,7 +81,7 @@ room_if false n few = omega arith
 
 -- The sections of the SDT have few services each.
 few_of_parts : (d : Described) (pss : List (List DescribedProgram)) → d.rooms.sdt ≤ 6 → All (All IsProgram) pss →
-    sum_by packets_of_section (map (services_length d) pss) ≤ 8 * length pss + 2 * length (flat_map (λ ps. ps) pss)
+    sum_by packets_of_section (map (services_length d) pss) ≤ 8 * length pss + 6 * length (flat_map (λ ps. ps) pss)
 few_of_parts d [] few all = omega arith
 few_of_parts d (ps ∷ pss) few all =
     omega (
@@ -92,7 +94,7 @@ few_of_parts d (ps ∷ pss) few all =
       length-append ps (flat_map (λ (qs : List DescribedProgram). qs) pss),
     )
 
-few_parts : (d : Described) → IsInRange d → sum_by packets_of_section (kind_lengths d Sdt) ≤ 640
+few_parts : (d : Described) → IsInRange d → sum_by packets_of_section (kind_lengths d Sdt) ≤ 896
 few_parts d r = let parts = sdt_parts_law d r in
     omega (arith, few_of_parts d (sdt_parts d) r.rooms.most_sdt parts.programs, parts.most, ap (λ (ps : List DescribedProgram). length ps) parts.whole, r.most_programs)
 
@@ -112,6 +114,31 @@ small_room packets l small = room_most most_bytes packets l 1024 small (omega ar
 small_association : (d : Described) → IsInRange d → pat_length d ≤ 1024
 small_association d r = omega (arith, at_most_one d.network, r.most_programs)
 
+-- The sections of the NIT are one more than the transport streams, at most.
+few_lengths : (packets : ℕ) (ls : List ℕ) → All (λ l. l ≤ 1024) ls
+    → sum_by packets_of_section (map (room_length most_bytes packets) ls) ≤ 6 * length ls
+few_lengths packets [] all = omega arith
+few_lengths packets (l ∷ ls) all =
+    omega (
+      arith,
+      small_room packets l (All-head (λ m. m ≤ 1024) l ls all),
+      few_lengths packets ls (All-tail (λ m. m ≤ 1024) l ls all),
+      sum_by-cons packets_of_section (room_length most_bytes packets l) (map (room_length most_bytes packets) ls),
+    )
+
+count : (n : DescribedNetwork) (place : ℕ) (parts : List (List NetworkStream)) → length (nit_lengths n place parts) ≡ length parts
+count n place [] = refl
+count n place (part ∷ parts) = ap suc (count n (place + 1) parts)
+
+few_network : (d : Described) (o : Option DescribedNetwork) → All IsNetwork (option_to_list o)
+    → All (λ n. All (λ l. l ≤ 1024) (nit_lengths n 0 (nit_parts d n))) (option_to_list o)
+    → sum_by packets_of_section (elim o [ None ↦ [] | Some n ↦ network_lengths d n ]) ≤ 396
+few_network d None is short = omega arith
+few_network d (Some n) is short =
+    let network = All-head IsNetwork n [] is in
+    let all = All-head (λ n. All (λ l. l ≤ 1024) (nit_lengths n 0 (nit_parts d n))) n [] short in
+    omega (arith, few_lengths d.rooms.nit (nit_lengths n 0 (nit_parts d n)) all, count n 0 (nit_parts d n), nit_few d n, network.most_streams)
+
 few_of_kind : (d : Described) → IsInRange d → (kind : TableKind) → sum_by packets_of_section (kind_lengths d kind) ≤ 20000
 few_of_kind d r Pat =
     omega (arith, at_most_one d.network, r.most_programs, room_most most_bytes d.rooms.pat (pat_length d) 1024 (small_association d r) (omega arith))
@@ -121,12 +148,7 @@ few_of_kind d r (Pmt p) =
       few_of_option (map_length d) (slice_get d.programs p) (λ x e. small_room x.pmt_packets (pmt_length d x)
           (found_at (λ q. pmt_length d q ≤ 1024) d.programs p x e r.pmt_lengths)),
     )
-few_of_kind d r Nit =
-    omega (
-      arith,
-      few_of_option (network_length d) d.network (λ x e. small_room d.rooms.nit (nit_length x)
-          (All-head (λ n. nit_length n ≤ 1024) x [] (rw e at r.nit_length))),
-    )
+few_of_kind d r Nit = omega (arith, few_network d d.network r.network r.nit_lengths)
 few_of_kind d r Sdt = omega (arith, few_parts d r)
 few_of_kind d r Eit =
     omega (

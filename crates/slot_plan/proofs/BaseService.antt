@@ -42,7 +42,7 @@ base = record {
   has_eit = false;
   rooms = record { pat = 1; sdt = 1; nit = 1; eit = 2 };
   versions = record { pat = 0; sdt = 0; nit = 0 };
-  network = Some (record { id = 1; name = codes "Net"; descriptors = [] });
+  network = Some (record { id = 1; network_descriptors = 64 ∷ 3 ∷ codes "Net"; descriptors = []; streams = [] });
   programs = (record {
     number = 1;
     pmt_pid = 4096;
@@ -54,10 +54,16 @@ base = record {
     pmt_version = 0;
     eit_count = 0;
     descriptors = [];
-    service_type = 2;
-    provider = [];
-    name = codes "One";
-    events = (record { id = 7; start = 750516300; duration = 5400; language = codes "eng"; name = codes "News"; text = [] }) ∷ [];
+    service_descriptors = 72 ∷ 6 ∷ 2 ∷ 0 ∷ 3 ∷ codes "One";
+    running_status = 4;
+    free_ca = false;
+    eit_schedule = false;
+    events = (record {
+      id = 7;
+      start = 750516300;
+      duration = 5400;
+      descriptors = 77 ∷ 9 ∷ (codes "eng" ++ (4 ∷ codes "News") ++ 0 ∷ []);
+    }) ∷ [];
   }) ∷ [];
   streams = base_stream ∷ [];
   tables = [];
