@@ -5,7 +5,7 @@ use Rattle.std.proofs.Common.{subst, subst₂, arith, div-lt_iff_lt-mul}
 use Rattle.std.specs.Map.{lookup}
 use Rattle.std.proofs.lemmas.Bool.Decides.{nat_tests}
 use Rattle.indexmap.specs.IndexMap.{insert_entry}
-use Rattle.tr101290.specs.Distances.{DistanceState, end_at, extension_key, is_spaced, keeps_distance, taken, time_within, too_soon}
+use Rattle.tr101290.specs.Distances.{DistanceState, end_at, extension_key, is_spaced, taken, time_within, too_soon}
 use Rattle.tr101290.specs.Distances as distances
 use Rattle.tr101290.specs.declared.distances.TheConstants.{LEAST_DISTANCE}
 use Rattle.tr101290.specs.declared.distances.WholeSection.{WholeSection}
@@ -279,30 +279,28 @@ soon timing x before = record { section = x.begin; value = time_within timing (x
 record SoonAfter (timing : TableTiming) (x : WholeSection) (o : Option ℕ) (error : TableError) : Type 0 where
   before : ℕ
   there : o ≡ Some before
-  limited : keeps_distance timing ≡ true
   near : time_within timing (x.begin.place - before) < LEAST_DISTANCE
   named : error ≡ soon timing x before
 
 soon_after : (timing : TableTiming) (x : WholeSection) (o : Option ℕ) (error : TableError) → too_soon timing x o ≡ Some error → SoonAfter timing x o error
 unfolding too_soon
 soon_after timing x None error e = absurd cc
-soon_after timing x (Some b) error e = by (keeps_distance timing) refl (nat_lt (time_within timing (x.begin.place - b)) LEAST_DISTANCE) refl e
+soon_after timing x (Some b) error e = by (nat_lt (time_within timing (x.begin.place - b)) LEAST_DISTANCE) refl e
   where
-    by : (k : Bool) → keeps_distance timing ≡ k → (t : Bool) → nat_lt (time_within timing (x.begin.place - b)) LEAST_DISTANCE ≡ t →
-        cond (k && t) (Some (soon timing x b)) None ≡ Some error → SoonAfter timing x (Some b) error
-    by true limited true s h =
+    by : (t : Bool) → nat_lt (time_within timing (x.begin.place - b)) LEAST_DISTANCE ≡ t → cond t (Some (soon timing x b)) None ≡ Some error →
+        SoonAfter timing x (Some b) error
+    by true s h =
         let near : time_within timing (x.begin.place - b) < LEAST_DISTANCE = grind (arith, nat_tests) in
         let named : error ≡ soon timing x b = cc in
-        record { before = b; there = refl; limited = limited; near = near; named = named }
-    by true limited false s h = absurd cc
-    by false limited t s h = absurd cc
+        record { before = b; there = refl; near = near; named = named }
+    by false s h = absurd cc
 
-soon_is : (timing : TableTiming) (x : WholeSection) (b : ℕ) → keeps_distance timing ≡ true →
-    time_within timing (x.begin.place - b) < LEAST_DISTANCE → too_soon timing x (Some b) ≡ Some (soon timing x b)
+soon_is : (timing : TableTiming) (x : WholeSection) (b : ℕ) → time_within timing (x.begin.place - b) < LEAST_DISTANCE →
+    too_soon timing x (Some b) ≡ Some (soon timing x b)
 unfolding too_soon
-soon_is timing x b limited n =
+soon_is timing x b n =
     let test : nat_lt (time_within timing (x.begin.place - b)) LEAST_DISTANCE ≡ true = grind (arith, nat_tests) in
-    ap₂ (λ (k t : Bool). cond (k && t) (Some (soon timing x b)) None) limited test
+    ap (λ (t : Bool). cond t (Some (soon timing x b)) None) test
 
 of_end : (o : Option WholeSection) (b : ℕ) → option_map (λ (x : WholeSection). x.end) o ≡ Some b → (x : WholeSection) × (o ≡ Some x) × (x.end ≡ b)
 of_end None b e = absurd cc
@@ -322,7 +320,6 @@ module _ (timing : TableTiming) (item : WholeSection) (earlier : List WholeSecti
     before : WholeSection
     found : find (same_table item) earlier ≡ Some before
     spaced : is_spaced item.begin.pid item.begin.table_id ≡ true
-    limited : keeps_distance timing ≡ true
     near : time_within timing (item.begin.place - before.end) < LEAST_DISTANCE
     named : error ≡ soon timing item before.end
 
@@ -336,7 +333,6 @@ module _ (timing : TableTiming) (item : WholeSection) (earlier : List WholeSecti
         before = w.0;
         found = w.1;
         spaced = e;
-        limited = subst (λ (t : TableTiming). keeps_distance t ≡ true) (same_timing timing earlier) r.limited;
         near = subst₂ (λ (t : TableTiming) (b : ℕ). time_within t (item.begin.place - b) < LEAST_DISTANCE) (same_timing timing earlier) (sym w.2) r.near;
         named = r.named ∙ ap₂ (λ (t : TableTiming) (b : ℕ). soon t item b) (same_timing timing earlier) (sym w.2);
       }
@@ -354,7 +350,7 @@ module _ (timing : TableTiming) (item : WholeSection) (earlier : List WholeSecti
   gives few r =
       ap (λ (t : Bool). cond t (too_soon before_item.timing item (end_at before_item item)) None) r.spaced
       ∙ ap₂ (λ (t : TableTiming) (o : Option ℕ). too_soon t item o) (same_timing timing earlier) there
-      ∙ soon_is timing item r.before.end r.limited r.near
+      ∙ soon_is timing item r.before.end r.near
       ∙ ap (λ (e : TableError). Some e) (sym r.named)
     where
       there : end_at before_item item ≡ Some r.before.end
@@ -379,7 +375,6 @@ only_law timing sections error h c =
         none_between = f.none_between;
       };
       spaced = s.spaced;
-      limited = s.limited;
       near = s.near;
       named = s.named;
     }
@@ -407,7 +402,6 @@ each_law timing sections error h few r =
       before = r.before;
       found = finds (same_table r.section) r.before r.follows.between r.follows.earlier r.follows.alike r.follows.none_between;
       spaced = r.spaced;
-      limited = r.limited;
       near = r.near;
       named = r.named;
     }

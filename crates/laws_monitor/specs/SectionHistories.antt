@@ -3,7 +3,7 @@
 -- 3.8). A history has the last section first.
 use Rattle.std.specs.Prelude.{◌≡◌, ◌↔◌, ℕ, ◌+◌, ◌-◌, ◌*◌, ◌<◌, ◌≤◌, ◌==◌, ◌&&◌, is_none, Bool, true, if◌then◌else◌, List, [], ◌∷◌, Contains, find, Option}
 use Rattle.std.specs.List.{AllByRecursion}
-use Rattle.tr101290.specs.Distances.{DistanceState, error_at, is_spaced, keeps_distance, no_end, taken, time_within, whole_ticks}
+use Rattle.tr101290.specs.Distances.{DistanceState, error_at, is_spaced, no_end, taken, time_within, whole_ticks}
 use Rattle.tr101290.specs.declared.distances.TheConstants.{LEAST_DISTANCE}
 use Rattle.tr101290.specs.declared.distances.WholeSection.{WholeSection}
 use Rattle.tr101290.specs.declared.intervals.TableError.{TableError}
@@ -39,13 +39,12 @@ table_count (section ∷ earlier) =
     if is_spaced section.begin.pid section.begin.table_id && is_none (find (same_table section) earlier) then table_count earlier + 1
     else table_count earlier
 
--- an error: a section of service information begins within 25 ms after the end of the section before it of its table, at most 100 Mbit/s
+-- an error: a section of service information begins within 25 ms after the end of the section before it of its table
 pub record IsTooSoon (timing : TableTiming) (sections : List WholeSection) (error : TableError) : Type 0 where
   pub before : WholeSection
   pub section : WholeSection
   pub follows : Follows same_table sections before section
   pub spaced : is_spaced section.begin.pid section.begin.table_id ≡ true
-  pub limited : keeps_distance timing ≡ true
   pub near : time_within timing (section.begin.place - before.end) < LEAST_DISTANCE
   pub named : error ≡ record { section = section.begin; value = time_within timing (section.begin.place - before.end); limit = LEAST_DISTANCE }
 

@@ -5,7 +5,7 @@ ghost use Rattle.laws_monitor.specs.StampHistories.{LateStampLaw};
 
 /// States that a section of service information is reported as too soon if and only if it begins within 25 ms after the
 /// end of the section before it of its PID, table_id and table_id_extension (ETSI EN 300 468, 5.1.4.1), whatever
-/// sections come between, in a stream of at most 65,536 such tables, whose rate, if it is given, is at most 100 Mbit/s. In a stream of more tables each section that is
+/// sections come between, in a stream of at most 65,536 such tables. In a stream of more tables each section that is
 /// reported is such a section too, but not each such section is reported.
 pub fn section_distances()
     ensures only { OnlyTooSoon }

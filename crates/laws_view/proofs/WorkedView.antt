@@ -74,7 +74,7 @@ use Rattle.stream_programs.specs.Streams.{has_no_pes, holder, is_alike, is_reser
 use Rattle.system_tables.specs.Programs.{begun as programs_begun, known, system_step}
 use Rattle.tr101290.specs.Continuity.{after as continuity_after, error_at}
 use Rattle.tr101290.specs.Counts.{is_announced, line_bytes, line_ticks, nanoseconds_in}
-use Rattle.tr101290.specs.Distances.{keeps_distance, time_within, too_soon}
+use Rattle.tr101290.specs.Distances.{time_within, too_soon}
 use Rattle.tr101290.specs.Errors.{beyond_if, difference_in, off_beyond}
 use Rattle.tr101290.specs.Intervals.{error_if, part_before, parts_after, places_after, time_between}
 use Rattle.tr101290.specs.Limits.{milliseconds}
@@ -163,7 +163,7 @@ unfolding has_times lead_of step_of times_at line_in clock_moment_by step_after 
     registers_pcm is_taken any_ca any_of_multiplex can_place can_share has_clock holder_in is_multiplexed_map is_scrambled_map programs_of shares with_access
     with_map with_multiplex with_program_by with_program_if programs_with_programs with_shared with_stream with_stream_if with_streams with_table omitted_pid
     has_no_pes holder is_alike is_reserved is_shared_with is_stream_of omission_of shared_by programs_begun known system_step continuity_after error_at
-    is_announced line_bytes line_ticks nanoseconds_in keeps_distance time_within too_soon beyond_if difference_in off_beyond error_if part_before parts_after places_after
+    is_announced line_bytes line_ticks nanoseconds_in time_within too_soon beyond_if difference_in off_beyond error_if part_before parts_after places_after
     time_between milliseconds inaccuracy_by interval_after interval_from missing_pids part_of report_if pid_watches_taken_if watch_or_new apart_more
     error_list pair_more rate_after clock_pid clock_pids references_map_pids referenced_by samples_sample_in sample_with begin_of extension_of section_by
     whole_by stamps_by_header stamps_by_payload is_stamped too_late last_places null_packet without_pcr adaptation_at body_at countdown_at field_at header_of

@@ -1,13 +1,12 @@
 -- How soon sections follow each other: from the end of a section of service information to the beginning of the next section of the same PID,
--- table_id and table_id_extension at least 25 ms pass, in streams of at most 100 Mbit/s (ETSI EN 300 468, 5.1.4.1; ETSI TR 101 211, 4.4; ETSI
--- TR 101 290, 5.2.3, 3.1.a, 3.5.a, 3.6.a, 3.7, 3.8).
-use Rattle.std.specs.Prelude.{ℕ, ◌*◌, ◌-◌, ◌/◌, ◌==◌, ◌&&◌, ◌||◌, not, nat_eq, nat_le, nat_lt, is_some, Bool, true, if◌then◌else◌, List, [], length, Option, Some}
+-- table_id and table_id_extension at least 25 ms pass (ETSI EN 300 468, 5.1.4.1; ETSI TR 101 211, 4.4; ETSI TR 101 290, 5.2.3, 3.1.a, 3.5.a, 3.6.a, 3.7, 3.8).
+use Rattle.std.specs.Prelude.{ℕ, ◌*◌, ◌-◌, ◌/◌, ◌==◌, ◌&&◌, ◌||◌, not, nat_eq, nat_le, nat_lt, is_some, Bool, if◌then◌else◌, List, [], length, Option, Some}
 use Rattle.std.specs.Prelude.{None}
 use Rattle.std.specs.Map.{lookup}
 use Rattle.indexmap.specs.IndexMap.{insert_entry}
 use Rattle.tr101290.specs.Intervals.{key_with, section_key}
 use Rattle.tr101290.specs.declared.distances.WholeSection.{WholeSection}
-use Rattle.tr101290.specs.declared.distances.TheConstants.{LEAST_DISTANCE, MOST_ENDS, MOST_RATE}
+use Rattle.tr101290.specs.declared.distances.TheConstants.{LEAST_DISTANCE, MOST_ENDS}
 use Rattle.tr101290.specs.declared.intervals.TableError.{TableError}
 use Rattle.tr101290.specs.declared.intervals.TableTiming.{TableTiming}
 use Rattle.tr101290.specs.declared.intervals.TableTiming.TheVariants.{ConstantRate, Ticks}
@@ -49,15 +48,10 @@ taken s section = if is_spaced section.begin.pid section.begin.table_id then kep
 abbrev pub distance : TableTiming → WholeSection → ℕ → ℕ
 distance timing section before = time_within timing (section.begin.place - before)
 
--- a given rate is at most 100 Mbit/s; by clock references the rate is not known
-unfoldable pub keeps_distance : TableTiming → Bool
-keeps_distance (ConstantRate rate) = nat_le rate MOST_RATE
-keeps_distance Ticks = true
-
 unfoldable pub too_soon : TableTiming → WholeSection → Option ℕ → Option TableError
 too_soon timing section None = None
 too_soon timing section (Some before) =
-    if keeps_distance timing && nat_lt (distance timing section before) LEAST_DISTANCE
+    if nat_lt (distance timing section before) LEAST_DISTANCE
     then Some (record { section = section.begin; value = distance timing section before; limit = LEAST_DISTANCE }) else None
 
 abbrev pub error_at : DistanceState → WholeSection → Option TableError

@@ -16,9 +16,6 @@ const PACKET_TICKS_AT_1BPS: u128 = 40_608_000_000;
 /// The least time from one section to the next of the same table_id and table_id_extension, in ticks of 27 MHz: 25 ms.
 pub const LEAST_DISTANCE: u64 = 675_000;
 
-// The greatest rate in bits a second at which sections keep this distance.
-const MOST_RATE: u64 = 100_000_000;
-
 // The most tables and extensions whose sections are watched.
 const MOST_ENDS: usize = 65_536;
 
@@ -81,16 +78,6 @@ pub fn time_within(timing: TableTiming, places: u64) -> u128
     }
 }
 
-#[tactic(auto, unfolding(crate::specs::Distances::keeps_distance))]
-fn keeps_distance(timing: &TableTiming) -> bool
-    ensures { result ≡ spec.keeps_distance timing.now }
-{
-    match timing {
-        TableTiming::ConstantRate(rate) => rate.bits_per_second() <= MOST_RATE,
-        TableTiming::Ticks => true,
-    }
-}
-
 // Returns the error of a section that begins too soon after the section before it, which ended at `before`.
 #[tactic(auto, unfolding(crate::specs::Distances::too_soon))]
 fn too_soon(timing: TableTiming, section: &WholeSection, before: Option<u64>) -> Option<TableError>
@@ -98,7 +85,7 @@ fn too_soon(timing: TableTiming, section: &WholeSection, before: Option<u64>) ->
 {
     let before = before?;
     let value = time_within(timing, section.begin.place.saturating_sub(before));
-    if keeps_distance(&timing) && value < u128::from(LEAST_DISTANCE) {
+    if value < u128::from(LEAST_DISTANCE) {
         Some(TableError {
             section: section.begin,
             value,
