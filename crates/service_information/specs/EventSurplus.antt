@@ -1,31 +1,26 @@
 -- Present and following event information that is not taken as events (EN 300 468, 5.2.4).
-use Rattle.std.specs.Prelude.{ℕ, ◌==◌, ◌&&◌, not, Bool, true, false, List, length, Option, Some, None}
+use Rattle.std.specs.Prelude.{ℕ, ◌==◌, ◌&&◌, not, Bool, true, false, List, Option, Some, None}
 use Rattle.std.specs.List.{list_all, list_any}
 use Rattle.std.specs.Str.{bytes_eq}
 use Rattle.dvb_tables.specs.EventEntries.{EventView}
 use Rattle.pid_findings.specs.Views.{FindingView}
-use Rattle.dvb_texts.specs.Texts.{decode_text, has_unread}
 use Rattle.service_information.specs.EventSections.{EventSectionView, event_section_found}
 use Rattle.service_information.specs.Events.{FoundEventView, event_in, is_among}
 use Rattle.service_information.specs.FirstFindings.{first_packet, has_table_id}
-use Rattle.service_information.specs.ShortEvents.{is_alone}
-
--- 1. Sections
 
 unfoldable pub is_same : FoundEventView → FoundEventView → Bool
 is_same e f =
-    ((e.program == f.program && e.id == f.id) && (e.start == f.start && e.duration == f.duration))
-    && (bytes_eq e.language f.language && (bytes_eq e.name f.name && bytes_eq e.text f.text))
+    ((e.program == f.program && e.id == f.id) && (e.start == f.start && e.duration == f.duration)) && bytes_eq e.descriptors f.descriptors
 
 unfoldable pub is_taken : List FoundEventView → Option FoundEventView → Bool
 is_taken taken None = false
 is_taken taken (Some e) = list_any (is_same e) taken
 
--- an event is among the events that are taken, and has no other descriptor than its short event descriptor
+-- an event is among the events that are taken
 unfoldable pub is_said : ℕ → List FoundEventView → EventView → Bool
-is_said program taken v = is_taken taken (event_in program v) && is_alone v.descriptors
+is_said program taken v = is_taken taken (event_in program v)
 
--- a section that can't be read as a section in force, or a section of one among these programs with an event that says more
+-- a section that can't be read as a section in force, or a section of one among these programs with an event that is not taken
 unfoldable pub says_more : List ℕ → List FoundEventView → Option EventSectionView → Bool
 says_more numbers taken None = true
 says_more numbers taken (Some s) = is_among s.program numbers && not (list_all (is_said s.program taken) s.events)
@@ -35,15 +30,3 @@ is_surplus numbers taken finding = has_table_id 0x4E finding.what && says_more n
 
 unfoldable pub event_surplus : List ℕ → List FoundEventView → List FindingView → Option ℕ
 event_surplus numbers taken findings = first_packet (is_surplus numbers taken) findings
-
--- 2. Texts
-
--- all characters of a text can be read, and it has no more bytes as it is written; no text of an event has more than 1,020
-unfoldable pub is_whole_text : ℕ → List ℕ → Bool
-is_whole_text max_bytes bytes = not (has_unread bytes) && length (decode_text max_bytes bytes) == length (decode_text 1020 bytes)
-
-unfoldable pub has_whole_texts : FoundEventView → Bool
-has_whole_texts e = is_whole_text 100 e.name && is_whole_text 150 e.text
-
-unfoldable pub have_whole_texts : List FoundEventView → Bool
-have_whole_texts taken = list_all has_whole_texts taken

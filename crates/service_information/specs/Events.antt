@@ -1,49 +1,37 @@
 -- The events of a stream's programs, by its present and following event information (EN 300 468, 5.2.4).
-use Rattle.std.specs.Prelude.{ℕ, ◌+◌, ◌==◌, ◌&&◌, nat_lt, not, Bool, if◌then◌else◌, List, [], ◌∷◌, length, filter, insert, Option, Some, None, option_map}
+use Rattle.std.specs.Prelude.{ℕ, ◌+◌, ◌==◌, ◌&&◌, nat_le, nat_lt, not, Bool, if◌then◌else◌, List, [], ◌∷◌, length, filter, insert, Option, Some, None, option_map}
 use Rattle.std.specs.Prelude.{option_and_then}
-use Rattle.std.specs.Char.{is_ascii_alphabetic}
-use Rattle.std.specs.List.{list_all, list_any}
-use Rattle.descriptor_loops.specs.Descriptors.{descriptors_in}
+use Rattle.std.specs.List.{list_any}
+use Rattle.dvb_tables.specs.DescriptorLoops.{are_whole_descriptors}
 use Rattle.dvb_tables.specs.EventEntries.{EventView}
 use Rattle.pid_findings.specs.Views.{FindingView}
 use Rattle.service_information.specs.CodedTimes.{moment_in, seconds_in}
 use Rattle.service_information.specs.EventSections.{EventSectionView, event_section_found}
-use Rattle.service_information.specs.ShortEvents.{ShortEventView, in_descriptors}
 
 -- 1. What a section says of an event
 
--- the program's number and event_id; start in seconds since 1 January 1970, duration in seconds; a language, and the texts as they are coded there
+-- the program's number and event_id; start in seconds since 1 January 1970, duration in seconds; all descriptors of the event
 pub record FoundEventView : Type 0 where
   pub program : ℕ
   pub id : ℕ
   pub start : ℕ
   pub duration : ℕ
-  pub language : List ℕ
-  pub name : List ℕ
-  pub text : List ℕ
+  pub descriptors : List ℕ
 
--- a description can say it: its language has letters alone, and it lasts
+-- a description can say it: its descriptors are whole and no more bytes than a description has, and it lasts
 unfoldable pub can_be_said : FoundEventView → Bool
-can_be_said e = list_all is_ascii_alphabetic e.language && nat_lt 0 e.duration
+can_be_said e = (nat_le (length e.descriptors) 4000 && are_whole_descriptors e.descriptors) && nat_lt 0 e.duration
 
 unfoldable pub if_said : FoundEventView → Option FoundEventView
 if_said e = if can_be_said e then Some e else None
 
-unfoldable pub timed_event : ℕ → EventView → ShortEventView → ℕ → ℕ → FoundEventView
-timed_event program v said start duration = record {
-  program = program;
-  id = v.event_id;
-  start = start;
-  duration = duration;
-  language = said.language;
-  name = said.name;
-  text = said.text;
-}
+unfoldable pub timed_event : ℕ → EventView → ℕ → ℕ → FoundEventView
+timed_event program v start duration =
+    record { program = program; id = v.event_id; start = start; duration = duration; descriptors = v.descriptors }
 
 unfoldable pub event_in : ℕ → EventView → Option FoundEventView
 event_in program v =
-    option_and_then (λ said. option_and_then (λ start. option_and_then (λ duration. if_said (timed_event program v said start duration))
-    (seconds_in v.duration)) (moment_in v.start_time)) (in_descriptors (descriptors_in v.descriptors))
+    option_and_then (λ start. option_and_then (λ duration. if_said (timed_event program v start duration)) (seconds_in v.duration)) (moment_in v.start_time)
 
 -- 2. The events of sections, in the order of their findings, without an event that overlaps an earlier event of the same program, 1,024 at most; in the
 -- order of their starts

@@ -1,5 +1,5 @@
 -- What a short event descriptor says (EN 300 468, 6.2.37).
-use Rattle.std.specs.Prelude.{ℕ, ◌==◌, ◌&&◌, nat_lt, Bool, false, if◌then◌else◌, List, [], ◌∷◌, length, take, drop, Option, Some, None, option_map}
+use Rattle.std.specs.Prelude.{ℕ, ◌==◌, nat_lt, if◌then◌else◌, List, [], ◌∷◌, length, take, drop, Option, Some, None, option_map}
 use Rattle.std.specs.Prelude.{option_and_then}
 use Rattle.std.specs.Option.{option_or}
 use Rattle.descriptor_loops.specs.Descriptors.{DescriptorView, descriptors_in}
@@ -32,8 +32,5 @@ unfoldable pub in_descriptors : List DescriptorView → Option ShortEventView
 in_descriptors [] = None
 in_descriptors (d ∷ ds) = option_or (of_descriptor d) (in_descriptors ds)
 
--- a short event descriptor is the only descriptor
-unfoldable pub is_alone : List ℕ → Bool
-is_alone [] = false
-is_alone (tag ∷ []) = false
-is_alone (tag ∷ size ∷ body) = tag == 0x4D && size == length body
+abbrev pub short_event : List ℕ → Option ShortEventView
+short_event descriptors = in_descriptors (descriptors_in descriptors)

@@ -1,13 +1,13 @@
 -- Warnings about service information that is not taken unchanged.
-use Rattle.std.specs.Prelude.{ℕ, ◌&&◌, Bool, true, false, if◌then◌else◌, List, [], ◌∷◌, ◌++◌, map, flat_map, option_to_list}
+use Rattle.std.specs.Prelude.{ℕ, ◌&&◌, Bool, true, false, List, [], ◌∷◌, ◌++◌, map, flat_map, option_to_list}
 use Rattle.demux.specs.Laws.{has_pid}
 use Rattle.pid_findings.specs.Views.{WhatView, IsBadSection, FindingView}
-use Rattle.service_information.specs.Events.{FoundEventView, stream_events}
-use Rattle.service_information.specs.EventSurplus.{event_surplus, have_whole_texts}
+use Rattle.service_information.specs.Events.{stream_events}
+use Rattle.service_information.specs.EventSurplus.{event_surplus}
 use Rattle.service_information.specs.FirstFindings.{first_packet}
 use Rattle.service_information.specs.StreamTime.{time_surplus}
 use Rattle.service_information.specs.declared.warning.InformationWarning.{InformationWarning}
-use Rattle.service_information.specs.declared.warning.InformationWarning.TheVariants.{EventSurplus, EventTexts, TimeSurplus, BadSection}
+use Rattle.service_information.specs.declared.warning.InformationWarning.TheVariants.{EventSurplus, TimeSurplus, BadSection}
 
 -- 1. Sections that can't be read: NIT, SDT and BAT, EIT, TDT and TOT (EN 300 468, table 1)
 
@@ -27,18 +27,9 @@ information_pids = 0x10 ∷ 0x11 ∷ 0x12 ∷ 0x14 ∷ []
 abbrev pub bad_sections : List FindingView → List InformationWarning
 bad_sections findings = flat_map (bad_section findings) information_pids
 
--- 2. Events
-
-unfoldable pub text_warnings : List FoundEventView → List InformationWarning
-text_warnings taken = if have_whole_texts taken then [] else EventTexts ∷ []
-
-abbrev pub event_warnings : List ℕ → List FindingView → List InformationWarning
-event_warnings numbers findings =
-    map EventSurplus (option_to_list (event_surplus numbers (stream_events numbers findings) findings))
-    ++ text_warnings (stream_events numbers findings)
-
--- 3. All of them
+-- 2. All of them
 
 unfoldable pub information_warnings : List ℕ → List FindingView → List InformationWarning
 information_warnings numbers findings =
-    (bad_sections findings ++ map TimeSurplus (option_to_list (time_surplus findings))) ++ event_warnings numbers findings
+    (bad_sections findings ++ map TimeSurplus (option_to_list (time_surplus findings)))
+    ++ map EventSurplus (option_to_list (event_surplus numbers (stream_events numbers findings) findings))

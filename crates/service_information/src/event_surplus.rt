@@ -1,6 +1,6 @@
 //! Present and following event information beyond the events taken.
 
-ghost use Rattle.std.specs.Prelude.{◌≡◌, IfOk, map, option_map};
+ghost use Rattle.std.specs.Prelude.{◌≡◌, map, option_map};
 ghost use Rattle.std.specs.List.{list_all, list_any};
 ghost use Rattle.pid_findings.specs.Shown.{finding_view};
 ghost use Rattle.dvb_tables.specs.EventEntries.{event_view, events_of};
@@ -9,21 +9,9 @@ ghost use Rattle.service_information.specs.EventSurplus as spec;
 
 use crate::event_sections::{EventSection, event_section_found};
 use crate::events::{FoundEvent, event_in, is_among};
-use crate::short_events::is_alone;
 use crate::table_sections::has_table_id;
 use dvb_tables::{EIT_TABLE_ID, EventEntries, EventEntry};
-use dvb_texts::{decode_text, has_unread};
 use pid_findings::Finding;
-use std::alloc::{AllocError, Global};
-
-/// The most bytes of an event's name, as written in a descriptor.
-const LONGEST_NAME: usize = 100;
-
-/// The most bytes of an event's text.
-const LONGEST_TEXT: usize = 150;
-
-// More bytes than any text with a length of 8 bits decodes to.
-const ANY_TEXT: usize = 1_020;
 
 #[tactic(auto, unfolding(crate::specs::EventSurplus::is_same))]
 fn is_same(one: &FoundEvent<'_>, other: &FoundEvent<'_>) -> bool
@@ -31,7 +19,7 @@ fn is_same(one: &FoundEvent<'_>, other: &FoundEvent<'_>) -> bool
 {
     ((one.program == other.program && one.id == other.id)
         && (one.start == other.start && one.duration == other.duration))
-        && (one.language == other.language && (one.name == other.name && one.text == other.text))
+        && one.descriptors == other.descriptors
 }
 
 fn is_one_of(event: &FoundEvent<'_>, taken: &[FoundEvent<'_>]) -> bool
@@ -50,12 +38,12 @@ fn is_taken(taken: &[FoundEvent<'_>], event: Option<FoundEvent<'_>>) -> bool
     }
 }
 
-// Returns whether an event is taken with all its descriptors.
+// Returns whether an event is taken.
 #[tactic(auto, unfolding(crate::specs::EventSurplus::is_said))]
 fn is_said(program: u16, taken: &[FoundEvent<'_>], entry: EventEntry<'_>) -> bool
     ensures { result ≡ spec.is_said program taken.now (event_view entry.entry) }
 {
-    is_taken(taken, event_in(program, entry)) && is_alone(entry.descriptors)
+    is_taken(taken, event_in(program, entry))
 }
 
 fn are_said(program: u16, taken: &[FoundEvent<'_>], entries: EventEntries<'_>) -> bool
@@ -89,8 +77,8 @@ fn is_surplus(numbers: &[u16], taken: &[FoundEvent<'_>], finding: &Finding<'_>) 
         && says_more(numbers, taken, event_section_found(finding))
 }
 
-/// Returns the packet where the first section with table_id 0x4E ends that is not in force, can't be read, or says more
-/// of a program than the events taken.
+/// Returns the packet where the first section with table_id 0x4E ends that is not in force, can't be read, or has an
+/// event of a program that is not taken.
 #[tactic(auto, unfolding(crate::specs::EventSurplus::event_surplus))]
 pub(crate) fn event_surplus(
     numbers: &[u16],
@@ -105,37 +93,4 @@ pub(crate) fn event_surplus(
         }
     }
     None
-}
-
-// Returns whether all of a text can be read and has at most this number of bytes as it is written.
-#[tactic(auto, unfolding(crate::specs::EventSurplus::is_whole_text))]
-fn is_whole_text(alloc: Global, max_bytes: usize, bytes: &[u8]) -> Result<bool, AllocError>
-    ensures { IfOk result (λ whole. whole ≡ spec.is_whole_text max_bytes bytes.now) }
-{
-    let unread = has_unread(alloc, bytes)?;
-    let written = decode_text(alloc, bytes, max_bytes)?;
-    let all = decode_text(alloc, bytes, ANY_TEXT)?;
-    Ok(!unread && written.len() == all.len())
-}
-
-#[tactic(auto, unfolding(crate::specs::EventSurplus::has_whole_texts))]
-fn has_whole_texts(alloc: Global, event: &FoundEvent<'_>) -> Result<bool, AllocError>
-    ensures { IfOk result (λ whole. whole ≡ spec.has_whole_texts event.now) }
-{
-    let name = is_whole_text(alloc, LONGEST_NAME, event.name)?;
-    let text = is_whole_text(alloc, LONGEST_TEXT, event.text)?;
-    Ok(name && text)
-}
-
-/// Returns whether all texts of events are whole.
-#[tactic(auto, unfolding(crate::specs::EventSurplus::have_whole_texts))]
-pub(crate) fn have_whole_texts(alloc: Global, taken: &[FoundEvent<'_>]) -> Result<bool, AllocError>
-    ensures { IfOk result (λ whole. whole ≡ spec.have_whole_texts taken.now) }
-{
-    for event in taken {
-        if !has_whole_texts(alloc, event)? {
-            return Ok(false);
-        }
-    }
-    Ok(true)
 }

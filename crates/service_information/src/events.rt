@@ -1,27 +1,25 @@
 //! The events of a stream's programs (EN 300 468, 5.2.4).
 
 ghost use Rattle.std.specs.Prelude.{◌≡◌, ◌≤◌, IfOk, OnOk, length, map, option_map};
-ghost use Rattle.std.specs.Char.{is_ascii_alphabetic};
-ghost use Rattle.std.specs.List.{list_all, list_any};
+ghost use Rattle.std.specs.List.{list_any};
 ghost use Rattle.pid_findings.specs.Shown.{finding_view};
 ghost use Rattle.dvb_tables.specs.EventEntries.{event_view, events_of};
 ghost use Rattle.service_information.specs.EventSections.{event_section_view};
-ghost use Rattle.service_information.specs.ShortEvents.{short_event_view};
 ghost use Rattle.service_information.specs.Events as spec;
 
 use crate::coded_times::{moment_in, seconds_in};
 use crate::event_sections::{EventSection, event_section_found};
-use crate::short_events::{ShortEvent, short_event};
-use dvb_tables::{EventEntries, EventEntry};
+use dvb_tables::{EventEntries, EventEntry, are_whole_descriptors};
 use pid_findings::Finding;
 use std::alloc::{AllocError, Global};
 use std::marker::Model;
 
-/// The most events that a description has.
+/// The most events that a description has, and the most bytes of the descriptors of an event.
 const MOST_EVENTS: usize = 1_024;
 
-/// An event of a program, as its present and following event information says it. The texts are still coded (EN 300
-/// 468, annex A).
+const MOST_BYTES: usize = 4_000;
+
+/// An event of a program, as its present and following event information says it.
 #[derive(Drop)]
 pub struct FoundEvent<'f> {
     /// The number of its program.
@@ -32,13 +30,11 @@ pub struct FoundEvent<'f> {
     pub start: u32,
     /// In seconds, less than 100 hours.
     pub duration: u32,
-    /// ISO_639_language_code, three letters.
-    pub language: &'f [u8],
-    pub name: &'f [u8],
-    pub text: &'f [u8],
+    /// All of its descriptors, in their order: whole descriptors, 4,000 bytes at most.
+    pub descriptors: &'f [u8],
 }
 
-// A contract sees its texts as lists.
+// A contract sees its descriptors as a list.
 impl<'f> Model for FoundEvent<'f> {
     ghost use Rattle.service_information.specs.Events.{FoundEventView};
 
@@ -49,17 +45,8 @@ impl<'f> Model for FoundEvent<'f> {
       id = e.id;
       start = e.start;
       duration = e.duration;
-      language = e.language.now;
-      name = e.name.now;
-      text = e.text.now;
+      descriptors = e.descriptors.now;
     } };
-}
-
-// Returns whether all of these bytes are letters of ASCII.
-fn are_letters(bytes: &[u8]) -> bool
-    ensures { result ≡ list_all is_ascii_alphabetic bytes.now }
-{
-    bytes.iter().all(|byte| byte.is_ascii_alphabetic())
 }
 
 // Returns whether a description can have an event.
@@ -67,7 +54,8 @@ fn are_letters(bytes: &[u8]) -> bool
 fn can_be_said(event: &FoundEvent<'_>) -> bool
     ensures { result ≡ spec.can_be_said event.now }
 {
-    are_letters(event.language) && event.duration > 0
+    (event.descriptors.len() <= MOST_BYTES && are_whole_descriptors(event.descriptors))
+        && event.duration > 0
 }
 
 #[tactic(auto, unfolding(crate::specs::Events::if_said))]
@@ -82,23 +70,15 @@ fn if_said<'f>(event: FoundEvent<'f>) -> Option<FoundEvent<'f>>
 }
 
 #[tactic(auto, unfolding(crate::specs::Events::timed_event))]
-fn timed_event<'f>(
-    program: u16,
-    entry: EventEntry<'f>,
-    said: ShortEvent<'f>,
-    start: u32,
-    duration: u32,
-) -> FoundEvent<'f>
-    ensures { result ≡ spec.timed_event program (event_view entry.entry) (short_event_view said.entry) start duration }
+fn timed_event<'f>(program: u16, entry: EventEntry<'f>, start: u32, duration: u32) -> FoundEvent<'f>
+    ensures { result ≡ spec.timed_event program (event_view entry.entry) start duration }
 {
     FoundEvent {
         program,
         id: entry.event_id,
         start,
         duration,
-        language: said.language,
-        name: said.name,
-        text: said.text,
+        descriptors: entry.descriptors,
     }
 }
 
@@ -107,10 +87,9 @@ fn timed_event<'f>(
 pub(crate) fn event_in<'f>(program: u16, entry: EventEntry<'f>) -> Option<FoundEvent<'f>>
     ensures { result ≡ spec.event_in program (event_view entry.entry) }
 {
-    let said = short_event(entry.descriptors)?;
     let start = moment_in(entry.start_time)?;
     let duration = seconds_in(entry.duration)?;
-    if_said(timed_event(program, entry, said, start, duration))
+    if_said(timed_event(program, entry, start, duration))
 }
 
 // Returns whether events of one program overlap.
@@ -224,7 +203,7 @@ fn take_section<'f>(
 
 /// Returns the events of programs, by their numbers: from the sections in force on PID 0x12 (table_id 0x4E) the events,
 /// in their order, that overlap no earlier event of the same program, 1,024 at most; in the order of their starts.
-/// An event needs a time from 1970 to 2037, a length, and a short event descriptor with a language of three letters.
+/// An event needs a time from 1970 to 2037, a length, and whole descriptors of at most 4,000 bytes.
 #[tactic(auto, unfolding(crate::specs::Events::stream_events))]
 pub fn stream_events<'f>(
     alloc: Global,

@@ -1,7 +1,7 @@
 //! What a short event descriptor says (EN 300 468, 6.2.37).
 
 ghost use Rattle.std.specs.Prelude.{◌≡◌, option_map};
-ghost use Rattle.descriptor_loops.specs.Descriptors.{descriptor_view, descriptors_in};
+ghost use Rattle.descriptor_loops.specs.Descriptors.{descriptor_view};
 ghost use Rattle.ts_services.specs.Services.{length_prefixed};
 ghost use Rattle.service_information.specs.ShortEvents as spec;
 
@@ -13,7 +13,7 @@ const SHORT_EVENT: u8 = 0x4d;
 
 /// A short event descriptor. The texts are still coded (EN 300 468, annex A).
 #[derive(Clone, Copy)]
-pub(crate) struct ShortEvent<'f> {
+pub struct ShortEvent<'f> {
     /// ISO_639_language_code.
     pub language: &'f [u8],
     pub name: &'f [u8],
@@ -59,8 +59,8 @@ fn of_descriptor<'f>(descriptor: Descriptor<'f>) -> Option<ShortEvent<'f>>
 
 /// Returns what the first short event descriptor of a loop says.
 #[tactic(auto, unfolding(crate::specs::ShortEvents::in_descriptors))]
-pub(crate) fn short_event(bytes: &[u8]) -> Option<ShortEvent<'_>>
-    ensures { option_map spec.short_event_view result ≡ spec.in_descriptors (descriptors_in bytes.now) }
+pub fn short_event(bytes: &[u8]) -> Option<ShortEvent<'_>>
+    ensures { option_map spec.short_event_view result ≡ spec.short_event bytes.now }
 {
     for descriptor in Descriptors::of(bytes) {
         if let Some(event) = of_descriptor(descriptor) {
@@ -68,16 +68,4 @@ pub(crate) fn short_event(bytes: &[u8]) -> Option<ShortEvent<'_>>
         }
     }
     None
-}
-
-/// Returns whether a loop has a short event descriptor and nothing else.
-#[tactic(auto, unfolding(crate::specs::ShortEvents::is_alone))]
-pub(crate) fn is_alone(bytes: &[u8]) -> bool
-    ensures { result ≡ spec.is_alone bytes.now }
-{
-    match bytes {
-        [] => false,
-        [_] => false,
-        [tag, size, body @ ..] => *tag == SHORT_EVENT && *size as usize == body.len(),
-    }
 }

@@ -9,7 +9,7 @@ ghost use Rattle.service_information.specs.StreamTime.{time_surplus};
 ghost use Rattle.service_information.specs.Warnings as spec;
 ghost use Rattle.service_information.specs.declared.warning.InformationWarning.TheVariants.{EventSurplus, TimeSurplus};
 
-use crate::event_surplus::{event_surplus, have_whole_texts};
+use crate::event_surplus::event_surplus;
 use crate::events::{FoundEvent, stream_events};
 use crate::time_table::time_surplus;
 use pid_findings::{Finding, What};
@@ -22,11 +22,8 @@ const INFORMATION_PIDS: [u16; 4] = [0x10, 0x11, 0x12, 0x14];
 #[derive(Clone, Copy)]
 pub enum InformationWarning {
     /// A section of present and following events of the stream itself ends in this packet and is not carried unchanged:
-    /// not in force, not readable, or with an event that is not taken or has other descriptors than a short event
-    /// descriptor.
+    /// not in force, not readable, or with an event that is not taken.
     EventSurplus { packet: u64 },
-    /// The name or the text of an event has characters that can't be read, or more bytes than a description has of it.
-    EventTexts,
     /// A time and date section ends in this packet that says no time of 1970 to 2037, or is on another PID.
     TimeSurplus { packet: u64 },
     /// A section on a PID of service information can't be read: its check word, its length or its place is wrong.
@@ -120,23 +117,9 @@ fn push_event_surplus(
     Ok(())
 }
 
-#[tactic(auto, unfolding(crate::specs::Warnings::text_warnings))]
-fn push_event_texts(
-    alloc: Global,
-    taken: &[FoundEvent<'_>],
-    warnings: &mut Vec<InformationWarning>,
-) -> Result<(), AllocError>
-    ensures { OnOk result (warnings.new.items ≡ warnings.old.items ++ spec.text_warnings taken.now) }
-{
-    if !have_whole_texts(alloc, taken)? {
-        warnings.push(InformationWarning::EventTexts)?;
-    }
-    Ok(())
-}
-
 /// Returns the warnings about service information: the first section that can't be read of each of its PIDs (0x10,
 /// 0x11, 0x12 and 0x14), the first time and date section that says no time, the first section with table_id 0x4E that
-/// says more of these programs than `stream_events`, and whether a text of an event is cut or can't be read.
+/// has an event of these programs that is not among the `stream_events`.
 #[tactic(auto, unfolding(crate::specs::Warnings::information_warnings))]
 pub fn information_warnings(
     alloc: Global,
@@ -151,6 +134,5 @@ pub fn information_warnings(
     push_time_surplus(findings, &mut warnings)?;
     let taken = stream_events(alloc, numbers, findings)?;
     push_event_surplus(numbers, &taken, findings, &mut warnings)?;
-    push_event_texts(alloc, &taken, &mut warnings)?;
     Ok(warnings)
 }
