@@ -7,10 +7,11 @@ use Rattle.mux_core.specs.Scheduled.{Scheduled}
 use Rattle.mux_core.specs.Histories.{History, owned_stream}
 use Rattle.mux_core.specs.MuxStates.{MuxState, Represents, QueueRepresents}
 use Rattle.mux_core.specs.Headline.{UnitsKept, AnyStateLaw}
+use Rattle.mux_core.specs.declared.room.Room.{Room}
 use Rattle.mux_core.proofs.KnownRanges.{parameters_known}
 use Rattle.mux_core.proofs.Whole.{headline_over}
 
-kept_in : (d : Scheduled) (h : History) (capacity k : ℕ) (q : Option Queue) (s : DescribedStream) → QueueRepresents d h capacity k q (Some s) →
+kept_in : (d : Scheduled) (h : History) (capacity : Room) (k : ℕ) (q : Option Queue) (s : DescribedStream) → QueueRepresents d h capacity k q (Some s) →
     Kept (owned_stream d k s) (h.units k)
 kept_in d h capacity k (Some q) s st = st.kept
 kept_in d h capacity k None s st = absurd st

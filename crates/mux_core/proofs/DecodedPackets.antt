@@ -21,8 +21,8 @@ use Rattle.description_parts.specs.Tables.{section_count}
 use Rattle.slot_plan.specs.TableRounds.{section_starts}
 use Rattle.table_rounds.specs.Payloads.{Begins as BeginsIn}
 use Rattle.mux_core.specs.Scheduled.{Scheduled}
-use Rattle.mux_core.specs.Histories.{table_of}
-use Rattle.mux_core.specs.Headline.{IsPayloadAlone, IsClockAlone, TableKept}
+use Rattle.mux_core.specs.Histories.{Change, table_over}
+use Rattle.mux_core.specs.Headline.{IsPayloadAlone, IsClockAlone, TableKeptOver}
 use Rattle.mux_core.specs.DecodedRuns.{IsClear, HasClock, HasStamps, SectionComes, decoding_stamp, has_discontinuity, pcr_of, presentation_stamp}
 
 -- ---- packets
@@ -121,25 +121,25 @@ has_stamps id base0 u fits = record {
 
 -- ---- sections
 
-abbrev BeginsAt : Scheduled → ℕ → ℕ → List ℕ → ℕ → Type 0
-BeginsAt d t j bytes s = BeginsIn (table_of d t) j s bytes
+abbrev BeginsAt : Scheduled → List Change → ℕ → ℕ → List ℕ → ℕ → Type 0
+BeginsAt d changes t j bytes s = BeginsIn (table_over d changes t) j s bytes
 
-each_begins : (d : Scheduled) (t slots : ℕ) (bytes : List ℕ) (j s n : ℕ) → TableKept d t slots bytes → j < section_count d.description t → s + n ≤ slots →
-    All (BeginsAt d t j bytes) (own_slots (section_starts d.description d.schedule t j) s n)
+each_begins : (d : Scheduled) (changes : List Change) (t slots : ℕ) (bytes : List ℕ) (j s n : ℕ) → TableKeptOver d changes t slots bytes →
+    j < section_count d.description t → s + n ≤ slots → All (BeginsAt d changes t j bytes) (own_slots (section_starts d.description d.schedule t j) s n)
 unfolding own_slots
-each_begins d t slots bytes j s zero kept within le = All-nil (BeginsAt d t j bytes)
-each_begins d t slots bytes j s (suc n) kept within le =
+each_begins d changes t slots bytes j s zero kept within le = All-nil (BeginsAt d changes t j bytes)
+each_begins d changes t slots bytes j s (suc n) kept within le =
     let own : ℕ → Bool = section_starts d.description d.schedule t j in
-    let rest = each_begins d t slots bytes j (suc s) n kept within (omega (arith, le)) in
+    let rest = each_begins d changes t slots bytes j (suc s) n kept within (omega (arith, le)) in
     elim (cases_Bool (section_starts d.description d.schedule t j s)) [
-      | inl y ↦ rw y (All-cons (BeginsAt d t j bytes) s (own_slots own (suc s) n) (kept.begins j s within (omega (arith, le)) y) rest)
+      | inl y ↦ rw y (All-cons (BeginsAt d changes t j bytes) s (own_slots own (suc s) n) (kept.begins j s within (omega (arith, le)) y) rest)
       | inr k ↦ rw k rest
     ]
 
-pub section_comes : (d : Scheduled) (t slots : ℕ) (bytes : List ℕ) (j : ℕ) → TableKept d t slots bytes → j < section_count d.description t →
-    SectionComes d t j slots bytes
-section_comes d t slots bytes j kept within = record {
+pub section_comes : (d : Scheduled) (changes : List Change) (t slots : ℕ) (bytes : List ℕ) (j : ℕ) → TableKeptOver d changes t slots bytes →
+    j < section_count d.description t → SectionComes d changes t j slots bytes
+section_comes d changes t slots bytes j kept within = record {
   starts = own_slots (section_starts d.description d.schedule t j) 0 slots;
-  begins = each_begins d t slots bytes j 0 slots kept within (omega arith);
+  begins = each_begins d changes t slots bytes j 0 slots kept within (omega arith);
   recur = kept.sections_recur j within;
 }

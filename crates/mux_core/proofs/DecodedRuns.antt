@@ -35,7 +35,7 @@ use Rattle.unit_queue.proofs.Leftover.{text_some}
 use Rattle.tstd.specs.Carried.{packets_on, timed_pes_packets}
 use Rattle.mux_core.specs.Scheduled.{Scheduled}
 use Rattle.mux_core.specs.Histories.{owned_stream}
-use Rattle.mux_core.specs.Headline.{StreamKept, VideoKept, Headline, IsTransportPacket, IsNamed, IsAccessAtStart}
+use Rattle.mux_core.specs.Headline.{StreamKept, VideoKept, IsTransportPacket, IsNamed, IsAccessAtStart}
 use Rattle.mux_core.specs.Decoder.{Follow, pieces_on, put_together, cut_thing}
 use Rattle.mux_core.specs.DecodedRuns.{IsDue, Arrives, ArrivesInEb, StreamDecoded, DecodedLaw}
 use Rattle.mux_core.proofs.DecodedPackets.{all_in_the_clear, have_clocks, has_stamps, section_comes}
@@ -239,7 +239,7 @@ stream_decoded d k s units slots bytes r there known kept = record {
 -- The law `decoded`
 
 pub decoded : DecodedLaw
-decoded d units slots bytes r h =
+decoded d changes units slots bytes r h =
     let count : length bytes / 188 ≡ slots = omega (arith, h.size) in
     record {
       read = each_read bytes h.packets ∙ count;
@@ -254,6 +254,6 @@ decoded d units slots bytes r h =
       };
       tables = λ t lt. record {
         follow = count_on (pid_list _ bytes) (h.tables t lt).sections.counters;
-        sections = λ j within. section_comes d t slots bytes j (h.tables t lt) within;
+        sections = λ j within. section_comes d changes t slots bytes j (h.tables t lt) within;
       };
     }

@@ -17,6 +17,7 @@ use Rattle.mux_core.specs.MuxStates.{MuxState, Represents, Gives, Takes, feed_ca
 use Rattle.mux_core.specs.Headline.{HeadlineOver}
 use Rattle.mux_core.specs.Events.{Step, FeedStep, SlotStep, fed_history, step_history, history_after, Adds, StillRepresents, WrittenStays, OrderIsFree}
 use Rattle.mux_core.specs.declared.done.Done.{Done}
+use Rattle.mux_core.specs.declared.room.Room.{Room}
 use Rattle.mux_core.proofs.FedUnits.{bytes_kept}
 use Rattle.mux_core.proofs.MuxStates.{feed_laws}
 use Rattle.mux_core.proofs.Accepted.{any_state}
@@ -43,11 +44,11 @@ adds_more d h g k old mid new a b = record {
 
 -- One slot
 
-slot_there : (d : Scheduled) (capacity : ℕ) (h : History) → h.slots < 2 ^ 40 → step_history d capacity h SlotStep ≡ next_slot h
+slot_there : (d : Scheduled) (capacity : Room) (h : History) → h.slots < 2 ^ 40 → step_history d capacity h SlotStep ≡ next_slot h
 unfolding step_history
 slot_there d capacity h lt = ap (λ (b : Bool). cond b (next_slot h) h) (lt-ltb h.slots (2 ^ 40) lt)
 
-slot_past : (d : Scheduled) (capacity : ℕ) (h : History) → 2 ^ 40 ≤ h.slots → step_history d capacity h SlotStep ≡ h
+slot_past : (d : Scheduled) (capacity : Room) (h : History) → 2 ^ 40 ≤ h.slots → step_history d capacity h SlotStep ≡ h
 unfolding step_history
 slot_past d capacity h le = ap (λ (b : Bool). cond b (next_slot h) h) (le-ltb h.slots (2 ^ 40) le)
 
@@ -92,13 +93,13 @@ unit_represents h old new k u (Err e) st t same = record {
   same_capacity = t.same_capacity;
 }
 
-unit_kept_in : (d : Scheduled) (capacity : ℕ) (h : History) (k : ℕ) (u : AccessUnit) (refused : Option FeedError) →
+unit_kept_in : (d : Scheduled) (capacity : Room) (h : History) (k : ℕ) (u : AccessUnit) (refused : Option FeedError) →
     feed_cause d capacity h k u (slice_get d.description.streams k) ≡ refused → bytes_of d (fed_history h k u refused) ≡ bytes_of d h
 unfolding fed_history
 unit_kept_in d capacity h k u None e = bytes_kept feed_laws.later d h capacity k u e
 unit_kept_in d capacity h k u (Some cause) e = refl
 
-pub unit_kept : (d : Scheduled) (capacity : ℕ) (h : History) (k : ℕ) (u : AccessUnit) → bytes_of d (step_history d capacity h (FeedStep k u)) ≡ bytes_of d h
+pub unit_kept : (d : Scheduled) (capacity : Room) (h : History) (k : ℕ) (u : AccessUnit) → bytes_of d (step_history d capacity h (FeedStep k u)) ≡ bytes_of d h
 unfolding step_history
 unit_kept d capacity h k u = unit_kept_in d capacity h k u (feed_cause d capacity h k u (slice_get d.description.streams k)) refl
 
@@ -129,7 +130,7 @@ unfolding history_after
 driven_more h old mid new steps left step out now later w on adds =
     let same : step_history mid.schedule mid.capacity w.so_far step ≡ step_history old.schedule old.capacity w.so_far step =
     ap (λ (d : Scheduled). step_history d mid.capacity w.so_far step) w.represents.same_schedule
-    ∙ ap (λ (n : ℕ). step_history old.schedule n w.so_far step) w.represents.same_capacity in
+    ∙ ap (λ (n : Room). step_history old.schedule n w.so_far step) w.represents.same_capacity in
     let there = subst (λ (x : History). StillRepresents x mid new) same on in
     record {
       so_far = step_history old.schedule old.capacity w.so_far step;
@@ -176,7 +177,7 @@ driven_headline h old new steps left out now ranges promised w none =
 
 -- Laws of steps
 
-step_stays : (d : Scheduled) (capacity : ℕ) (h : History) (step : Step) →
+step_stays : (d : Scheduled) (capacity : Room) (h : History) (step : Step) →
     (added : List ℕ) × (bytes_of d (step_history d capacity h step) ≡ bytes_of d h ++ added)
 step_stays d capacity h (FeedStep k u) = ([], unit_kept d capacity h k u ∙ sym (append-nil (bytes_of d h)))
 step_stays d capacity h SlotStep = elim (cases_lt h.slots (2 ^ 40)) [
@@ -202,12 +203,12 @@ slot_changes : (h : History) (b : Bool) → (cond b (next_slot h) h).changes ≡
 slot_changes h true = refl
 slot_changes h false = refl
 
-step_changes : (d : Scheduled) (capacity : ℕ) (h : History) (step : Step) → (step_history d capacity h step).changes ≡ h.changes
+step_changes : (d : Scheduled) (capacity : Room) (h : History) (step : Step) → (step_history d capacity h step).changes ≡ h.changes
 unfolding step_history
 step_changes d capacity h (FeedStep k u) = fed_changes h k u (feed_cause d capacity h k u (slice_get d.description.streams k))
 step_changes d capacity h SlotStep = slot_changes h (nat_lt h.slots (2 ^ 40))
 
-pub changes_after : (d : Scheduled) (capacity : ℕ) (h : History) (steps : List Step) → (history_after d capacity h steps).changes ≡ h.changes
+pub changes_after : (d : Scheduled) (capacity : Room) (h : History) (steps : List Step) → (history_after d capacity h steps).changes ≡ h.changes
 unfolding history_after
 changes_after d capacity h [] = refl
 changes_after d capacity h (step ∷ rest) = changes_after d capacity (step_history d capacity h step) rest ∙ step_changes d capacity h step

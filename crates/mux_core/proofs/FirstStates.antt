@@ -14,16 +14,18 @@ use Rattle.unit_queue.specs.Queues.{Queue, ParametersInRange}
 use Rattle.unit_queue.proofs.QueueStates.{first_law}
 use Rattle.table_rounds.specs.Carousels.{Carousel}
 use Rattle.table_rounds.proofs.CarouselSteps.{first_carousel_holds}
+use Rattle.mux_core.specs.Rooms.{room_in}
 use Rattle.mux_core.specs.Scheduled.{Scheduled}
 use Rattle.mux_core.specs.Histories.{empty_history, parameters_of, owned_stream, table_of}
 use Rattle.mux_core.specs.TextChanges.{began_since}
 use Rattle.mux_core.specs.MuxStates.{Represents, QueueRepresents, CarouselRepresents}
 use Rattle.mux_core.specs.NewMux.{first_queue, first_carousel, first_carousels}
+use Rattle.mux_core.specs.declared.room.Room.{Room}
 use Rattle.mux_core.proofs.KnownRanges.{parameters_fit, tables_known}
 
 -- One more queue or carousel
 
-pub next_queue : (d : Described) (capacity i : ℕ) (queues : List Queue) (s : DescribedStream) → s ≡ get_or d.streams i s → i < length d.streams →
+pub next_queue : (d : Described) (capacity : Room) (i : ℕ) (queues : List Queue) (s : DescribedStream) → s ≡ get_or d.streams i s → i < length d.streams →
     queues ≡ map (first_queue d capacity) (take i d.streams) →
     queues ++ (first_queue d capacity s ∷ []) ≡ map (first_queue d capacity) (take (i + 1) d.streams)
 next_queue d capacity i queues s at lt is =
@@ -59,15 +61,15 @@ carousels_none d = refl
 
 -- The first queues and carousels represent the empty history
 
-queues_at : (d : Described) (capacity k : ℕ) (streams : List DescribedStream) →
+queues_at : (d : Described) (capacity : Room) (k : ℕ) (streams : List DescribedStream) →
     slice_get (map (first_queue d capacity) streams) k ≡ option_map (first_queue d capacity) (slice_get streams k)
 queues_at d capacity k [] = refl
 queues_at d capacity zero (s ∷ streams) = refl
 queues_at d capacity (suc k) (s ∷ streams) = queues_at d capacity k streams
 
-queue_represents : (d : Scheduled) (capacity k : ℕ) (s : Option DescribedStream) →
+queue_represents : (d : Scheduled) (capacity : Room) (k : ℕ) (s : Option DescribedStream) →
     QueueRepresents d empty_history capacity k (option_map (first_queue d.description capacity) s) s
-queue_represents d capacity k (Some s) = first_law (owned_stream d k s) capacity
+queue_represents d capacity k (Some s) = first_law (owned_stream d k s) (room_in capacity s)
 queue_represents d capacity k None = tt
 
 carousels_at : (d : Described) (t k : ℕ) (kinds : List TableKind) →
@@ -86,7 +88,7 @@ carousel_represents : (d : Scheduled) (t : ℕ) (kind : Option TableKind) → Is
 carousel_represents d t (Some kind) ranges is = first_carousel_holds (table_of d t) ((tables_known sections_law d empty_history d.description ranges tt refl).places t kind is)
 carousel_represents d t None ranges is = tt
 
-pub represents_first : (d : Scheduled) (capacity : ℕ) → IsInRange d.description →
+pub represents_first : (d : Scheduled) (capacity : Room) → IsInRange d.description →
     Represents empty_history (record {
       schedule = d;
       texts = d.description;
@@ -100,6 +102,7 @@ unfolding began_since
 represents_first d capacity ranges = record {
   written = refl;
   changes = tt;
+  made = tt;
   texts = refl;
   sent_size = length-replicate sub_table_count false;
   sent = λ x lt. get_or-replicate 131 x false false lt;
@@ -109,7 +112,7 @@ represents_first d capacity ranges = record {
       (sym (carousels_here d.description t (table_kinds d.description))) (carousel_represents d t (slice_get (table_kinds d.description) t) ranges refl);
 }
 
-pub begins : (d : Scheduled) (queues : List Queue) (carousels : List Carousel) (capacity : ℕ) → IsInRange d.description →
+pub begins : (d : Scheduled) (queues : List Queue) (carousels : List Carousel) (capacity : Room) → IsInRange d.description →
     queues ≡ map (first_queue d.description capacity) d.description.streams → carousels ≡ first_carousels d.description 0 (table_count d.description) →
     Represents empty_history (record { schedule = d; texts = d.description; sent = replicate 131 false; queues = queues; carousels = carousels; capacity = capacity; slots = 0 })
 begins d queues carousels capacity ranges are are_carousels =

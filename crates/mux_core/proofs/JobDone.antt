@@ -27,6 +27,7 @@ use Rattle.mux_core.specs.WholeJobs.{job_history, capacity_for, or_cause, first_
 use Rattle.mux_core.specs.WholeJobs.{Writes, OnWriting, AllFed, slots_cause, periods_cause}
 use Rattle.mux_core.specs.declared.multiplexing.MuxError.{MuxError}
 use Rattle.mux_core.specs.declared.multiplexing.MuxError.TheVariants.{TooManySlots, Periods, Feed, Device, Memory}
+use Rattle.mux_core.specs.declared.room.Room.{Room}
 use Rattle.mux_core.proofs.Whole.{contents_fit}
 use Rattle.mux_core.proofs.Accepted.{units_kept, any_state}
 use Rattle.mux_core.proofs.MeasurableRuns.{accepted_declared, measures_well}
@@ -55,10 +56,10 @@ output_short true slots most = omega (arith, most)
 
 -- The results of a job
 
-pub cause_is : (d : Scheduled) (capacity : ℕ) (units : List (ℕ × AccessUnit)) (o : Option MuxError) → capacity ≡ capacity_for units →
+pub cause_is : (d : Scheduled) (capacity : Room) (units : List (ℕ × AccessUnit)) (o : Option MuxError) → capacity ≡ capacity_for units →
     first_refused d capacity [] units ≡ o → job_cause None d units ≡ o
 unfolding or_cause
-cause_is d capacity units o e is = ap (λ (n : ℕ). first_refused d n [] units) (sym e) ∙ is
+cause_is d capacity units o e is = ap (λ (n : Room). first_refused d n [] units) (sym e) ∙ is
 
 -- If the job's numbers give a cause, it is the cause of the job.
 pub early_is : (early : Option MuxError) (d : Scheduled) (units : List (ℕ × AccessUnit)) (e : MuxError) → early ≡ Some e → job_cause early d units ≡ Some e

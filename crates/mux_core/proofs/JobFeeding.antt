@@ -13,6 +13,7 @@ use Rattle.mux_core.specs.Histories.{History, with_unit}
 use Rattle.mux_core.specs.MuxStates.{MuxState, Represents, Takes, feed_cause}
 use Rattle.mux_core.specs.WholeJobs.{job_history, or_cause, unit_refused, cause_after, first_refused, AllFed}
 use Rattle.mux_core.specs.declared.multiplexing.MuxError.TheVariants.{Feed}
+use Rattle.mux_core.specs.declared.room.Room.{Room}
 use Rattle.mux_core.proofs.UnitCounts.{own_units, other_units, units_append}
 
 -- A fed unit is appended to its own stream only.
@@ -49,7 +50,7 @@ unfolding first_refused
 judged old mid units index entry left refused new w takes =
     let cause : cause_after old.schedule old.capacity w.fed entry ≡ refused =
     ap (λ (d : Scheduled). feed_cause d old.capacity (job_history w.fed 0) entry.0 entry.1 (slice_get d.description.streams entry.0)) (sym w.same_schedule)
-    ∙ ap (λ (n : ℕ). feed_cause mid.schedule n (job_history w.fed 0) entry.0 entry.1 (slice_get mid.schedule.description.streams entry.0)) (sym w.same_capacity)
+    ∙ ap (λ (n : Room). feed_cause mid.schedule n (job_history w.fed 0) entry.0 entry.1 (slice_get mid.schedule.description.streams entry.0)) (sym w.same_capacity)
     ∙ sym takes.first in
     w.is ∙ ap (λ (x : Option FeedError). or_cause (unit_refused (length w.fed) x) (first_refused old.schedule old.capacity (w.fed ++ (entry ∷ [])) left)) cause
     ∙ ap (λ (n : ℕ). or_cause (unit_refused n refused) (first_refused old.schedule old.capacity (w.fed ++ (entry ∷ [])) left)) (sym w.index_is)

@@ -16,6 +16,7 @@ pub mod StreamsAlone
 pub mod StreamsKept
 pub mod Whole
 pub mod TextLaws
+pub mod SentVersions
 pub mod MeasuredRuns
 pub mod MeasurableRuns
 pub mod PutTogether

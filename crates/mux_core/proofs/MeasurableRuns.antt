@@ -14,6 +14,7 @@ use Rattle.tstd.specs.Refusals.{first_unreadable, is_within, is_declared, all_ca
 use Rattle.unit_queue.specs.declared.refusal.FeedError.{FeedError}
 use Rattle.unit_queue.specs.Causes.{own_cause, time_cause, room_cause, or_cause as or_feed_cause, is_late, is_full, over_cause, min_next_dts_of}
 use Rattle.unit_queue.proofs.CauseLemmas.{or_none as feed_or_none, own_facts}
+use Rattle.mux_core.specs.Rooms.{room_in}
 use Rattle.mux_core.specs.Scheduled.{Scheduled}
 use Rattle.mux_core.specs.Histories.{History, owned_stream}
 use Rattle.mux_core.specs.Headline.{Headline, IsTransportPacket}
@@ -21,6 +22,8 @@ use Rattle.mux_core.specs.MeasuredRuns.{MeasurableLaw, MeasuresWell}
 use Rattle.mux_core.specs.MuxStates.{feed_cause}
 use Rattle.mux_core.specs.WholeJobs.{job_history, or_cause, unit_refused, cause_after, first_refused}
 use Rattle.mux_core.specs.declared.multiplexing.MuxError.{MuxError}
+use Rattle.mux_core.specs.declared.room.Room.{Room}
+use Rattle.mux_core.proofs.FedUnits.{accepted_on_air}
 use Rattle.mux_core.proofs.MeasuredRuns.{measured}
 
 and_true : (a b : Bool) → a ≡ true → b ≡ true → (a && b) ≡ true
@@ -50,7 +53,7 @@ each_carried d units bytes number (s ∷ streams) each =
     subst (λ (n : ℕ). carries t.pid t.stream_id d.base0 (units_of n units) bytes ≡ true) there (each (suc k) t e)))
 
 pub measurable : MeasurableLaw
-measurable d units slots bytes h declared =
+measurable d changes units slots bytes h declared =
     let whole : length bytes % 188 ≡ 0 = omega (arith, h.size) in
     let carried : all_carried d.description units bytes 0 d.description.streams ≡ true =
     each_carried d.description units bytes 0 d.description.streams (λ k s e.
@@ -60,7 +63,7 @@ measurable d units slots bytes h declared =
 
 -- Accepted units are declared
 
-within : (d : Scheduled) (capacity : ℕ) (h : History) (k : ℕ) (u : AccessUnit) (o : Option DescribedStream) → feed_cause d capacity h k u o ≡ None →
+within : (d : Scheduled) (capacity : Room) (h : History) (k : ℕ) (u : AccessUnit) (o : Option DescribedStream) → feed_cause d capacity h k u o ≡ None →
     is_within (length u.bytes) o ≡ true
 unfolding feed_cause
 within d capacity h k u None e = absurd (let no : ⊥ = cc in no)
@@ -68,7 +71,7 @@ within d capacity h k u (Some s) e =
     let l = owned_stream d k s in
     let us = h.units k in
     let own = (feed_or_none (own_cause s.size s.pts_limit (min_next_dts_of l us) u)
-    (or_feed_cause (time_cause (is_late l h.slots u) u.dts) (room_cause (is_full l h.slots capacity us) (over_cause l us u))) e).0 in
+    (or_feed_cause (time_cause (is_late l h.slots u) u.dts) (room_cause (is_full l h.slots (room_in capacity s) us) (over_cause l us u))) (accepted_on_air _ _ e).1).0 in
     let facts = own_facts s.size s.pts_limit (min_next_dts_of l us) u own in
     and_true _ _ (le-leb 1 (length u.bytes) facts.some) (le-leb (length u.bytes) s.size (omega (arith, facts.most)))
 
@@ -82,7 +85,7 @@ unfolding unit_refused
 not_refused index None e = refl
 not_refused index (Some cause) e = absurd (let no : ⊥ = cc in no)
 
-pub accepted_declared : (d : Scheduled) (capacity : ℕ) (fed rest : List (ℕ × AccessUnit)) → first_refused d capacity fed rest ≡ None →
+pub accepted_declared : (d : Scheduled) (capacity : Room) (fed rest : List (ℕ × AccessUnit)) → first_refused d capacity fed rest ≡ None →
     list_all (is_declared d.description) rest ≡ true
 unfolding first_refused
 accepted_declared d capacity fed [] e = refl
@@ -97,6 +100,6 @@ accepted_declared d capacity fed (entry ∷ rest) e =
 pub measures_well : (d : Scheduled) (units : List (ℕ × AccessUnit)) (slots : ℕ) (bytes : List ℕ) → Headline d (λ k. units_of k units) slots bytes →
     list_all (is_declared d.description) units ≡ true → MeasuresWell d units bytes
 measures_well d units slots bytes h declared = record {
-  not_refused = measurable d units slots bytes h declared;
-  no_fault = λ found streams programs late. measured d units slots bytes found h streams programs late;
+  not_refused = measurable d [] units slots bytes h declared;
+  no_fault = λ found streams programs late. measured d [] units slots bytes found h streams programs late;
 }

@@ -49,7 +49,7 @@ unfolding HasVideoFullness
 two_numbers rate base0 s units bytes o p b v has is full = rw (has, is) at full
 
 pub measured : MeasuredLaw
-measured d units slots bytes found h streams programs late = record {
+measured d changes units slots bytes found h streams programs late = record {
   none_late = late ∙ none_late d.description units bytes 0 d.description.streams (λ k s e.
       let at : 0 + k ≡ k = omega arith in
       ap (λ (n : ℕ). late_in d.description.rate d.description.base0 n s (units_of (0 + k) units) (packets_on s.pid bytes) s.multiplexing) whole

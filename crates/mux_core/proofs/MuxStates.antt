@@ -6,6 +6,7 @@ use Rattle.pes_packet.specs.AccessUnits.{AccessUnit}
 use Rattle.slot_contents.specs.Contents.{packet_of}
 use Rattle.description_parts.specs.Ranges.{IsInRange}
 use Rattle.description_parts.specs.Described.{DescribedStream}
+use Rattle.description_parts.specs.Tables.{stream_on_air}
 use Rattle.description.proofs.SectionCounts.{sections_law}
 use Rattle.slot_plan.specs.declared.slot.Slot.{Slot}
 use Rattle.slot_plan.specs.declared.slot.Slot.TheVariants.{Stream, Pcr, Table, Null}
@@ -21,6 +22,7 @@ use Rattle.mux_core.specs.Histories.{History, owned_stream, content_in, content_
 use Rattle.mux_core.specs.MuxStates.{MuxState, Represents, QueueRepresents, Gives, waiting_of}
 use Rattle.mux_core.specs.SlotSteps.{sends, after, queue_cause, queues_with}
 use Rattle.mux_core.specs.declared.done.Done.{Done}
+use Rattle.mux_core.specs.declared.room.Room.{Room}
 use Rattle.mux_core.proofs.SlotSteps.{Laws, Advances, advances}
 use Rattle.mux_core.proofs.FedUnits.{FeedLaws, Feeds}
 use Rattle.mux_core.proofs.KnownRanges.{tables_known}
@@ -82,7 +84,7 @@ with_queues m queues = record {
 
 -- The state takes or refuses a unit exactly as its queues do.
 pub feeds : {V : Type 0} (m : MuxState) (k : ℕ) (u : AccessUnit) (result : Result V (FeedError × AccessUnit)) (queues : List Queue) →
-    refusal result ≡ queue_cause m.slots u (slice_get m.queues k) → OnOk result (queues ≡ queues_with m.queues k u (slice_get m.queues k)) →
+    refusal result ≡ queue_cause (stream_on_air m.texts k) m.slots u (slice_get m.queues k) → OnOk result (queues ≡ queues_with m.queues k u (slice_get m.queues k)) →
     Feeds m k u (refusal result) (with_queues m queues)
 feeds m k u (Ok x) queues first taken = record { first = first; taken = λ none. ap (with_queues m) taken; same_schedule = refl; same_capacity = refl }
 feeds m k u (Err e) queues first taken = record { first = first; taken = λ none. absurd (cc); same_schedule = refl; same_capacity = refl }
@@ -91,7 +93,7 @@ feeds m k u (Err e) queues first taken = record { first = first; taken = λ none
 pub waits : (h : History) (m : MuxState) (k : ℕ) → Represents h m → option_map (λ q. length q.units) (slice_get m.queues k) ≡ waiting_of m.schedule h k
 waits h m k st = waits_in m.schedule h m.capacity k (slice_get m.queues k) (slice_get m.schedule.description.streams k) (st.streams k)
   where
-    waits_in : (d : Scheduled) (h : History) (capacity k : ℕ) (q : Option Queue) (s : Option DescribedStream) → QueueRepresents d h capacity k q s →
+    waits_in : (d : Scheduled) (h : History) (capacity : Room) (k : ℕ) (q : Option Queue) (s : Option DescribedStream) → QueueRepresents d h capacity k q s →
         option_map (λ x. length x.units) q ≡ option_map (λ x. length (left_before (owned_stream d k x) h.slots (h.units k)).units) s
     waits_in d h capacity k (Some q) (Some s) st = ap Some (ap (λ (x : Queue). length x.units) st.state ∙ length-map _ _)
     waits_in d h capacity k (Some q) None st = absurd st

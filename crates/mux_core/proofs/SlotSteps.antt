@@ -21,38 +21,40 @@ use Rattle.unit_queue.specs.Laws.{StreamSlotLaw, OtherStreamSlotLaw}
 use Rattle.table_rounds.specs.Carousels.{Carousel, CarouselHolds, next_section, carousel_after}
 use Rattle.table_rounds.specs.Tables.{place_at}
 use Rattle.table_rounds.specs.Laws.{HasPlaces, IsSourceOf, TableSlotLaw, OtherTableSlotLaw}
+use Rattle.mux_core.specs.Rooms.{room_in}
 use Rattle.mux_core.specs.Scheduled.{Scheduled}
 use Rattle.mux_core.specs.Histories.{History, text_at, last_texts, owned_stream, table_over, stream_in, table_in, content_in, next_slot}
-use Rattle.mux_core.specs.TextChanges.{ChangesFit, since_of, sub_table_there, is_numbered, begins_at, begins_in, began_since}
+use Rattle.mux_core.specs.TextChanges.{ChangesFit, AreMade, since_of, sub_table_there, is_numbered, begins_at, begins_in, began_since}
 use Rattle.mux_core.specs.MuxStates.{MuxState, Represents, QueueRepresents, CarouselRepresents}
 use Rattle.mux_core.specs.SlotSteps.{queue_sends, queues_after, carousel_sends, carousels_after, section_bytes, number_there, sent_after, sends, after}
+use Rattle.mux_core.specs.declared.room.Room.{Room}
 use Rattle.mux_core.proofs.TextChanges.{text_last, since_within, fits_later, last_kinds, began_idle, began_more, marked_size, marked_at, none_there, and_false}
 
 -- Streams
 
-abbrev streams_represent : Scheduled → History → ℕ → List Queue → Type 0
+abbrev streams_represent : Scheduled → History → Room → List Queue → Type 0
 streams_represent d h capacity queues = (k : ℕ) → QueueRepresents d h capacity k (slice_get queues k) (slice_get d.description.streams k)
 
-stream_other : OtherStreamSlotLaw → (d : Scheduled) (h : History) (capacity k : ℕ) (q : Option Queue) (s : Option DescribedStream) →
+stream_other : OtherStreamSlotLaw → (d : Scheduled) (h : History) (capacity : Room) (k : ℕ) (q : Option Queue) (s : Option DescribedStream) →
     owned d.schedule (StreamItem k) h.slots ≡ false → QueueRepresents d h capacity k q s → QueueRepresents d (next_slot h) capacity k q s
-stream_other law d h capacity k (Some q) (Some s) idle st = law (owned_stream d k s) h.slots capacity (h.units k) q idle st
+stream_other law d h capacity k (Some q) (Some s) idle st = law (owned_stream d k s) h.slots (room_in capacity s) (h.units k) q idle st
 stream_other law d h capacity k (Some q) None idle st = st
 stream_other law d h capacity k None (Some s) idle st = st
 stream_other law d h capacity k None None idle st = st
 
-stream_own : StreamSlotLaw → (d : Scheduled) (h : History) (capacity k : ℕ) (q : Option Queue) (s : Option DescribedStream) →
+stream_own : StreamSlotLaw → (d : Scheduled) (h : History) (capacity : Room) (k : ℕ) (q : Option Queue) (s : Option DescribedStream) →
     owned d.schedule (StreamItem k) h.slots ≡ true → QueueRepresents d h capacity k q s →
     QueueRepresents d (next_slot h) capacity k (option_map (sent_in h.slots) q) s
-stream_own law d h capacity k (Some q) (Some s) own st = (law (owned_stream d k s) h.slots capacity (h.units k) q own st).holds
+stream_own law d h capacity k (Some q) (Some s) own st = (law (owned_stream d k s) h.slots (room_in capacity s) (h.units k) q own st).holds
 stream_own law d h capacity k (Some q) None own st = st
 stream_own law d h capacity k None (Some s) own st = st
 stream_own law d h capacity k None None own st = st
 
-stream_sends : StreamSlotLaw → (d : Scheduled) (h : History) (capacity k : ℕ) (q : Option Queue) (s : Option DescribedStream) →
+stream_sends : StreamSlotLaw → (d : Scheduled) (h : History) (capacity : Room) (k : ℕ) (q : Option Queue) (s : Option DescribedStream) →
     owned d.schedule (StreamItem k) h.slots ≡ true → QueueRepresents d h capacity k q s →
     packet_of (queue_sends h.slots q) ≡ packet_of (stream_in d h.units h.slots k s)
 unfolding queue_sends stream_in
-stream_sends law d h capacity k (Some q) (Some s) own st = (law (owned_stream d k s) h.slots capacity (h.units k) q own st).packet
+stream_sends law d h capacity k (Some q) (Some s) own st = (law (owned_stream d k s) h.slots (room_in capacity s) (h.units k) q own st).packet
 stream_sends law d h capacity k (Some q) None own st = absurd st
 stream_sends law d h capacity k None (Some s) own st = absurd st
 stream_sends law d h capacity k None None own st = refl
@@ -69,7 +71,7 @@ queue_other slot j k queues None ne = refl
 queue_other slot j k queues (Some q) ne = slice_get-set_other queues k j (sent_in slot q) ne
 
 -- All streams after a slot of stream k.
-streams_on : StreamSlotLaw → OtherStreamSlotLaw → (d : Scheduled) (h : History) (capacity k : ℕ) (queues : List Queue) →
+streams_on : StreamSlotLaw → OtherStreamSlotLaw → (d : Scheduled) (h : History) (capacity : Room) (k : ℕ) (queues : List Queue) →
     slot_of d.schedule h.slots ≡ Stream k → streams_represent d h capacity queues →
     streams_represent d (next_slot h) capacity (queues_after h.slots queues k (slice_get queues k))
 streams_on own_law other_law d h capacity k queues is st j = elim (cases_eq j k) [
@@ -85,7 +87,7 @@ streams_on own_law other_law d h capacity k queues is st j = elim (cases_eq j k)
 ]
 
 -- All streams after a slot of no stream.
-streams_idle : OtherStreamSlotLaw → (d : Scheduled) (h : History) (capacity : ℕ) (queues : List Queue) →
+streams_idle : OtherStreamSlotLaw → (d : Scheduled) (h : History) (capacity : Room) (queues : List Queue) →
     ((k : ℕ) → owned d.schedule (StreamItem k) h.slots ≡ false) → streams_represent d h capacity queues → streams_represent d (next_slot h) capacity queues
 streams_idle law d h capacity queues idle st k = stream_other law d h capacity k (slice_get queues k) (slice_get d.description.streams k) (idle k) (st k)
 
@@ -166,6 +168,7 @@ tables_idle law d h carousels idle st t = table_other law d h t (slice_get carou
 -- The state has the texts in force, and the marks of what was sent of them.
 pub record TextsRepresent (d : Scheduled) (h : History) (texts : Described) (sent : List Bool) : Type 0 where
   pub fit : ChangesFit d.description h.slots h.changes
+  pub made : AreMade d h.changes
   pub are : texts ≡ last_texts d.description h.changes
   pub size : length sent ≡ sub_table_count
   pub marks : (x : ℕ) → x < sub_table_count → slice_index_or sent x false ≡ began_since d h.changes x (since_of h.changes x) h.slots
@@ -174,6 +177,7 @@ texts_idle : (d : Scheduled) (h : History) (texts : Described) (sent : List Bool
     ((x : ℕ) → begins_in d h.changes x h.slots (slot_of d.schedule h.slots) ≡ false) → TextsRepresent d (next_slot h) texts sent
 texts_idle d h texts sent st none = record {
   fit = fits_later d.description h.slots h.changes st.fit;
+  made = st.made;
   are = st.are;
   size = st.size;
   marks = λ x lt. st.marks x lt ∙ sym (began_idle d h.changes x (since_of h.changes x) h.slots (none x));
@@ -211,6 +215,7 @@ texts_on : (d : Scheduled) (h : History) (texts : Described) (sent : List Bool) 
 unfolding sent_after
 texts_on d h texts sent t (Some carousel) (Some kind) st is of holds = record {
   fit = fits_later d.description h.slots h.changes st.fit;
+  made = st.made;
   are = st.are;
   size = marked_size sent (number_there texts t (next_section carousel)) ∙ st.size;
   marks = λ x lt.
@@ -225,7 +230,7 @@ texts_on d h texts sent t None (Some kind) st is of holds = absurd holds
 texts_on d h texts sent t None None st is of holds = texts_idle d h texts sent st (λ x. nothing_there d h texts sent x t st is of)
 
 pub texts_of : (h : History) (m : MuxState) → Represents h m → TextsRepresent m.schedule h m.texts m.sent
-texts_of h m st = record { fit = st.changes; are = st.texts; size = st.sent_size; marks = st.sent }
+texts_of h m st = record { fit = st.changes; made = st.made; are = st.texts; size = st.sent_size; marks = st.sent }
 
 -- The state after a slot
 
@@ -241,16 +246,17 @@ pub record Laws : Type 0 where
   pub own_table : TableSlotLaw
   pub other_table : OtherTableSlotLaw
 
-abbrev mux_state : Scheduled → Described → List Bool → List Queue → List Carousel → ℕ → ℕ → MuxState
+abbrev mux_state : Scheduled → Described → List Bool → List Queue → List Carousel → Room → ℕ → MuxState
 mux_state d texts sent queues carousels capacity slots =
     record { schedule = d; texts = texts; sent = sent; queues = queues; carousels = carousels; capacity = capacity; slots = slots }
 
-slot_represents : (h : History) (d : Scheduled) (texts : Described) (sent : List Bool) (queues : List Queue) (carousels : List Carousel) (capacity : ℕ) →
+slot_represents : (h : History) (d : Scheduled) (texts : Described) (sent : List Bool) (queues : List Queue) (carousels : List Carousel) (capacity : Room) →
     streams_represent d (next_slot h) capacity queues → tables_represent d (next_slot h) carousels → TextsRepresent d (next_slot h) texts sent →
     Represents (next_slot h) (mux_state d texts sent queues carousels capacity (suc h.slots))
 slot_represents h d texts sent queues carousels capacity streams tables st = record {
   written = refl;
   changes = st.fit;
+  made = st.made;
   texts = st.are;
   sent_size = st.size;
   sent = st.marks;
@@ -263,7 +269,7 @@ unmarked : (d : Scheduled) (h : History) (slot : Slot) → slot_of d.schedule h.
     (x : ℕ) → begins_in d h.changes x h.slots (slot_of d.schedule h.slots) ≡ false
 unmarked d h slot is none x = ap (begins_in d h.changes x h.slots) is ∙ none x
 
-slot_advances : Laws → (h : History) (d : Scheduled) (texts : Described) (sent : List Bool) (queues : List Queue) (carousels : List Carousel) (capacity : ℕ)
+slot_advances : Laws → (h : History) (d : Scheduled) (texts : Described) (sent : List Bool) (queues : List Queue) (carousels : List Carousel) (capacity : Room)
     (slot : Slot) →
     TablesKnown d h texts → slot_of d.schedule h.slots ≡ slot → TextsRepresent d h texts sent → streams_represent d h capacity queues →
     tables_represent d h carousels → Advances h (mux_state d texts sent queues carousels capacity h.slots) slot

@@ -89,6 +89,7 @@ takes_texts laws h m texts ranges st none = record {
     },
     st.changes,
   );
+  made = (record { texts = texts; ranges = ranges; accepted = none; is = refl }, st.made);
   texts = next_is h m texts st;
   sent_size = still_size m.sent (changed m.texts texts (moment_of_events m));
   sent = λ x lt. marks_go_on m.schedule (next_change m.schedule h texts) h.changes m.sent m.texts texts (moment_of_events m) x lt (st.sent x lt)

@@ -230,7 +230,7 @@ pub marked_size : (sent : List Bool) (o : Option ℕ) → length (marked sent o)
 marked_size sent None = refl
 marked_size sent (Some n) = length-set sent n true
 
-or_true : (b : Bool) → (b || true) ≡ true
+pub or_true : (b : Bool) → (b || true) ≡ true
 or_true true = refl
 or_true false = refl
 

@@ -34,8 +34,8 @@ use Rattle.unit_queue.specs.OwnedStreams.{pes_bytes}
 use Rattle.unit_queue.specs.Payloads.{all_pieces, all_senders}
 use Rattle.tstd.specs.Carried.{packets_on}
 use Rattle.mux_core.specs.Scheduled.{Scheduled}
-use Rattle.mux_core.specs.Histories.{owned_stream, table_of}
-use Rattle.mux_core.specs.Headline.{Headline}
+use Rattle.mux_core.specs.Histories.{Change, owned_stream, table_over}
+use Rattle.mux_core.specs.Headline.{HeadlineOver}
 use Rattle.mux_core.specs.Decoder.{Follow, pieces_on, put_together}
 
 -- a unit is due in a run of `slots` slots
@@ -119,17 +119,17 @@ pub record ProgramDecoded (d : Scheduled) (p : DescribedProgram) (slots : ℕ) (
   pub clocks : All (HasClock d.description.rate d.description.base0) (pid_list p.pcr_pid bytes)
   pub recur : Recur d.description.rate p.pcr_limit 0 (map (λ e. 188 * e.index + 10) (pid_list p.pcr_pid bytes)) (188 * slots)
 
--- a section begins in these slots, and they recur within the limit of its table
-pub record SectionComes (d : Scheduled) (t j slots : ℕ) (bytes : List ℕ) : Type 0 where
+-- a section begins in these slots, by the texts in force there, and they recur within the limit of its table
+pub record SectionComes (d : Scheduled) (changes : List Change) (t j slots : ℕ) (bytes : List ℕ) : Type 0 where
   pub starts : List ℕ
-  pub begins : All (λ s. Begins (table_of d t) j s bytes) starts
+  pub begins : All (λ s. Begins (table_over d changes t) j s bytes) starts
   pub recur : Recur d.description.rate (table_limit d.description t) 0 (map (λ s. 188 * s) starts) (188 * slots)
 
 -- the promises for table number t
-pub record TableDecoded (d : Scheduled) (t slots : ℕ) (bytes : List ℕ) : Type 0 where
+pub record TableDecoded (d : Scheduled) (changes : List Change) (t slots : ℕ) (bytes : List ℕ) : Type 0 where
   -- no counter breaks on its PID
   pub follow : Follow (pid_list (table_pid d.description t) bytes)
-  pub sections : (j : ℕ) → j < section_count d.description t → SectionComes d t j slots bytes
+  pub sections : (j : ℕ) → j < section_count d.description t → SectionComes d changes t j slots bytes
 
 -- the discontinuity_indicator of an adaptation field
 abbrev pub has_discontinuity : Option AdaptationView → Bool
@@ -142,8 +142,8 @@ pub record IsClear (d : Described) (packet : PacketView) : Type 0 where
   pub steady : has_discontinuity packet.adaptation ≡ false
   pub clock : has_pcr packet.adaptation ≡ true → (i : ℕ) × (slot_pid d (Pcr i) ≡ Some packet.header.pid)
 
--- the promises for the whole run
-pub record IsDecoded (d : Scheduled) (units : ℕ → List AccessUnit) (slots : ℕ) (bytes : List ℕ) : Type 0 where
+-- the promises for the whole run, over these changes of its texts
+pub record IsDecoded (d : Scheduled) (changes : List Change) (units : ℕ → List AccessUnit) (slots : ℕ) (bytes : List ℕ) : Type 0 where
   -- each slot is a readable packet, and no packet has the transport_error_indicator
   pub read : length (entries_of bytes) ≡ slots
   pub unmarked : All (λ e. e.packet.header.transport_error_indicator ≡ false) (entries_of bytes)
@@ -153,8 +153,8 @@ pub record IsDecoded (d : Scheduled) (units : ℕ → List AccessUnit) (slots : 
   pub nulls : All (λ e. e.packet ≡ null_view) (pid_list 8191 bytes)
   pub streams : (k : ℕ) (s : DescribedStream) → slice_get d.description.streams k ≡ Some s → StreamDecoded d k s (units k) slots bytes
   pub programs : (i : ℕ) (p : DescribedProgram) → slice_get d.description.programs i ≡ Some p → ProgramDecoded d p slots bytes
-  pub tables : (t : ℕ) → t < table_count d.description → TableDecoded d t slots bytes
+  pub tables : (t : ℕ) → t < table_count d.description → TableDecoded d changes t slots bytes
 
 abbrev pub DecodedLaw : Type 0
-DecodedLaw = (d : Scheduled) (units : ℕ → List AccessUnit) (slots : ℕ) (bytes : List ℕ) → IsInRange d.description → Headline d units slots bytes →
-    IsDecoded d units slots bytes
+DecodedLaw = (d : Scheduled) (changes : List Change) (units : ℕ → List AccessUnit) (slots : ℕ) (bytes : List ℕ) → IsInRange d.description →
+    HeadlineOver d changes units slots bytes → IsDecoded d changes units slots bytes

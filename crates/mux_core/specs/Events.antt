@@ -3,6 +3,7 @@ use Rattle.std.specs.Prelude.{◌≡◌, ◌^◌, ℕ, nat_lt, cond, List, [], �
 use Rattle.pes_packet.specs.AccessUnits.{AccessUnit}
 use Rattle.unit_queue.specs.declared.refusal.FeedError.{FeedError}
 use Rattle.mux_core.specs.Scheduled.{Scheduled}
+use Rattle.mux_core.specs.declared.room.Room.{Room}
 use Rattle.mux_core.specs.Histories.{History, bytes_of, empty_history, next_slot, with_unit}
 use Rattle.mux_core.specs.MuxStates.{MuxState, Represents, feed_cause}
 use Rattle.mux_core.specs.declared.driving.Event.{Event}
@@ -23,12 +24,12 @@ fed_history h k u None = with_unit h k u
 fed_history h k u (Some cause) = h
 
 -- a history after one event; after 2^40 slots no slot is added
-unfoldable pub step_history : Scheduled → ℕ → History → Step → History
+unfoldable pub step_history : Scheduled → Room → History → Step → History
 step_history d capacity h (FeedStep k u) = fed_history h k u (feed_cause d capacity h k u (slice_get d.description.streams k))
 step_history d capacity h SlotStep = cond (nat_lt h.slots (2 ^ 40)) (next_slot h) h
 
--- a history after events in their order, if `capacity` units of a stream may wait
-unfoldable pub history_after : Scheduled → ℕ → History → List Step → History
+-- a history after events in their order, if there is this room for units
+unfoldable pub history_after : Scheduled → Room → History → List Step → History
 history_after d capacity h [] = h
 history_after d capacity h (step ∷ rest) = history_after d capacity (step_history d capacity h step) rest
 
@@ -48,7 +49,7 @@ pub record StillRepresents (h : History) (old new : MuxState) : Type 0 where
 
 -- whatever events follow, the bytes written before them do not change
 abbrev pub WrittenStays : Type 0
-WrittenStays = (d : Scheduled) (capacity : ℕ) (h : History) (steps : List Step) →
+WrittenStays = (d : Scheduled) (capacity : Room) (h : History) (steps : List Step) →
     (added : List ℕ) × (bytes_of d (history_after d capacity h steps) ≡ bytes_of d h ++ added)
 
 -- the same units of each stream and the same number of slots give the same bytes, whatever the order of units and slots
@@ -57,6 +58,6 @@ pub record SameRun (first second : History) : Type 0 where
   pub slots : first.slots ≡ second.slots
 
 abbrev pub OrderIsFree : Type 0
-OrderIsFree = (d : Scheduled) (capacity other : ℕ) (first second : List Step) →
+OrderIsFree = (d : Scheduled) (capacity other : Room) (first second : List Step) →
     SameRun (history_after d capacity empty_history first) (history_after d other empty_history second) →
     bytes_of d (history_after d capacity empty_history first) ≡ bytes_of d (history_after d other empty_history second)

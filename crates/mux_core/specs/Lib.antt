@@ -1,3 +1,4 @@
+pub mod Rooms
 pub mod Scheduled
 pub mod TimingLaws
 pub mod Histories

@@ -11,7 +11,8 @@ use Rattle.tstd.specs.declared.fullness.SystemFullness.{SystemFullness}
 use Rattle.tstd.specs.declared.fullness.VideoFullness.{VideoFullness}
 use Rattle.unit_timing.specs.declared.multiplexing_buffer.MultiplexingBuffer.{MultiplexingBuffer}
 use Rattle.mux_core.specs.Scheduled.{Scheduled}
-use Rattle.mux_core.specs.Headline.{Headline}
+use Rattle.mux_core.specs.Histories.{Change}
+use Rattle.mux_core.specs.Headline.{HeadlineOver}
 
 -- no unit is late, and no buffer is ever fuller than its size; in a stream with a multiplexing buffer a unit is late if it is not whole in the elementary
 -- stream buffer by its stamp, and neither of these two buffers is fuller than its size
@@ -24,16 +25,18 @@ pub record FindsNoFault (d : Described) (found : Measured) : Type 0 where
   pub programs : (i : ℕ) (p : DescribedProgram) (f : SystemFullness) → slice_get d.programs i ≡ Some p → slice_get found.programs i ≡ Some f →
       (f.transport ≤ 512) × (f.system ≤ 1536)
 
--- the result of `measure` for bytes that keep their promises
+-- the result of `measure` for bytes that keep their promises, however their texts changed
 abbrev pub MeasuredLaw : Type 0
-MeasuredLaw = (d : Scheduled) (units : List (ℕ × AccessUnit)) (slots : ℕ) (bytes : List ℕ) (found : Measured) → Headline d (λ k. units_of k units) slots bytes →
+MeasuredLaw = (d : Scheduled) (changes : List Change) (units : List (ℕ × AccessUnit)) (slots : ℕ) (bytes : List ℕ) (found : Measured) →
+    HeadlineOver d changes (λ k. units_of k units) slots bytes →
     StreamsMeasured d.description units bytes found.streams → SystemsMeasured d.description bytes found.programs →
     found.late ≡ late_unit d.description units bytes →
     FindsNoFault d.description found
 
 -- the measurement is not refused if each unit names a stream and has from one byte to that stream's greatest size
 abbrev pub MeasurableLaw : Type 0
-MeasurableLaw = (d : Scheduled) (units : List (ℕ × AccessUnit)) (slots : ℕ) (bytes : List ℕ) → Headline d (λ k. units_of k units) slots bytes →
+MeasurableLaw = (d : Scheduled) (changes : List Change) (units : List (ℕ × AccessUnit)) (slots : ℕ) (bytes : List ℕ) →
+    HeadlineOver d changes (λ k. units_of k units) slots bytes →
     list_all (is_declared d.description) units ≡ true → cause d.description units bytes ≡ None
 
 -- `measure` of these bytes with these units is not refused, and finds no fault

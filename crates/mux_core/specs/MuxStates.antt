@@ -1,37 +1,40 @@
 -- The state of a multiplexer, and the history that it represents.
-use Rattle.std.specs.Prelude.{◌≡◌, ◌≤◌, ◌<◌, ◌^◌, ℕ, Bool, false, slice_index_or, List, Option, Some, None, slice_get, length, option_map, Result, Ok, Err, ⊤}
+use Rattle.std.specs.Prelude.{◌≡◌, ◌≤◌, ◌<◌, ◌^◌, ℕ, Bool, false, if◌then◌else◌, slice_index_or, List, Option, Some, None, slice_get, length, option_map, Result}
+use Rattle.std.specs.Prelude.{Ok, Err, ⊤}
 use Rattle.pes_packet.specs.AccessUnits.{AccessUnit}
 use Rattle.slot_contents.specs.Contents.{packet_of}
 use Rattle.description_parts.specs.Described.{Described, DescribedStream}
-use Rattle.description_parts.specs.Tables.{table_kinds}
+use Rattle.description_parts.specs.Tables.{table_kinds, stream_on_air}
 use Rattle.description_parts.specs.declared.table_kind.TableKind.{TableKind}
 use Rattle.unit_queue.specs.declared.refusal.FeedError.{FeedError}
-use Rattle.unit_queue.specs.declared.refusal.FeedError.TheVariants.{UnknownStream}
+use Rattle.unit_queue.specs.declared.refusal.FeedError.TheVariants.{UnknownStream, OffAir}
 use Rattle.unit_queue.specs.Places.{left_before}
 use Rattle.unit_queue.specs.Causes.{unit_cause}
 use Rattle.unit_queue.specs.Queues.{Queue, QueueHolds}
 use Rattle.table_rounds.specs.Carousels.{Carousel, CarouselHolds}
 use Rattle.description.specs.SubTables.{sub_table_count}
 use Rattle.changed_texts.specs.declared.fault.TextFault.{TextFault}
+use Rattle.mux_core.specs.Rooms.{room_in}
 use Rattle.mux_core.specs.Scheduled.{Scheduled}
 use Rattle.mux_core.specs.Histories.{History, last_texts, owned_stream, table_over, content_over, bytes_of, next_slot, with_unit, with_change}
-use Rattle.mux_core.specs.TextChanges.{ChangesFit, text_cause, since_of, began_since, next_change}
+use Rattle.mux_core.specs.TextChanges.{ChangesFit, AreMade, text_cause, since_of, began_since, next_change}
 use Rattle.mux_core.specs.declared.done.Done.{Done}
+use Rattle.mux_core.specs.declared.room.Room.{Room}
 
 -- the schedule, the texts in force, for each sub-table whether a section of it was sent since its last change, a queue for each stream, the carousel of each
--- table, the capacity of a queue in units, and the number of slots written
+-- table, the room for the units of each stream, and the number of slots written
 pub record MuxState : Type 0 where
   pub schedule : Scheduled
   pub texts : Described
   pub sent : List Bool
   pub queues : List Queue
   pub carousels : List Carousel
-  pub capacity : ℕ
+  pub capacity : Room
   pub slots : ℕ
 
 -- the queue of a stream represents the stream's units
-abbrev pub QueueRepresents : Scheduled → History → ℕ → ℕ → Option Queue → Option DescribedStream → Type 0
-QueueRepresents d h capacity k (Some q) (Some s) = QueueHolds (owned_stream d k s) h.slots capacity (h.units k) q
+abbrev pub QueueRepresents : Scheduled → History → Room → ℕ → Option Queue → Option DescribedStream → Type 0
+QueueRepresents d h capacity k (Some q) (Some s) = QueueHolds (owned_stream d k s) h.slots (room_in capacity s) (h.units k) q
 QueueRepresents d h capacity k (Some q) None = ⊥
 QueueRepresents d h capacity k None (Some s) = ⊥
 QueueRepresents d h capacity k None None = ⊤
@@ -47,6 +50,7 @@ CarouselRepresents d h t None None = ⊤
 pub record Represents (h : History) (m : MuxState) : Type 0 where
   pub written : m.slots ≡ h.slots
   pub changes : ChangesFit m.schedule.description h.slots h.changes
+  pub made : AreMade m.schedule h.changes
   pub texts : m.texts ≡ last_texts m.schedule.description h.changes
   pub sent_size : length m.sent ≡ sub_table_count
   pub sent : (x : ℕ) → x < sub_table_count →
@@ -61,10 +65,15 @@ Gives h old (Ok packet) new =
     (new.capacity ≡ old.capacity)
 Gives h old (Err e) new = (2 ^ 40 ≤ h.slots) × (new ≡ old)
 
--- why a unit of a stream is refused: the stream is unknown, or a cause applies to the unit
-unfoldable pub feed_cause : Scheduled → ℕ → History → ℕ → AccessUnit → Option DescribedStream → Option FeedError
+-- a cause of a unit, if a program on air has its stream; otherwise that none has it
+abbrev pub if_on_air : Bool → Option FeedError → Option FeedError
+if_on_air on_air cause = if on_air then cause else Some OffAir
+
+-- why a unit of a stream is refused: the stream is unknown, no program that the texts in force have on air has it, or a cause applies to the unit
+unfoldable pub feed_cause : Scheduled → Room → History → ℕ → AccessUnit → Option DescribedStream → Option FeedError
 feed_cause d capacity h k u None = Some UnknownStream
-feed_cause d capacity h k u (Some s) = unit_cause (owned_stream d k s) h.slots capacity (h.units k) u
+feed_cause d capacity h k u (Some s) =
+    if_on_air (stream_on_air (last_texts d.description h.changes) k) (unit_cause (owned_stream d k s) h.slots (room_in capacity s) (h.units k) u)
 
 abbrev pub refusal_of : MuxState → History → ℕ → AccessUnit → Option FeedError
 refusal_of m h k u = feed_cause m.schedule m.capacity h k u (slice_get m.schedule.description.streams k)

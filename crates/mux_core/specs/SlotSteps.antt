@@ -19,7 +19,7 @@ use Rattle.unit_queue.specs.QueueSteps.{queue_content, sent_in, state_cause, acc
 use Rattle.table_rounds.specs.Carousels.{Carousel, next_section, carousel_content, carousel_after}
 use Rattle.mux_core.specs.Histories.{pcr_content}
 use Rattle.mux_core.specs.TextChanges.{sub_table_there, events_table}
-use Rattle.mux_core.specs.MuxStates.{MuxState}
+use Rattle.mux_core.specs.MuxStates.{MuxState, if_on_air}
 
 -- what a queue puts into its slot, and the queues after it
 unfoldable pub queue_sends : ℕ → Option Queue → Content
@@ -90,10 +90,10 @@ after m Null = later m m.sent m.queues m.carousels
 
 -- ---- a unit fed
 
--- why the queue refuses a unit
-unfoldable pub queue_cause : ℕ → AccessUnit → Option Queue → Option FeedError
-queue_cause slots u None = Some UnknownStream
-queue_cause slots u (Some q) = state_cause slots q u
+-- why a unit is refused, if a program on air has its stream or if none has it: by the queue of the stream
+unfoldable pub queue_cause : Bool → ℕ → AccessUnit → Option Queue → Option FeedError
+queue_cause on_air slots u None = Some UnknownStream
+queue_cause on_air slots u (Some q) = if_on_air on_air (state_cause slots q u)
 
 unfoldable pub queues_with : List Queue → ℕ → AccessUnit → Option Queue → List Queue
 queues_with queues k u None = queues

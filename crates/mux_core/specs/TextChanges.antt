@@ -90,3 +90,18 @@ next_change d h texts = record {
   texts = next_texts (last_texts d.description h.changes) texts (events_moment d h.slots) (sent_of d h);
   since = λ x. cond (changed (last_texts d.description h.changes) texts (events_moment d h.slots) x) h.slots (since_of h.changes x);
 }
+
+-- the history of changes alone, up to a slot
+abbrev pub changed_history : List Change → ℕ → History
+changed_history changes slots = record { units = λ k. []; changes = changes; slots = slots }
+
+-- a change is the next one to some texts, which may follow the texts before it
+pub record IsMade (d : Scheduled) (change : Change) (earlier : List Change) : Type 0 where
+  pub texts : Described
+  pub ranges : IsInRange texts
+  pub accepted : text_cause d (changed_history earlier change.from) texts ≡ None
+  pub is : change ≡ next_change d (changed_history earlier change.from) texts
+
+abbrev pub AreMade : Scheduled → List Change → Type 0
+AreMade d [] = ⊤
+AreMade d (change ∷ earlier) = IsMade d change earlier × AreMade d earlier

@@ -16,6 +16,8 @@ use Rattle.mux_core.specs.MuxStates.{MuxState, Represents, feed_cause}
 use Rattle.mux_core.specs.NewMux.{is_periods}
 use Rattle.mux_core.specs.Buffer.{byte_count, Took}
 use Rattle.mux_core.specs.Formats.{formatted}
+use Rattle.mux_core.specs.declared.room.Room.{Room}
+use Rattle.mux_core.specs.declared.room.Room.TheVariants.{Units}
 use Rattle.mux_core.specs.declared.multiplexing.MuxError.{MuxError}
 use Rattle.mux_core.specs.declared.multiplexing.MuxError.TheVariants.{TooManySlots, Periods, Feed, Device, Memory}
 
@@ -36,9 +38,9 @@ unfoldable pub max_stream_units : List (ℕ × AccessUnit) → ℕ
 max_stream_units [] = 0
 max_stream_units (entry ∷ rest) = max (1 + length (units_of entry.0 rest)) (max_stream_units rest)
 
--- the number of units of a stream that may wait: this maximum, at least 1 and at most 1,048,576
-abbrev pub capacity_for : List (ℕ × AccessUnit) → ℕ
-capacity_for units = min (max 1 (max_stream_units units)) 1048576
+-- the room for the units of a stream: this maximum, at least 1 and at most 1,048,576
+abbrev pub capacity_for : List (ℕ × AccessUnit) → Room
+capacity_for units = Units (min (max 1 (max_stream_units units)) 1048576)
 
 -- the history with all these units accepted and `slots` slots written
 abbrev pub job_history : List (ℕ × AccessUnit) → ℕ → History
@@ -69,11 +71,11 @@ abbrev pub switch_slots_cause : Followed → ℕ → ℕ → Option MuxError
 switch_slots_cause switch periods slots = or_cause (slots_cause slots) (periods_cause (length switch.first.plan.slots) periods)
 
 -- why a unit is refused after these were accepted, before the first slot
-abbrev pub cause_after : Scheduled → ℕ → List (ℕ × AccessUnit) → ℕ × AccessUnit → Option FeedError
+abbrev pub cause_after : Scheduled → Room → List (ℕ × AccessUnit) → ℕ × AccessUnit → Option FeedError
 cause_after d capacity fed entry = feed_cause d capacity (job_history fed 0) entry.0 entry.1 (slice_get d.description.streams entry.0)
 
 -- the first refused unit and its cause, after the units of `fed` were accepted
-unfoldable pub first_refused : Scheduled → ℕ → List (ℕ × AccessUnit) → List (ℕ × AccessUnit) → Option MuxError
+unfoldable pub first_refused : Scheduled → Room → List (ℕ × AccessUnit) → List (ℕ × AccessUnit) → Option MuxError
 first_refused d capacity fed [] = None
 first_refused d capacity fed (entry ∷ rest) =
     or_cause (unit_refused (length fed) (cause_after d capacity fed entry)) (first_refused d capacity (fed ++ (entry ∷ [])) rest)
@@ -94,7 +96,7 @@ job_cause early d units = or_cause early (first_refused d (capacity_for units) [
 
 -- the room of a job is enough: the same units are refused as if 1,048,576 units of each stream might wait
 abbrev pub RoomForAll : Type 0
-RoomForAll = (d : Scheduled) (units : List (ℕ × AccessUnit)) → first_refused d (capacity_for units) [] units ≡ first_refused d 1048576 [] units
+RoomForAll = (d : Scheduled) (units : List (ℕ × AccessUnit)) → first_refused d (capacity_for units) [] units ≡ first_refused d (Units 1048576) [] units
 
 -- the answer, if `early` is the cause in the numbers of the job and `cause` the cause of the whole job: the cause, if any; out of memory only if the numbers
 -- are right

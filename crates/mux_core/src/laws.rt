@@ -6,7 +6,7 @@ ghost use Rattle.mux_core.specs.MeasuredRuns.{MeasuredLaw, MeasurableLaw};
 ghost use Rattle.mux_core.specs.Decoder.{PutLaw};
 ghost use Rattle.mux_core.specs.DecodedRuns.{DecodedLaw};
 ghost use Rattle.mux_core.specs.Events.{WrittenStays, OrderIsFree};
-ghost use Rattle.mux_core.specs.TextLaws.{OthersUntouchedLaw, SameTableLaw, WholeSectionsLaw};
+ghost use Rattle.mux_core.specs.TextLaws.{OthersUntouchedLaw, SameTableLaw, WholeSectionsLaw, VersionLaw};
 ghost use Rattle.mux_core.specs.WholeJobs.{RoomForAll};
 ghost use Rattle.mux_core.specs.TimingLaws.{UnitsArrive, TransportFits, MainFits, SystemFits, PcrsRecur, SectionsRecur};
 ghost use Rattle.mux_core.specs.TimingLaws.{OfPlan, OfSwitch};
@@ -136,9 +136,11 @@ pub fn room_for_all()
 {}
 
 /// States that texts that change leave each packet of a stream and each clock reference as it is, and each table whose
-/// sections stay; and that each section of the texts in force has places for all its parts.
+/// sections stay; that each section of the texts in force has places for all its parts; and that two sections of one
+/// number that show one version are the same bytes.
 pub fn texts()
     ensures others { OthersUntouchedLaw }
     ensures same { SameTableLaw }
     ensures whole { WholeSectionsLaw }
+    ensures versions { VersionLaw }
 {}

@@ -14,8 +14,8 @@
 //! `specs/Formats` says how a packet leaves, and `specs/Buffer` how much of an output the writer has and how much
 //! waits, or what it took before it failed.
 //!
-//! The modules in reading order: the plans that fill slots, where a run ends, how a multiplexer is made,
-//! its calls, the packet of a slot of each kind, a whole job, events in any order; the laws. Records of units
+//! The modules in reading order: the plans that fill slots, where a run ends, the room for units, how a multiplexer
+//! is made, its calls, the packet of a slot of each kind, a whole job, events in any order; the laws. Records of units
 //! are a crate of their own, whose call is exported here too.
 #![tactic(auto)]
 
@@ -32,6 +32,7 @@ mod multiplexing;
 mod output;
 mod pid_packets;
 mod refusals;
+mod room;
 mod slot_packets;
 mod texts_in_force;
 
@@ -42,5 +43,6 @@ pub use multiplexer::Mux;
 pub use multiplexing::{MuxError, multiplex, multiplex_as, multiplex_switch, multiplex_switch_as};
 pub use output::{OutputFault, PacketOutput};
 pub use pes_packet::{Marks, PesFlags, Unit};
+pub use room::Room;
 pub use unit_queue::FeedError;
 pub use unit_records::{UnitFileError, read_unit};

@@ -7,12 +7,14 @@ ghost use Rattle.slot_plan.specs.Promised.{Promised};
 ghost use Rattle.slot_plan.specs.Schedule.{single, switched};
 ghost use Rattle.mux_core.specs.Histories.{parameters_of, empty_history};
 ghost use Rattle.mux_core.specs.MuxStates.{Represents};
-ghost use Rattle.mux_core.specs.NewMux.{is_capacity, is_periods, plan_cause, switch_cause, new_refusal, Judges};
+ghost use Rattle.mux_core.specs.NewMux.{is_periods, plan_cause, switch_cause, new_refusal, Judges};
 ghost use Rattle.mux_core.specs.NewMux.{first_queue, first_carousel, first_carousels};
+ghost use Rattle.mux_core.specs.declared.room.Room.TheVariants.{Units};
 
 use crate::checked_schedule::CheckedSchedule;
 use crate::done::NewError;
 use crate::multiplexer::{MAX_SLOTS, Mux};
+use crate::room::Room;
 use crate::texts_in_force::TextsInForce;
 use plan_checker::CheckedPlan;
 use slot_plan::{Description, StreamDescription};
@@ -20,9 +22,6 @@ use std::alloc::{AllocError, Allocator};
 use switch_checker::CheckedSwitch;
 use table_rounds::TableCarousel;
 use unit_queue::{StreamParameters, UnitQueue};
-
-/// The maximum number of units of a stream that may wait.
-pub(crate) const MAX_CAPACITY: usize = 1_048_576;
 
 impl<A: Allocator + Clone> Mux<A> {
     /// Returns a multiplexer over a plan that lets each stream have `capacity` units that are not sent whole, 1 to
@@ -32,25 +31,44 @@ impl<A: Allocator + Clone> Mux<A> {
         plan: CheckedPlan<A>,
         capacity: usize,
     ) -> Result<Mux<A>, (NewError, CheckedPlan<A>)>
-        ensures refused { Judges (plan_cause capacity) (new_refusal result) }
+        ensures refused { Judges (plan_cause (Units capacity)) (new_refusal result) }
         ensures represents { IfOk result (Represents empty_history) }
         ensures schedule { IfOk result (λ m. m.schedule ≡ record {
           description = plan.description;
           schedule = single plan.plan.slots;
         }) }
-        ensures capacity { IfOk result (λ m. m.capacity ≡ capacity) }
+        ensures capacity { IfOk result (λ m. m.capacity ≡ Units capacity) }
         ensures handed_back { IfErr result (λ e. e.1 ≡ plan) }
     {
-        if !is_capacity(capacity) {
+        Mux::with_room(alloc, plan, Room::Units(capacity))
+    }
+
+    /// Returns a multiplexer over a plan with this room for the units of each stream. If none can be made, the plan is
+    /// handed back.
+    pub fn with_room(
+        alloc: A,
+        plan: CheckedPlan<A>,
+        room: Room,
+    ) -> Result<Mux<A>, (NewError, CheckedPlan<A>)>
+        ensures refused { Judges (plan_cause room) (new_refusal result) }
+        ensures represents { IfOk result (Represents empty_history) }
+        ensures schedule { IfOk result (λ m. m.schedule ≡ record {
+          description = plan.description;
+          schedule = single plan.plan.slots;
+        }) }
+        ensures capacity { IfOk result (λ m. m.capacity ≡ room) }
+        ensures handed_back { IfErr result (λ e. e.1 ≡ plan) }
+    {
+        if !room.is_room() {
             return Err((NewError::Capacity, plan));
         }
-        let Ok(queues) = first_queues(&alloc, plan.description(), capacity) else {
+        let Ok(queues) = first_queues(&alloc, plan.description(), room) else {
             return Err((NewError::Memory, plan));
         };
         let Ok(carousels) = first_carousels(&alloc, plan.description()) else {
             return Err((NewError::Memory, plan));
         };
-        Ok(begun(CheckedSchedule::single(plan), queues, carousels, capacity))
+        Ok(begun(CheckedSchedule::single(plan), queues, carousels, room))
     }
 
     /// Returns a multiplexer over two plans, the first for `periods` of its periods: at least 1, and at most 2^40
@@ -61,30 +79,51 @@ impl<A: Allocator + Clone> Mux<A> {
         periods: u64,
         capacity: usize,
     ) -> Result<Mux<A>, (NewError, CheckedSwitch<A>)>
-        ensures refused { Judges (switch_cause (length switch.first.plan.slots) periods capacity) (new_refusal result) }
+        ensures refused { Judges (switch_cause (length switch.first.plan.slots) periods (Units capacity))
+            (new_refusal result) }
         ensures represents { IfOk result (Represents empty_history) }
         ensures schedule { IfOk result (λ m. m.schedule
             ≡ record {
               description = switch.first.description;
               schedule = switched switch.first.plan.slots periods switch.second.slots;
             }) }
-        ensures capacity { IfOk result (λ m. m.capacity ≡ capacity) }
+        ensures capacity { IfOk result (λ m. m.capacity ≡ Units capacity) }
         ensures handed_back { IfErr result (λ e. e.1 ≡ switch) }
     {
-        if !is_capacity(capacity) {
+        Mux::with_switch_and_room(alloc, switch, periods, Room::Units(capacity))
+    }
+
+    /// Returns the same with this room for the units of each stream.
+    pub fn with_switch_and_room(
+        alloc: A,
+        switch: CheckedSwitch<A>,
+        periods: u64,
+        room: Room,
+    ) -> Result<Mux<A>, (NewError, CheckedSwitch<A>)>
+        ensures refused { Judges (switch_cause (length switch.first.plan.slots) periods room) (new_refusal result) }
+        ensures represents { IfOk result (Represents empty_history) }
+        ensures schedule { IfOk result (λ m. m.schedule
+            ≡ record {
+              description = switch.first.description;
+              schedule = switched switch.first.plan.slots periods switch.second.slots;
+            }) }
+        ensures capacity { IfOk result (λ m. m.capacity ≡ room) }
+        ensures handed_back { IfErr result (λ e. e.1 ≡ switch) }
+    {
+        if !room.is_room() {
             return Err((NewError::Capacity, switch));
         }
         if !is_periods(switch.first().plan().slots().len(), periods) {
             return Err((NewError::Periods, switch));
         }
-        let Ok(queues) = first_queues(&alloc, switch.first().description(), capacity) else {
+        let Ok(queues) = first_queues(&alloc, switch.first().description(), room) else {
             return Err((NewError::Memory, switch));
         };
         let Ok(carousels) = first_carousels(&alloc, switch.first().description()) else {
             return Err((NewError::Memory, switch));
         };
         let schedule = CheckedSchedule::switched(switch, periods);
-        Ok(begun(schedule, queues, carousels, capacity))
+        Ok(begun(schedule, queues, carousels, room))
     }
 }
 
@@ -93,7 +132,7 @@ fn begun<A: Allocator>(
     schedule: CheckedSchedule<A>,
     queues: Vec<UnitQueue<A>, A>,
     carousels: Vec<TableCarousel, A>,
-    capacity: usize,
+    capacity: Room,
 ) -> Mux<A>
     requires ranges { IsInRange schedule.description }
     requires promised { Promised schedule.description schedule.schedule }
@@ -114,12 +153,6 @@ fn begun<A: Allocator>(
         capacity,
         slots: 0,
     }
-}
-
-fn is_capacity(capacity: usize) -> bool
-    ensures { result ≡ is_capacity capacity }
-{
-    1 <= capacity && capacity <= MAX_CAPACITY
 }
 
 // Returns whether the first plan, of this period, may run for this number of periods.
@@ -150,7 +183,7 @@ fn parameters_of(description: &Description, stream: &StreamDescription) -> Strea
 fn first_queues<A: Allocator + Clone>(
     alloc: &A,
     description: &Description,
-    capacity: usize,
+    capacity: Room,
 ) -> Result<Vec<UnitQueue<A>, A>, AllocError>
     ensures { IfOk result (λ queues. queues.items
         ≡ map (first_queue description.now capacity) description.now.streams) }
@@ -159,7 +192,8 @@ fn first_queues<A: Allocator + Clone>(
     let mut queues = Vec::new(alloc.clone()?);
     for stream in description.streams() {
         let parameters = parameters_of(description, stream);
-        queues.push(UnitQueue::new(alloc.clone()?, parameters, capacity)?)?;
+        let units = capacity.units_of(stream);
+        queues.push(UnitQueue::new(alloc.clone()?, parameters, units)?)?;
     }
     Ok(queues)
 }

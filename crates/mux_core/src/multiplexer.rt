@@ -4,12 +4,13 @@ ghost use Rattle.std.specs.Prelude.{◌≡◌, ◌<◌, ◌^◌, ℕ, false, sli
 ghost use Rattle.slot_contents.specs.Contents.{packet_of};
 ghost use Rattle.slot_plan.specs.Schedule.{slot_of};
 ghost use Rattle.unit_queue.specs.Causes.{refusal};
+ghost use Rattle.unit_queue.specs.QueueSteps.{accepted, state_cause};
 ghost use Rattle.mux_core.specs.Histories.{History, bytes_of, next_slot};
 ghost use Rattle.description.specs.SubTables.{sub_table_count};
 ghost use Rattle.changed_texts.specs.TextFaults.{text_fault};
 ghost use Rattle.changed_texts.specs.Versions.{changed, next_texts};
 ghost use Rattle.mux_core.specs.TextChanges.{text_cause, events_table};
-ghost use Rattle.mux_core.specs.MuxStates.{Represents, Gives, Takes, Changes, text_refusal, waiting_of};
+ghost use Rattle.mux_core.specs.MuxStates.{Represents, Gives, Takes, Changes, if_on_air, text_refusal, waiting_of};
 ghost use Rattle.mux_core.specs.Headline.{HeadlineOver};
 ghost use Rattle.mux_core.specs.SlotSteps.{sends, after, queue_cause, queues_with, with_texts, moment_of_events};
 ghost use Rattle.description_parts.specs.Ranges.{IsInRange};
@@ -17,6 +18,7 @@ ghost use Rattle.slot_plan.specs.Promised.{Promised};
 
 use crate::checked_schedule::CheckedSchedule;
 use crate::done::Done;
+use crate::room::Room;
 use crate::slot_packets::{write_null, write_program_pcr, write_stream, write_table};
 use crate::texts_in_force::TextsInForce;
 use changed_texts::{TextFault, changed, next_texts, text_fault};
@@ -38,7 +40,7 @@ pub struct Mux<A: Allocator = Global> {
     pub(crate) texts: TextsInForce,
     pub(crate) queues: Vec<UnitQueue<A>, A>,
     pub(crate) carousels: Vec<TableCarousel, A>,
-    pub(crate) capacity: usize,
+    pub(crate) capacity: Room,
     pub(crate) slots: u64,
 }
 
@@ -63,15 +65,33 @@ impl<A: Allocator> Model for Mux<A> {
     ghost invariant = { λ m. IsInRange m.schedule.description × Promised m.schedule.description m.schedule.schedule };
 }
 
+// Gives a unit to the queue of its stream, if a program on air has the stream.
+fn feed_queue<A: Allocator>(
+    queue: &mut UnitQueue<A>,
+    on_air: bool,
+    slots: u64,
+    unit: Unit<A>,
+) -> Result<(), (FeedError, Unit<A>)>
+    ensures cause { refusal result ≡ if_on_air on_air (state_cause slots queue.old unit) }
+    ensures state { OnOk result (queue.new ≡ accepted queue.old unit) }
+    ensures handed_back { IfErr result (λ e. (e.1 ≡ unit) × (queue.new ≡ queue.old)) }
+{
+    if !on_air {
+        return Err((FeedError::OffAir, unit));
+    }
+    queue.feed(slots, unit)
+}
+
 // Gives a unit to the queue of its stream.
 #[tactic(auto, unfolding(crate::specs::SlotSteps::queue_cause, crate::specs::SlotSteps::queues_with))]
 fn feed_stream<A: Allocator>(
     queues: &mut Vec<UnitQueue<A>, A>,
+    on_air: bool,
     stream: u8,
     slots: u64,
     unit: Unit<A>,
 ) -> Result<(), (FeedError, Unit<A>)>
-    ensures cause { refusal result ≡ queue_cause slots unit (slice_get queues.old.items stream) }
+    ensures cause { refusal result ≡ queue_cause on_air slots unit (slice_get queues.old.items stream) }
     ensures state { OnOk result (queues.new.items ≡ queues_with queues.old.items stream unit
         (slice_get queues.old.items stream)) }
     ensures handed_back { IfErr result (λ e. (e.1 ≡ unit) × (queues.new.items ≡ queues.old.items)) }
@@ -79,7 +99,7 @@ fn feed_stream<A: Allocator>(
     let Some(queue) = queues.get_mut(stream as usize) else {
         return Err((FeedError::UnknownStream, unit));
     };
-    queue.feed(slots, unit)
+    feed_queue(queue, on_air, slots, unit)
 }
 
 // Returns the number of the EIT, if there is one: after PAT, PMTs, NIT and SDT.
@@ -154,7 +174,10 @@ impl<A: Allocator> Mux<A> {
         ensures takes { (h : History) → Represents h self.old → Takes h self.old stream unit (refusal result) self.new }
         ensures handed_back { IfErr result (λ e. (e.1 ≡ unit) × (self.new ≡ self.old)) }
     {
-        feed_stream(&mut self.queues, stream, self.slots, unit)
+        let on_air = self
+            .texts
+            .stream_on_air(self.schedule.description(), stream);
+        feed_stream(&mut self.queues, on_air, stream, self.slots, unit)
     }
 
     /// Returns the texts in force: the description, or what took its place.

@@ -13,8 +13,9 @@ ghost use Rattle.mux_core.specs.WholeJobs.{switch_slots_cause, job_cause, capaci
 ghost use Rattle.mux_core.specs.WholeJobs.{run_output, output_of, slot_size, FeedsAll, WritesAll, Refuses, Writes};
 ghost use Rattle.mux_core.specs.WholeJobs.{OnWriting, NamesWriter};
 
-use crate::making::{MAX_CAPACITY, is_periods};
+use crate::making::is_periods;
 use crate::multiplexer::{MAX_SLOTS, Mux};
+use crate::room::{MAX_CAPACITY, Room};
 use crate::{OutputFault, PacketOutput};
 use counted_io::Sink;
 use pes_packet::Unit;
@@ -93,7 +94,7 @@ pub fn multiplex_as<A: Allocator + Copy, W: Sink>(
         drop(plan);
         return Err(MuxError::TooManySlots);
     }
-    let Ok(mut mux) = Mux::new(alloc, plan, capacity_for(&units)) else {
+    let Ok(mut mux) = Mux::with_room(alloc, plan, capacity_for(&units)) else {
         return Err(MuxError::Memory);
     };
     let written = write_job(alloc, &mut mux, units, slots, hex, to);
@@ -155,7 +156,7 @@ pub fn multiplex_switch_as<A: Allocator + Copy, W: Sink>(
         drop(switch);
         return Err(MuxError::Periods);
     }
-    let Ok(mut mux) = Mux::with_switch(alloc, switch, periods, capacity_for(&units)) else {
+    let Ok(mut mux) = Mux::with_switch_and_room(alloc, switch, periods, capacity_for(&units)) else {
         return Err(MuxError::Memory);
     };
     let written = write_job(alloc, &mut mux, units, slots, hex, to);
@@ -163,11 +164,11 @@ pub fn multiplex_switch_as<A: Allocator + Copy, W: Sink>(
     written
 }
 
-// Returns the number of units of a stream that may wait.
-fn capacity_for<A: Allocator>(units: &[(u8, Unit<A>)]) -> usize
+// Returns the room for the units of a stream.
+fn capacity_for<A: Allocator>(units: &[(u8, Unit<A>)]) -> Room
     ensures { result ≡ capacity_for units.now }
 {
-    max_stream_units(units).max(1).min(MAX_CAPACITY)
+    Room::Units(max_stream_units(units).max(1).min(MAX_CAPACITY))
 }
 
 // Returns the maximum number of units of one stream.

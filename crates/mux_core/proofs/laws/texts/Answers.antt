@@ -1,6 +1,7 @@
 use Rattle.mux_core.proofs.TakenTexts.{texts_taken, cause_is}
 use Rattle.mux_core.proofs.MuxStates.{gives}
 use Rattle.mux_core.proofs.FirstStates.{begins}
+use Rattle.mux_core.proofs.SentVersions.{version_law}
 use Rattle.mux_core.proofs.TextLaws.{others_untouched, same_table, whole_sections}
 use Rattle.mux_core.proofs.laws.texts.Goals as goal
 
@@ -12,3 +13,6 @@ returns-clause-same c = same_table
 
 pub returns-clause-whole : goal.returns-clause-whole
 returns-clause-whole c = whole_sections
+
+pub returns-clause-versions : goal.returns-clause-versions
+returns-clause-versions c = version_law

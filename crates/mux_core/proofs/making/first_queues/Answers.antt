@@ -11,6 +11,6 @@ new-requires g c =
 pub loop-stream-preserved : goal.loop-stream-preserved
 loop-stream-preserved g c =
     let at = rw c.streams-stream-items.ensures.value at c.stream-item.is in
-    rw (c.in_ok-push.ensures.items, c.in_ok-new.ensures.state, c.parameters_of-parameters.ensures)
+    rw (c.in_ok-push.ensures.items, c.in_ok-new.ensures.state, c.units_of-units.ensures, c.parameters_of-parameters.ensures)
     (next_queue c.args.description.now c.args.capacity c.loop-stream.stream-index c.loop-stream.queues.items c.stream-item.result at
     (rw c.streams-stream-items.ensures.value at c.loop-stream-test.true) c.loop-stream.invariant)

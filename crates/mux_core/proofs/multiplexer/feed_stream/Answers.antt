@@ -16,5 +16,5 @@ handed_back {Q = Q} (Err e) u qs i q new h back = (back.0, ap (λ (x : Q). set q
 
 pub returns-clause-handed_back : goal.returns-clause-handed_back
 returns-clause-handed_back g c =
-    handed_back c.feed.result c.args.unit c.args.queues.now.items c.args.stream c.in-Some.queue.now c.feed.new.self
-    c.in-Some.ensures.value c.feed.ensures.handed_back
+    handed_back c.feed_queue.result c.args.unit c.args.queues.now.items c.args.stream c.in-Some.queue.now c.feed_queue.new.queue
+    c.in-Some.ensures.value c.feed_queue.ensures.handed_back
