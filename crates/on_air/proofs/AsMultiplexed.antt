@@ -9,17 +9,21 @@ use Rattle.clock27.specs.Release.{release}
 use Rattle.pes_packet.specs.AccessUnits.{AccessUnit}
 use Rattle.pes_packet.specs.Units.{units_of}
 use Rattle.description_parts.specs.Described.{DescribedStream}
+use Rattle.description_parts.specs.Tables.{stream_on_air}
 use Rattle.unit_queue.specs.Causes.{unit_cause}
 use Rattle.unit_queue.specs.declared.refusal.FeedError.{FeedError}
 use Rattle.unit_queue.proofs.CauseLemmas.{own_facts, or_none}
 use Rattle.unit_records.specs.Records.{record_at}
 use Rattle.unit_records.specs.declared.reading.UnitFileError.{UnitFileError}
+use Rattle.mux_core.specs.declared.room.Room.{Room}
+use Rattle.mux_core.specs.Rooms.{room_in}
 use Rattle.mux_core.specs.RecordRuns.{after_records}
 use Rattle.mux_core.specs.Scheduled.{Scheduled}
 use Rattle.mux_core.specs.Histories.{Change, owned_stream}
 use Rattle.mux_core.specs.MuxStates.{feed_cause}
 use Rattle.mux_core.specs.WholeJobs.{job_history, output_of, or_cause, unit_refused, cause_after, first_refused}
 use Rattle.mux_core.specs.declared.multiplexing.MuxError.{MuxError}
+use Rattle.mux_core.proofs.FedUnits.{accepted_on_air}
 use Rattle.on_air.specs.declared.refusals.AirRefusal.{AirRefusal}
 use Rattle.on_air.specs.Airing.{Run, Air, silence, lead_of, settled_at, limit_of, last_by, last_at, on_to, is_tick, air_cause, accepted_by, caught_up}
 use Rattle.on_air.specs.Airing.{brings_texts, changed, history_by, judged_by, slots_followed, taken, with_record, heard, ended}
@@ -54,7 +58,7 @@ pub both_none : (cause : Option FeedError) (index : ℕ) (next : Option MuxError
 unfolding or_cause unit_refused
 both_none cause index next none last = rw (none, last) refl
 
-pub last_taken : (d : Scheduled) (other : ℕ) (fed units : List (ℕ × AccessUnit)) (entry : ℕ × AccessUnit) →
+pub last_taken : (d : Scheduled) (other : Room) (fed units : List (ℕ × AccessUnit)) (entry : ℕ × AccessUnit) →
     first_refused d other fed (units ++ (entry ∷ [])) ≡ None →
     (first_refused d other fed units ≡ None) × (cause_after d other (fed ++ units) entry ≡ None)
 unfolding first_refused
@@ -68,7 +72,7 @@ last_taken d other fed (first ∷ units) entry none =
       ap (λ (l : List (ℕ × AccessUnit)). cause_after d other l entry) (sym (append_assoc fed (first ∷ []) units)) ∙ rest.1,
     )
 
-pub first_taken : (d : Scheduled) (other : ℕ) (fed units more : List (ℕ × AccessUnit)) → first_refused d other fed (units ++ more) ≡ None →
+pub first_taken : (d : Scheduled) (other : Room) (fed units more : List (ℕ × AccessUnit)) → first_refused d other fed (units ++ more) ≡ None →
     first_refused d other fed units ≡ None
 unfolding first_refused
 first_taken d other fed [] more none = refl
@@ -78,16 +82,19 @@ first_taken d other fed (entry ∷ units) more none =
     (first_taken d other (fed ++ (entry ∷ [])) units more one.1)
 
 -- The stream of an accepted unit
-pub record StreamOf (d : Scheduled) (other : ℕ) (units : List (ℕ × AccessUnit)) (entry : ℕ × AccessUnit) (o : Option DescribedStream) : Type 0 where
+pub record StreamOf (d : Scheduled) (other : Room) (units : List (ℕ × AccessUnit)) (entry : ℕ × AccessUnit) (o : Option DescribedStream) : Type 0 where
   pub stream : DescribedStream
   pub is : o ≡ Some stream
-  pub cause : unit_cause (owned_stream d entry.0 stream) 0 other (units_of entry.0 units) entry.1 ≡ None
+  pub on_air : stream_on_air d.description entry.0 ≡ true
+  pub cause : unit_cause (owned_stream d entry.0 stream) 0 (room_in other stream) (units_of entry.0 units) entry.1 ≡ None
 
-pub stream_of : (d : Scheduled) (other : ℕ) (units : List (ℕ × AccessUnit)) (entry : ℕ × AccessUnit) (o : Option DescribedStream) →
+pub stream_of : (d : Scheduled) (other : Room) (units : List (ℕ × AccessUnit)) (entry : ℕ × AccessUnit) (o : Option DescribedStream) →
     feed_cause d other (job_history units 0) entry.0 entry.1 o ≡ None → StreamOf d other units entry o
 unfolding feed_cause
 stream_of d other units entry None none = absurd (let no : ⊥ = cc in no)
-stream_of d other units entry (Some s) none = record { stream = s; is = refl; cause = none }
+stream_of d other units entry (Some s) none =
+    let on_air = accepted_on_air _ _ none in
+    record { stream = s; is = refl; on_air = on_air.0; cause = on_air.1 }
 
 -- ---- Ticks
 
@@ -149,7 +156,7 @@ taken_more run a units entry so tick alone =
     })
 
 -- A unit that is multiplexed has bytes, so it is no tick.
-pub some_bytes : (d : Scheduled) (other : ℕ) (units : List (ℕ × AccessUnit)) (entry : ℕ × AccessUnit) → cause_after d other units entry ≡ None →
+pub some_bytes : (d : Scheduled) (other : Room) (units : List (ℕ × AccessUnit)) (entry : ℕ × AccessUnit) → cause_after d other units entry ≡ None →
     is_tick entry ≡ false
 some_bytes d other units entry none =
     let found = stream_of d other units entry (slice_get d.description.streams entry.0) none in
@@ -157,7 +164,7 @@ some_bytes d other units entry none =
     no_tick entry own.some
 
 -- It has a stream, so it brings no texts.
-pub own_stream_alone : (run : Run) (other : ℕ) (units : List (ℕ × AccessUnit)) (entry : ℕ × AccessUnit) → cause_after run.scheduled other units entry ≡ None →
+pub own_stream_alone : (run : Run) (other : Room) (units : List (ℕ × AccessUnit)) (entry : ℕ × AccessUnit) → cause_after run.scheduled other units entry ≡ None →
     brings_texts run entry ≡ false
 own_stream_alone run other units entry none =
     let found = stream_of run.scheduled other units entry (slice_get run.scheduled.description.streams entry.0) none in
@@ -178,7 +185,7 @@ unfolding judged_by
 taken_by run a units entry None so tick alone none = taken_more run a units entry (so (sym (none_added run a entry alone) ∙ none)) tick alone
 taken_by run a units entry (Some cause) so tick alone none = absurd (not_empty a.refused (a.records, cause) none)
 
-taken_with : (run : Run) (a : Air) (other : ℕ) (units : List (ℕ × AccessUnit)) (found : Result (Option (ℕ × AccessUnit)) UnitFileError) →
+taken_with : (run : Run) (a : Air) (other : Room) (units : List (ℕ × AccessUnit)) (found : Result (Option (ℕ × AccessUnit)) UnitFileError) →
     (first_refused run.scheduled other [] units ≡ None → a.refused ≡ [] → Taken run a units) →
     first_refused run.scheduled other [] (with_entry found units) ≡ None → (with_record run found a).refused ≡ [] →
     Taken run (with_record run found a) (with_entry found units)
@@ -190,7 +197,7 @@ taken_with run a other units (Ok (Some entry)) so job none =
     taken_by run a units entry (air_cause run a entry) (so last.0) (some_bytes run.scheduled other units entry last.1)
     (own_stream_alone run other units entry last.1) none
 
-all_taken : (run : Run) (other n : ℕ) (xs : List ℕ) → first_refused run.scheduled other [] (records_of n xs) ≡ None → (heard run n xs).refused ≡ [] →
+all_taken : (run : Run) (other : Room) (n : ℕ) (xs : List ℕ) → first_refused run.scheduled other [] (records_of n xs) ≡ None → (heard run n xs).refused ≡ [] →
     Taken run (heard run n xs) (records_of n xs)
 unfolding heard records_of
 all_taken run other zero xs job none = none_taken run

@@ -1,7 +1,6 @@
 -- What was written, accepted and refused stays, whatever records come later.
 use Rattle.std.proofs.Common.{◌≡◌, ℕ, zero, suc, ◌+◌, ◌-◌, ◌≤◌, Bool, true, false, List, [], ◌∷◌, ◌++◌, Option, Some, None, Result, Ok, Err, refl, sym, ap}
 use Rattle.std.proofs.Common.{◌∙◌, subst, cond, arith, append_assoc, append-nil}
-use Rattle.std.specs.Prelude.{slice_get}
 use Rattle.pes_packet.specs.AccessUnits.{AccessUnit}
 use Rattle.pes_packet.specs.Units.{units_of}
 use Rattle.slot_contents.specs.Contents.{Content, packet_of}
@@ -27,7 +26,7 @@ use Rattle.on_air.specs.Airing.{Run, Air, silence, history_by, job_of, air_outpu
 use Rattle.on_air.specs.Airing.{caught_up, changed, slots_followed, aired, taken, with_count, with_record, heard, ended, settled_at, last_at, on_to}
 use Rattle.on_air.specs.Laws.{with_entry, records_of}
 use Rattle.on_air.specs.EndlessRuns.{aired_from, aired_all, BeginsWith, StaysIn, EndlessRecords, EndlessInput}
-use Rattle.on_air.proofs.FedRecords.{joined, same_output, unit_cause_by}
+use Rattle.on_air.proofs.FedRecords.{joined, same_output}
 use Rattle.on_air.proofs.InOrder.{AllKept, kept_more}
 use Rattle.on_air.proofs.Near.{Steady, fed_of, steady_by, steady_first}
 use Rattle.on_air.proofs.TextsOn.{read_output}
@@ -81,10 +80,10 @@ unit_stays run a entry ranges kept none =
     same_output run.hex (content_over run.scheduled a.changes (λ k. units_of k (a.accepted ++ (entry ∷ []))))
     (content_over run.scheduled a.changes (λ k. units_of k a.accepted)) 0 a.slots
     (units_fit run.scheduled a.changes (a.accepted ++ (entry ∷ [])) ranges
-    (kept_more run.scheduled a.slots run.capacity a.accepted entry ranges none kept))
+    (kept_more run.scheduled a.slots a.changes run.capacity a.accepted entry ranges none kept))
     (units_fit run.scheduled a.changes a.accepted ranges kept)
     (ap (bytes_of run.scheduled) (sym (joined a entry)) ∙ bytes_kept feed_laws.later run.scheduled (job_of a) run.capacity entry.0 entry.1
-    (unit_cause_by run a entry (slice_get run.scheduled.description.streams entry.0) ∙ none))
+    none)
 
 -- ---- One record
 

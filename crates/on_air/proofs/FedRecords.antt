@@ -6,14 +6,14 @@ use Rattle.pes_packet.specs.AccessUnits.{AccessUnit}
 use Rattle.slot_contents.specs.Contents.{Content, packet_of, run_bytes}
 use Rattle.slot_contents.specs.RunLaws.{Fits}
 use Rattle.slot_contents.proofs.Runs.{content_again}
-use Rattle.description_parts.specs.Described.{DescribedStream}
 use Rattle.description_parts.specs.Ranges.{IsInRange}
 use Rattle.unit_queue.specs.declared.refusal.FeedError.{FeedError}
+use Rattle.mux_core.specs.declared.room.Room.{Room}
 use Rattle.mux_core.specs.Formats.{formatted}
 use Rattle.mux_core.specs.Scheduled.{Scheduled}
 use Rattle.mux_core.specs.Histories.{History, content_over, with_unit}
 use Rattle.mux_core.specs.MuxStates.{MuxState, Represents, Takes, feed_cause, refusal_of}
-use Rattle.mux_core.specs.WholeJobs.{job_history, run_output, output_of}
+use Rattle.mux_core.specs.WholeJobs.{run_output, output_of}
 use Rattle.mux_core.proofs.Accepted.{units_kept}
 use Rattle.mux_core.proofs.JobFeeding.{history_more}
 use Rattle.mux_core.proofs.Whole.{contents_fit_over}
@@ -59,19 +59,11 @@ joined a entry = ap (λ (h : History). record { units = h.units; changes = a.cha
 
 -- ---- The causes of refusal
 
--- Changes of the texts refuse no unit.
-pub unit_cause_by : (run : Run) (a : Air) (entry : ℕ × AccessUnit) (s : Option DescribedStream) →
-    feed_cause run.scheduled run.capacity (job_of a) entry.0 entry.1 s ≡ feed_cause run.scheduled run.capacity (job_history a.accepted a.slots) entry.0 entry.1 s
-unfolding feed_cause
-unit_cause_by run a entry None = refl
-unit_cause_by run a entry (Some s) = refl
-
 cause_is : (run : Run) (a : Air) (old : MuxState) (entry : ℕ × AccessUnit) → Carries run (job_of a) old →
     refusal_of old (job_of a) entry.0 entry.1 ≡ unit_refusal run a entry
 cause_is run a old entry c =
     ap (λ (d : Scheduled). feed_cause d old.capacity (job_of a) entry.0 entry.1 (slice_get d.description.streams entry.0)) c.scheduled
-    ∙ ap (λ (n : ℕ). feed_cause run.scheduled n (job_of a) entry.0 entry.1 (slice_get run.scheduled.description.streams entry.0)) c.capacity
-    ∙ unit_cause_by run a entry (slice_get run.scheduled.description.streams entry.0)
+    ∙ ap (λ (n : Room). feed_cause run.scheduled n (job_of a) entry.0 entry.1 (slice_get run.scheduled.description.streams entry.0)) c.capacity
 
 fed_cause : (run : Run) (a : Air) (entry : ℕ × AccessUnit) (refused : Option FeedError) → is_far_from run a entry ≡ false → is_tick entry ≡ false →
     brings_texts run entry ≡ false → refused ≡ unit_refusal run a entry → option_map (fed_refusal entry) refused ≡ air_cause run a entry

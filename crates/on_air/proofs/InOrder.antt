@@ -2,9 +2,7 @@
 use Rattle.std.proofs.Common.{◌≡◌, ℕ, zero, suc, ◌+◌, ◌-◌, ◌*◌, ◌<◌, ◌≤◌, ◌==◌, min, max, Bool, true, false, List, [], ◌∷◌, ◌++◌, length, map, Option, Some}
 use Rattle.std.proofs.Common.{None, Result, Ok, Err, refl, sym, ap, ◌∙◌, subst, cond, arith, All, inl, inr, append_assoc, append-nil}
 use Rattle.std.specs.Prelude.{slice_get, fold, not}
-use Rattle.std.proofs.Math.Nat.{mul-le-mul_right, mul-le-mul_left}
 use Rattle.std.specs.Int.{div_ceil}
-use Rattle.std.proofs.lemmas.Grind.{div_ceil_times}
 use Rattle.std.proofs.lemmas.Bool.{le-ltb, lt-leb, cases_eq, cases_lt}
 use Rattle.std.proofs.lemmas.List.Elements.{All-nil, All-cons, All-get_or, All-map, All-filter, filter-append}
 use Rattle.std.proofs.lemmas.Option.{get_or_from_slice_get, slice_get_within}
@@ -14,29 +12,37 @@ use Rattle.pes_packet.specs.AccessUnits.{AccessUnit}
 use Rattle.pes_packet.specs.Units.{units_of}
 use Rattle.description_parts.specs.Described.{DescribedStream}
 use Rattle.description_parts.specs.Ranges.{IsInRange}
+use Rattle.description_parts.specs.Tables.{stream_on_air}
 use Rattle.slot_plan.specs.Promised.{declaration}
 use Rattle.unit_timing.specs.Plans.{KeepsDeclaration}
+use Rattle.unit_timing.specs.PesPacket.{PesPacket, packets_of_unit}
+use Rattle.unit_timing.specs.Allowances.{pace_curve, Allows, KeepsAllowance}
+use Rattle.unit_timing.specs.declared.allowance.Allowance.{Allowance}
+use Rattle.unit_timing.specs.declared.allowance.Allowance.TheVariants.{Groups, Pace}
 use Rattle.unit_queue.specs.OwnedStreams.{timed}
 use Rattle.unit_queue.specs.Places.{left_before}
-use Rattle.unit_queue.specs.Queues.{Kept}
+use Rattle.unit_queue.specs.Queues.{Kept, max_packets_per_unit}
 use Rattle.unit_queue.specs.Causes.{unit_cause, is_full}
 use Rattle.unit_queue.proofs.QueueStates.{first_law, kept_law}
 use Rattle.unit_records.specs.Records.{record_at}
 use Rattle.unit_records.specs.declared.reading.UnitFileError.{UnitFileError}
+use Rattle.mux_core.specs.declared.room.Room.{Room}
+use Rattle.mux_core.specs.Rooms.{declared_units, needed_units, room_in, spaced_units}
 use Rattle.mux_core.specs.RecordRuns.{after_records}
 use Rattle.mux_core.specs.Scheduled.{Scheduled}
-use Rattle.mux_core.specs.Histories.{owned_stream}
-use Rattle.mux_core.specs.MuxStates.{feed_cause}
+use Rattle.mux_core.specs.Histories.{Change, History, owned_stream}
+use Rattle.mux_core.specs.MuxStates.{if_on_air, feed_cause}
 use Rattle.mux_core.specs.WholeJobs.{job_history, cause_after, first_refused}
+use Rattle.mux_core.proofs.FedUnits.{accepted_on_air}
 use Rattle.mux_core.proofs.KnownRanges.{parameters_known, stream_range}
 use Rattle.mux_core.proofs.UnitCounts.{own_units, other_units, units_append}
 use Rattle.on_air.specs.declared.refusals.AirRefusal.{AirRefusal}
-use Rattle.on_air.specs.Airing.{Run, Air, silence, greatest_lead, least_interval, needed_room, lead_of, settled_at, on_to, is_tick, is_far_from, unit_refusal}
+use Rattle.on_air.specs.Airing.{Run, Air, history_by, silence, greatest_lead, HasRoom, lead_of, settled_at, on_to, is_tick, is_far_from, unit_refusal}
 use Rattle.on_air.specs.Airing.{air_cause, accepted_by, aired, caught_up, changed, judged_by, slots_followed, taken, with_record, heard}
 use Rattle.on_air.specs.AirStates.{Promises}
 use Rattle.on_air.specs.Laws.{with_entry, records_of, without_ticks, greatest_of, IsJobInOrder, AiredInOrder}
 use Rattle.on_air.proofs.InTime.{taken_in_time}
-use Rattle.on_air.proofs.Room.{waiting_few}
+use Rattle.on_air.proofs.Room.{waiting_spaced, waiting_paced}
 use Rattle.on_air.proofs.AsMultiplexed.{first_taken, greatest_more, last_taken, more_settled, none_taken, own_stream_alone, release_begins, release_rises}
 use Rattle.on_air.proofs.AsMultiplexed.{stream_of}
 use Rattle.on_air.proofs.TextsOn.{tick_alone}
@@ -50,24 +56,26 @@ AllKept d units = (k : ℕ) (s : DescribedStream) → slice_get d.description.st
 pub kept_none : (d : Scheduled) → AllKept d []
 kept_none d k s is = (first_law (owned_stream d k s) 0).kept
 
-kept_own : (d : Scheduled) (slots other k : ℕ) (units : List (ℕ × AccessUnit)) (u : AccessUnit) (s : DescribedStream) → IsInRange d.description →
-    slice_get d.description.streams k ≡ Some s →
-    feed_cause d other (job_history units slots) k u (slice_get d.description.streams k) ≡ None → AllKept d units →
-    Kept (owned_stream d k s) (units_of k units ++ (u ∷ []))
-kept_own d slots other k units u s ranges is none kept =
-    let found = rw is at none in
-    kept_law (owned_stream d k s) slots other (units_of k units) u (parameters_known d ranges k s is) (unfold feed_cause in found) (kept k s is)
+kept_own : (d : Scheduled) (h : History) (other : Room) (k : ℕ) (u : AccessUnit) (s : DescribedStream) → IsInRange d.description →
+    slice_get d.description.streams k ≡ Some s → feed_cause d other h k u (Some s) ≡ None → Kept (owned_stream d k s) (h.units k) →
+    Kept (owned_stream d k s) (h.units k ++ (u ∷ []))
+unfolding feed_cause
+kept_own d h other k u s ranges is none kept =
+    kept_law (owned_stream d k s) h.slots (room_in other s) (h.units k) u (parameters_known d ranges k s is) (accepted_on_air _ _ none).1 kept
 
-pub kept_more : (d : Scheduled) (slots other : ℕ) (units : List (ℕ × AccessUnit)) (entry : ℕ × AccessUnit) → IsInRange d.description →
-    feed_cause d other (job_history units slots) entry.0 entry.1 (slice_get d.description.streams entry.0) ≡ None → AllKept d units →
+-- The units of a history are these, with an accepted unit after them.
+pub kept_more : (d : Scheduled) (slots : ℕ) (changes : List Change) (other : Room) (units : List (ℕ × AccessUnit)) (entry : ℕ × AccessUnit) →
+    IsInRange d.description →
+    feed_cause d other (history_by units slots changes) entry.0 entry.1 (slice_get d.description.streams entry.0) ≡ None → AllKept d units →
     AllKept d (units ++ (entry ∷ []))
-kept_more d slots other units entry ranges none kept k s is = elim (cases_eq entry.0 k) [
+kept_more d slots changes other units entry ranges none kept k s is = elim (cases_eq entry.0 k) [
   | inl e ↦
       let more : units_of k (units ++ (entry ∷ [])) ≡ units_of k units ++ (entry.1 ∷ []) =
       units_append k units (entry ∷ []) ∙ ap (λ (l : List AccessUnit). units_of k units ++ l) (own_units k entry [] e) in
       subst (λ (l : List AccessUnit). Kept (owned_stream d k s) l) (sym more)
-      (kept_own d slots other k units entry.1 s ranges is
-      (subst (λ (j : ℕ). feed_cause d other (job_history units slots) j entry.1 (slice_get d.description.streams j) ≡ None) e none) kept)
+      (kept_own d (history_by units slots changes) other k entry.1 s ranges is
+      (ap (λ (o : Option DescribedStream). feed_cause d other (history_by units slots changes) k entry.1 o) (sym is)
+      ∙ subst (λ (j : ℕ). feed_cause d other (history_by units slots changes) j entry.1 (slice_get d.description.streams j) ≡ None) e none) (kept k s is))
   | inr ne ↦
       let same : units_of k (units ++ (entry ∷ [])) ≡ units_of k units =
       units_append k units (entry ∷ []) ∙ ap (λ (l : List AccessUnit). units_of k units ++ l) (other_units k entry [] ne) ∙ append-nil (units_of k units) in
@@ -93,25 +101,10 @@ all_leads g (s ∷ streams) =
     let rest = all_leads (max g s.lead) streams in
     (omega (arith, rest.0), All-cons (λ x. x.lead ≤ fold (λ lead y. max lead y.lead) (max g s.lead) streams) s streams (omega (arith, rest.0)) rest.1)
 
-all_intervals : (g : ℕ) (streams : List DescribedStream) →
-    (fold (λ least s. min least s.interval) g streams ≤ g) × All (λ s. fold (λ least x. min least x.interval) g streams ≤ s.interval) streams
-all_intervals g [] = (omega arith, All-nil (λ s. g ≤ s.interval))
-all_intervals g (s ∷ streams) =
-    let rest = all_intervals (min g s.interval) streams in (
-      omega (arith, rest.0),
-      All-cons (λ x. fold (λ least y. min least y.interval) (min g s.interval) streams ≤ x.interval) s streams (omega (arith, rest.0))
-          rest.1,
-    )
-
 pub lead_within : (streams : List DescribedStream) (k : ℕ) (s : DescribedStream) → slice_get streams k ≡ Some s → s.lead ≤ greatest_lead streams
 lead_within streams k s is =
     rw (get_or_from_slice_get streams k s s is) at
     (All-get_or (λ x. x.lead ≤ greatest_lead streams) streams k s (slice_get_within streams k s is) (all_leads 0 streams).1)
-
-interval_within : (streams : List DescribedStream) (k : ℕ) (s : DescribedStream) → slice_get streams k ≡ Some s → least_interval streams ≤ s.interval
-interval_within streams k s is =
-    rw (get_or_from_slice_get streams k s s is) at
-    (All-get_or (λ x. least_interval streams ≤ x.interval) streams k s (slice_get_within streams k s is) (all_intervals 90000 streams).1)
 
 units_within : (k x : ℕ) (units : List (ℕ × AccessUnit)) → All (λ e. e.1.dts ≤ x) units → All (λ u. u.dts ≤ x) (units_of k units)
 units_within k x units all =
@@ -119,23 +112,19 @@ units_within k x units all =
 
 -- ---- Room
 
-few_enough : (n interval least lead capacity : ℕ) → 1 ≤ least → least ≤ interval → n * interval < lead + interval → div_ceil lead least + 1 ≤ capacity →
-    n < capacity
-few_enough zero interval least lead capacity some le below room = omega (arith, room)
-few_enough (suc n) interval least lead capacity some le below room =
-    let wide : n * least ≤ n * interval = mul-le-mul_left n le in
-    let bounds = div_ceil_times lead least (omega (arith, some)) in
-    elim (cases_lt n (div_ceil lead least)) [
-      | inl lt ↦ omega (arith, lt, room)
-      | inr over ↦ absurd (omega (arith, wide, below, bounds.0, mul-le-mul_right least over))
-    ]
+-- Fewer units wait than a stream needs room for.
+fewer : (a : Allowance) (n unit_packets lead interval : ℕ) (units : List PesPacket) → n ≤ div_ceil lead (max interval 1) → KeepsAllowance a unit_packets units →
+    ((burst pace : ℕ) → Allows packets_of_unit (pace_curve burst pace) units → n ≤ pace_curve burst pace lead) →
+    n < declared_units a lead (spaced_units lead interval)
+fewer (Groups g most) n unit_packets lead interval units spaced keeps paced = omega (arith, spaced)
+fewer (Pace burst pace) n unit_packets lead interval units spaced keeps paced = let packets = paced burst pace keeps in omega (arith, spaced, packets)
 
 -- If the slots settled by the greatest DTS are written, the stream has room for a unit.
 pub has_room : (run : Run) (k slots last : ℕ) (units : List (ℕ × AccessUnit)) (s : DescribedStream) → Promises run.scheduled →
-    needed_room (lead_of run) run.scheduled.description.streams ≤ run.capacity → slice_get run.scheduled.description.streams k ≡ Some s →
+    HasRoom run run.scheduled.description.streams → slice_get run.scheduled.description.streams k ≡ Some s →
     AllKept run.scheduled units →
     slots ≡ release run.scheduled.description.rate (lead_of run) last → All (λ e. e.1.dts ≤ last) units →
-    is_full (owned_stream run.scheduled k s) slots run.capacity (units_of k units) ≡ false
+    is_full (owned_stream run.scheduled k s) slots (room_in run.capacity s) (units_of k units) ≡ false
 has_room run k slots last units s promises room is kept written within =
     let d = run.scheduled in
     let l = owned_stream d k s in
@@ -147,12 +136,16 @@ has_room run k slots last units s promises room is kept written within =
     let range = stream_range d.description k s promises.ranges is in
     let begins : (last - lead_of run) * run.scheduled.description.rate ≤ slots * 135360000 =
     rw written (release_begins d.description.rate (lead_of run) last) in
-    let few = waiting_few l s.rx slots (lead_of run) last s.interval range.some_interval begins us 0 0 0 s.lead mine.spaced
-    (units_within k last units within) (served.arrived slots) in
-    let least = interval_within d.description.streams k s is in
-    lt-leb run.capacity (length (left_before l slots us).units)
-    (few_enough (length (left_before l slots us).units) s.interval (max (least_interval d.description.streams) 1) (lead_of run) run.capacity
-    (omega arith) (omega (arith, least, range.some_interval)) few room)
+    let due = units_within k last units within in
+    let left = served.arrived slots in
+    let spaced = waiting_spaced l s.rx slots (lead_of run) last s.interval range.some_interval begins us 0 0 0 s.lead mine.spaced due left in
+    let waits = fewer s.allowance (length (left_before l slots us).units) (max_packets_per_unit l.parameters) (lead_of run) s.interval (map (timed l) us) spaced
+    mine.allowed (λ burst pace keeps. waiting_paced l s.rx slots (lead_of run) last burst pace begins us 0 0 0 keeps due left) in
+    let enough : needed_units (lead_of run) s ≤ room_in run.capacity s =
+    rw (get_or_from_slice_get d.description.streams k s s is) at
+    (All-get_or (λ x. needed_units (lead_of run) x ≤ room_in run.capacity x) d.description.streams k s
+    (slice_get_within d.description.streams k s is) room) in
+    lt-leb (room_in run.capacity s) (length (left_before l slots us).units) (omega (arith, waits, enough))
 
 -- ---- One record
 
@@ -174,23 +167,25 @@ record SoFar (run : Run) (a : Air) (records : List (ℕ × AccessUnit)) : Type 0
   greatest : a.greatest ≡ greatest_of records
   slots : a.slots ≡ settled_at run (greatest_of records)
   refused : a.refused ≡ []
+  changes : a.changes ≡ []
   kept : AllKept run.scheduled (without_ticks records)
 
-is_near : (run : Run) (a : Air) (other : ℕ) (records : List (ℕ × AccessUnit)) (entry : ℕ × AccessUnit) → SoFar run a records →
+is_near : (run : Run) (a : Air) (other : Room) (records : List (ℕ × AccessUnit)) (entry : ℕ × AccessUnit) → SoFar run a records →
     IsJobInOrder run other (records ++ (entry ∷ [])) →
     is_far_from run a entry ≡ false
 is_near run a other records entry so job =
     let comes = job.in_order records [] entry refl in
     le-ltb run.terms.ahead (entry.1.dts - a.greatest) (omega (arith, comes.near, so.greatest))
 
-taken_stream : (d : Scheduled) (capacity slots : ℕ) (units : List (ℕ × AccessUnit)) (entry : ℕ × AccessUnit) (s : DescribedStream) →
-    unit_cause (owned_stream d entry.0 s) slots capacity (units_of entry.0 units) entry.1 ≡ None →
+taken_stream : (d : Scheduled) (capacity : Room) (slots : ℕ) (units : List (ℕ × AccessUnit)) (entry : ℕ × AccessUnit) (s : DescribedStream) →
+    stream_on_air d.description entry.0 ≡ true → unit_cause (owned_stream d entry.0 s) slots (room_in capacity s) (units_of entry.0 units) entry.1 ≡ None →
     feed_cause d capacity (job_history units slots) entry.0 entry.1 (Some s) ≡ None
 unfolding feed_cause
-taken_stream d capacity slots units entry s none = none
+taken_stream d capacity slots units entry s on_air none =
+    ap (λ (b : Bool). if_on_air b (unit_cause (owned_stream d entry.0 s) slots (room_in capacity s) (units_of entry.0 units) entry.1)) on_air ∙ none
 
 -- The next unit in order is not refused.
-none_refused : (run : Run) (a : Air) (other : ℕ) (records : List (ℕ × AccessUnit)) (entry : ℕ × AccessUnit) → SoFar run a records →
+none_refused : (run : Run) (a : Air) (other : Room) (records : List (ℕ × AccessUnit)) (entry : ℕ × AccessUnit) → SoFar run a records →
     IsJobInOrder run other (records ++ (entry ∷ [])) →
     is_tick entry ≡ false →
     (first_refused run.scheduled other [] (without_ticks records) ≡ None) × (cause_after run.scheduled other (without_ticks records) entry ≡ None) →
@@ -208,10 +203,14 @@ none_refused run a other records entry so job tick last =
     let within : All (λ e. e.1.dts ≤ greatest_of records) (without_ticks records) =
     All-filter (λ e. not (is_tick e)) (λ e. e.1.dts ≤ greatest_of records) records (none_after 0 records).1 in
     let room = has_room run entry.0 a.slots (greatest_of records) units found.stream job.promises job.room found.is so.kept written within in
-    let taken = taken_in_time l a.slots run.capacity other (units_of entry.0 units) entry.1 found.cause (omega (arith, written, rises)) room in
-    let none = taken_stream run.scheduled run.capacity a.slots units entry found.stream taken in
+    let taken =
+    taken_in_time l a.slots (room_in run.capacity found.stream) (room_in other found.stream) (units_of entry.0 units) entry.1 found.cause
+    (omega (arith, written, rises)) room in
+    let none = taken_stream run.scheduled run.capacity a.slots units entry found.stream found.on_air taken in
     let unit : unit_refusal run a entry ≡ None =
-    ap (λ (us : List (ℕ × AccessUnit)). feed_cause run.scheduled run.capacity (job_history us a.slots) entry.0 entry.1
+    ap (λ (cs : List Change). feed_cause run.scheduled run.capacity (history_by a.accepted a.slots cs) entry.0 entry.1
+    (slice_get run.scheduled.description.streams entry.0)) so.changes
+    ∙ ap (λ (us : List (ℕ × AccessUnit)). feed_cause run.scheduled run.capacity (job_history us a.slots) entry.0 entry.1
     (slice_get run.scheduled.description.streams entry.0)) so.accepted
     ∙ ap (λ (o : Option DescribedStream). feed_cause run.scheduled run.capacity (job_history units a.slots) entry.0 entry.1 o) found.is ∙ none in
     let alone = own_stream_alone run other units entry last.1 in
@@ -224,7 +223,7 @@ more_slots run a records entry so =
     ap (λ (n : ℕ). on_to n (settled_at run entry.1.dts)) so.slots ∙ more_settled run (greatest_of records) entry.1.dts
     ∙ ap (λ (g : ℕ). settled_at run g) (sym (greatest_more records entry))
 
-so_far_unit : (run : Run) (a : Air) (other : ℕ) (records : List (ℕ × AccessUnit)) (entry : ℕ × AccessUnit) → SoFar run a records →
+so_far_unit : (run : Run) (a : Air) (other : Room) (records : List (ℕ × AccessUnit)) (entry : ℕ × AccessUnit) → SoFar run a records →
     IsJobInOrder run other (records ++ (entry ∷ [])) →
     is_tick entry ≡ false → SoFar run (aired run a entry) (records ++ (entry ∷ []))
 unfolding judged_by accepted_by slots_followed
@@ -241,10 +240,11 @@ so_far_unit run a other records entry so job tick =
       greatest = ap (λ (g : ℕ). max g entry.1.dts) so.greatest ∙ sym (greatest_more records entry);
       slots = more_slots run a records entry so;
       refused = so.refused;
-      kept = subst (AllKept run.scheduled) (sym more) (kept_more run.scheduled 0 other (without_ticks records) entry job.promises.ranges last.1 so.kept);
+      changes = so.changes;
+      kept = subst (AllKept run.scheduled) (sym more) (kept_more run.scheduled 0 [] other (without_ticks records) entry job.promises.ranges last.1 so.kept);
     }))
 
-so_far_tick : (run : Run) (a : Air) (other : ℕ) (records : List (ℕ × AccessUnit)) (entry : ℕ × AccessUnit) → SoFar run a records →
+so_far_tick : (run : Run) (a : Air) (other : Room) (records : List (ℕ × AccessUnit)) (entry : ℕ × AccessUnit) → SoFar run a records →
     IsJobInOrder run other (records ++ (entry ∷ [])) →
     is_tick entry ≡ true → SoFar run (aired run a entry) (records ++ (entry ∷ []))
 unfolding judged_by accepted_by slots_followed
@@ -258,10 +258,11 @@ so_far_tick run a other records entry so job tick =
       greatest = ap (λ (g : ℕ). max g entry.1.dts) so.greatest ∙ sym (greatest_more records entry);
       slots = more_slots run a records entry so;
       refused = so.refused;
+      changes = so.changes;
       kept = subst (AllKept run.scheduled) (sym same) so.kept;
     }))
 
-so_far_more : (run : Run) (a : Air) (other : ℕ) (records : List (ℕ × AccessUnit)) (entry : ℕ × AccessUnit) (tick : Bool) → SoFar run a records →
+so_far_more : (run : Run) (a : Air) (other : Room) (records : List (ℕ × AccessUnit)) (entry : ℕ × AccessUnit) (tick : Bool) → SoFar run a records →
     IsJobInOrder run other (records ++ (entry ∷ [])) →
     is_tick entry ≡ tick → SoFar run (aired run a entry) (records ++ (entry ∷ []))
 so_far_more run a other records entry true so job is = so_far_tick run a other records entry so job is
@@ -269,7 +270,7 @@ so_far_more run a other records entry false so job is = so_far_unit run a other 
 
 -- ---- All records
 
-shorter : (run : Run) (other : ℕ) (records : List (ℕ × AccessUnit)) (entry : ℕ × AccessUnit) → IsJobInOrder run other (records ++ (entry ∷ [])) →
+shorter : (run : Run) (other : Room) (records : List (ℕ × AccessUnit)) (entry : ℕ × AccessUnit) → IsJobInOrder run other (records ++ (entry ∷ [])) →
     IsJobInOrder run other records
 shorter run other records entry job = record {
   promises = job.promises;
@@ -281,7 +282,7 @@ shorter run other records entry job = record {
       job.in_order before (after ++ (entry ∷ [])) e (ap (λ (l : List (ℕ × AccessUnit)). l ++ (entry ∷ [])) is ∙ append_assoc before (e ∷ after) (entry ∷ []));
 }
 
-so_far_with : (run : Run) (a : Air) (other : ℕ) (records : List (ℕ × AccessUnit)) (found : Result (Option (ℕ × AccessUnit)) UnitFileError) →
+so_far_with : (run : Run) (a : Air) (other : Room) (records : List (ℕ × AccessUnit)) (found : Result (Option (ℕ × AccessUnit)) UnitFileError) →
     (IsJobInOrder run other records → SoFar run a records) → IsJobInOrder run other (with_entry found records) →
     SoFar run (with_record run found a) (with_entry found records)
 unfolding with_record with_entry
@@ -293,9 +294,9 @@ so_far_with run a other records (Ok (Some entry)) so job =
 so_far_none : (run : Run) → SoFar run silence []
 so_far_none run =
     let none = none_taken run in
-    record { accepted = refl; greatest = refl; slots = none.slots; refused = refl; kept = kept_none run.scheduled }
+    record { accepted = refl; greatest = refl; slots = none.slots; refused = refl; changes = refl; kept = kept_none run.scheduled }
 
-so_far : (run : Run) (other n : ℕ) (xs : List ℕ) → IsJobInOrder run other (records_of n xs) → SoFar run (heard run n xs) (records_of n xs)
+so_far : (run : Run) (other : Room) (n : ℕ) (xs : List ℕ) → IsJobInOrder run other (records_of n xs) → SoFar run (heard run n xs) (records_of n xs)
 unfolding heard records_of
 so_far run other zero xs job = so_far_none run
 so_far run other (suc n) xs job = so_far_with run (heard run n xs) other (records_of n xs) (record_at (after_records n xs)) (so_far run other n xs) job

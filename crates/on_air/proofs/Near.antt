@@ -7,6 +7,7 @@ use Rattle.std.proofs.lemmas.List.Elements.{All-append, All-cons, All-nil, All-w
 use Rattle.clock27.specs.Release.{release}
 use Rattle.description_parts.specs.Described.{DescribedStream}
 use Rattle.description_parts.specs.Ranges.{IsInRange}
+use Rattle.description_parts.specs.Tables.{stream_on_air}
 use Rattle.pes_packet.specs.AccessUnits.{AccessUnit}
 use Rattle.pes_packet.specs.Marks.{marks_size}
 use Rattle.pes_packet.specs.Units.{units_of}
@@ -20,15 +21,15 @@ use Rattle.unit_queue.specs.declared.refusal.FeedError.{FeedError}
 use Rattle.unit_queue.specs.declared.refusal.FeedError.TheVariants.{Empty, TooLarge, TooSoon, BadPts, TooFar}
 use Rattle.unit_records.specs.Records.{record_at}
 use Rattle.unit_records.specs.declared.reading.UnitFileError.{UnitFileError}
+use Rattle.mux_core.specs.Rooms.{room_in}
 use Rattle.mux_core.specs.RecordRuns.{after_records}
-use Rattle.mux_core.specs.Histories.{owned_stream}
-use Rattle.mux_core.specs.MuxStates.{feed_cause}
-use Rattle.mux_core.specs.WholeJobs.{job_history}
+use Rattle.mux_core.specs.Histories.{last_texts, owned_stream}
+use Rattle.mux_core.specs.MuxStates.{if_on_air, feed_cause}
 use Rattle.on_air.specs.declared.refusals.AirRefusal.{AirRefusal}
 use Rattle.on_air.specs.declared.refusals.AirRefusal.TheVariants.{Feed, Ahead, Followed, Texts}
 use Rattle.on_air.specs.declared.refusals.TextsRefusal.{TextsRefusal}
-use Rattle.on_air.specs.Airing.{Run, Air, silence, lead_of, needed_room, settled_at, is_tick, is_far_from, far_cause, unit_refusal, air_cause, accepted_by}
-use Rattle.on_air.specs.Airing.{brings_texts, changed, fed_refusal, taken, texts_refusal}
+use Rattle.on_air.specs.Airing.{Run, Air, silence, lead_of, HasRoom, settled_at, is_tick, is_far_from, far_cause, unit_refusal, air_cause, accepted_by}
+use Rattle.on_air.specs.Airing.{brings_texts, changed, fed_refusal, job_of, taken, texts_refusal}
 use Rattle.on_air.specs.Airing.{greatest_by, judged_by, caught_up, slots_followed, with_record, heard}
 use Rattle.on_air.specs.AirStates.{Promises}
 use Rattle.on_air.specs.Laws.{ComesNear, IsJudgedAlone, IsOwnCause, NearIsJudgedAlone}
@@ -76,7 +77,7 @@ taken_units run a entry false is alone ranges none so =
       All-append (λ e. e.1.dts ≤ max a.greatest entry.1.dts) a.accepted (entry ∷ [])
           (later a.greatest (max a.greatest entry.1.dts) a.accepted (omega arith) so.within)
           (All-cons (λ e. e.1.dts ≤ max a.greatest entry.1.dts) entry [] (omega arith) (All-nil (λ e. e.1.dts ≤ max a.greatest entry.1.dts))),
-      kept_more run.scheduled a.slots run.capacity a.accepted entry ranges fed so.kept,
+      kept_more run.scheduled a.slots a.changes run.capacity a.accepted entry ranges fed so.kept,
     )
 
 steady_taken : (run : Run) (a : Air) (entry : ℕ × AccessUnit) (brings : Bool) → brings_texts run entry ≡ brings → IsInRange run.scheduled.description →
@@ -182,12 +183,16 @@ own_unit l slots capacity us u late full =
     (own_itself l.parameters.size l.parameters.pts_limit (min_next_dts_of l us) u)
     (own_or (time_cause (is_late l slots u) u.dts) (room_cause (is_full l slots capacity us) over) time room)
 
+own_on_air : (on_air : Bool) (cause : Option FeedError) → IsOwn cause → IsOwn (if_on_air on_air cause)
+own_on_air true cause own = own
+own_on_air false cause own = tt
+
 -- ---- A record that is near
 
 own_stream : (run : Run) (a : Air) (entry : ℕ × AccessUnit) (o : Option DescribedStream) → slice_get run.scheduled.description.streams entry.0 ≡ o →
     Promises run.scheduled →
-    needed_room (lead_of run) run.scheduled.description.streams ≤ run.capacity → ComesNear run a entry → Steady run a →
-    IsOwn (feed_cause run.scheduled run.capacity (job_history a.accepted a.slots) entry.0 entry.1 o)
+    HasRoom run run.scheduled.description.streams → ComesNear run a entry → Steady run a →
+    IsOwn (feed_cause run.scheduled run.capacity (job_of a) entry.0 entry.1 o)
 unfolding feed_cause
 own_stream run a entry None is promises room comes so = tt
 own_stream run a entry (Some s) is promises room comes so =
@@ -200,7 +205,9 @@ own_stream run a entry (Some s) is promises room comes so =
     le-ltb (release run.scheduled.description.rate s.lead entry.1.dts) a.slots (omega (arith, written, rises)) in
     let late : is_late (owned_stream run.scheduled entry.0 s) a.slots entry.1 ≡ false = rw (begun, early) refl in
     let full = has_room run entry.0 a.slots a.greatest a.accepted s promises room is so.kept written so.within in
-    own_unit (owned_stream run.scheduled entry.0 s) a.slots run.capacity (units_of entry.0 a.accepted) entry.1 late full
+    own_on_air (stream_on_air (last_texts run.scheduled.description a.changes) entry.0)
+    (unit_cause (owned_stream run.scheduled entry.0 s) a.slots (room_in run.capacity s) (units_of entry.0 a.accepted) entry.1)
+    (own_unit (owned_stream run.scheduled entry.0 s) a.slots (room_in run.capacity s) (units_of entry.0 a.accepted) entry.1 late full)
 
 alone_by : (far tick brings : Bool) (cause : AirRefusal) (texts : Option TextsRefusal) (entry : ℕ × AccessUnit) (refused : Option FeedError) → far ≡ false →
     IsOwn refused →

@@ -19,7 +19,7 @@ use Rattle.mux_core.specs.WholeJobs.{output_of, plan_schedule, switch_schedule}
 use Rattle.on_air.specs.declared.leap.Leap.{Leap}
 use Rattle.on_air.specs.declared.options.Terms.{Terms}
 use Rattle.on_air.specs.declared.refusals.AirRefusal.{AirRefusal}
-use Rattle.on_air.specs.Airing.{Run, Air, history_by, job_of, air_output, lead_of, greatest_lead, room_by, room_of, air_cause, accepted_by}
+use Rattle.on_air.specs.Airing.{Run, Air, history_by, job_of, air_output, lead_of, greatest_lead, room_by, air_cause, accepted_by}
 
 -- the multiplexer, the packets that wait to be written, the terms, the rate and the lead that settle slots, the greatest DTS taken, the records that leap,
 -- the number of records read, and whether there is one plan, so that texts may change
@@ -96,7 +96,7 @@ IsOut held s = holds_record held ≡ false → waiting_of s.packets ≡ []
 abbrev pub run_with : Scheduled → Terms → Bool → Run
 run_with d terms hex = record {
   scheduled = d;
-  capacity = room_by terms.room (room_of (greatest_lead d.description.streams + terms.wait) d.description.streams);
+  capacity = room_by terms.room (greatest_lead d.description.streams + terms.wait);
   terms = terms;
   hex = hex;
 }

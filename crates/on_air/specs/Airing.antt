@@ -1,7 +1,6 @@
 -- The rule of a run without end: which records are taken, and which slots are written after each of them and at the end.
 use Rattle.std.specs.Prelude.{ℕ, zero, suc, ◌+◌, ◌-◌, ◌^◌, ◌==◌, ◌&&◌, min, max, Bool, cond, if◌then◌else◌, List, [], ◌∷◌, ◌++◌, length, slice_get, fold}
-use Rattle.std.specs.Prelude.{Option, Some, None, is_none, option_map, Result, Ok, Err}
-use Rattle.std.specs.Int.{div_ceil}
+use Rattle.std.specs.Prelude.{Option, Some, None, is_none, option_map, Result, Ok, Err, All, ◌≤◌}
 use Rattle.clock27.specs.Release.{release}
 use Rattle.pes_packet.specs.AccessUnits.{AccessUnit}
 use Rattle.pes_packet.specs.Marks.{marks_size}
@@ -16,11 +15,14 @@ use Rattle.unit_queue.specs.declared.refusal.FeedError.{FeedError}
 use Rattle.unit_records.specs.Records.{record_at}
 use Rattle.unit_records.specs.declared.reading.UnitFileError.{UnitFileError}
 use Rattle.mux_core.specs.RecordRuns.{after_records}
+use Rattle.mux_core.specs.Rooms.{needed_units, room_in}
 use Rattle.mux_core.specs.Scheduled.{Scheduled}
 use Rattle.mux_core.specs.Histories.{Change, History, last_texts}
 use Rattle.mux_core.specs.TextChanges.{next_change}
 use Rattle.mux_core.specs.MuxStates.{feed_cause}
-use Rattle.mux_core.specs.WholeJobs.{job_history, output_of}
+use Rattle.mux_core.specs.WholeJobs.{output_of}
+use Rattle.mux_core.specs.declared.room.Room.{Room}
+use Rattle.mux_core.specs.declared.room.Room.TheVariants.{Units, Due}
 use Rattle.on_air.specs.declared.leap.Leap.{Leap}
 use Rattle.on_air.specs.declared.options.Terms.{Terms}
 use Rattle.on_air.specs.declared.refusals.AirRefusal.{AirRefusal}
@@ -31,10 +33,10 @@ use Rattle.on_air.specs.declared.refusals.TextsRefusal.TheVariants.{Unread, Faul
 use Rattle.on_air.specs.declared.refusals.AirRefusal.TheVariants.{Feed, Ahead, Followed, Texts}
 use Rattle.on_air.specs.Leaps.{is_far, is_followed, leap_with, no_leap}
 
--- the schedule, the number of units of a stream that may wait, the terms, and whether packets are written as lines of digits
+-- the schedule, the room for units that wait, the terms, and whether packets are written as lines of digits
 pub record Run : Type 0 where
   pub scheduled : Scheduled
-  pub capacity : ℕ
+  pub capacity : Room
   pub terms : Terms
   pub hex : Bool
 
@@ -65,12 +67,9 @@ air_output run a = output_of run.hex run.scheduled (job_of a)
 
 -- ---- slots that are settled
 
--- the greatest lead of streams, and their least interval (90,000 without streams), in units of 90 kHz
+-- the greatest lead of streams, in units of 90 kHz
 abbrev pub greatest_lead : List DescribedStream → ℕ
 greatest_lead streams = fold (λ lead s. max lead s.lead) 0 streams
-
-abbrev pub least_interval : List DescribedStream → ℕ
-least_interval streams = fold (λ least s. min least s.interval) 90_000 streams
 
 -- how long before it is due a unit may arrive: the greatest lead, plus the wait of the terms
 abbrev pub lead_of : Run → ℕ
@@ -134,10 +133,10 @@ far_record run a entry = record { stream = entry.0; from = a.greatest; to = entr
 abbrev pub far_cause : Run → Air → ℕ × AccessUnit → AirRefusal
 far_cause run a entry = if is_followed (leap_by run a entry) then Followed a.slots a.greatest entry.1.dts else Ahead (far_record run a entry)
 
--- why the multiplexer refuses the unit of the record, by the units and the slots so far
+-- why the multiplexer refuses the unit of the record, by the units, the slots and the texts so far
 abbrev pub unit_refusal : Run → Air → ℕ × AccessUnit → Option FeedError
 unit_refusal run a entry =
-    feed_cause run.scheduled run.capacity (job_history a.accepted a.slots) entry.0 entry.1 (slice_get run.scheduled.description.streams entry.0)
+    feed_cause run.scheduled run.capacity (job_of a) entry.0 entry.1 (slice_get run.scheduled.description.streams entry.0)
 
 -- a refused unit: the number of its stream, its bytes with the bytes of its marks, its stamps, and the cause
 abbrev pub refused_unit : ℕ × AccessUnit → FeedError → RefusedUnit
@@ -287,14 +286,11 @@ ended run a = with_count a (on_to a.slots (last_at run a.greatest))
 
 -- ---- the room for units
 
--- the number of units of a stream that may wait: the units due within a lead, plus the next unit; at most 1,048,576
-abbrev pub needed_room : ℕ → List DescribedStream → ℕ
-needed_room lead streams = div_ceil lead (max (least_interval streams) 1) + 1
+-- the room that the terms ask for, between 1 and the maximum for each stream; otherwise room for the units that are due within a lead
+unfoldable pub room_by : Option ℕ → ℕ → Room
+room_by None lead = Due lead
+room_by (Some units) lead = Units (min (max units 1) 1048576)
 
-abbrev pub room_of : ℕ → List DescribedStream → ℕ
-room_of lead streams = min (needed_room lead streams) 1048576
-
--- the room that the terms ask for, between 1 and the maximum; otherwise `room`
-unfoldable pub room_by : Option ℕ → ℕ → ℕ
-room_by None room = room
-room_by (Some units) room = min (max units 1) 1048576
+-- a run has room for the units of each of these streams that wait
+abbrev pub HasRoom : Run → List DescribedStream → Type 0
+HasRoom run streams = All (λ s. needed_units (lead_of run) s ≤ room_in run.capacity s) streams

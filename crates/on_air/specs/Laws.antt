@@ -6,15 +6,16 @@ use Rattle.pes_packet.specs.AccessUnits.{AccessUnit}
 use Rattle.unit_queue.specs.OwnedStreams.{OwnedStream}
 use Rattle.unit_queue.specs.Causes.{unit_cause, is_full}
 use Rattle.unit_queue.specs.declared.refusal.FeedError.{FeedError}
-use Rattle.unit_queue.specs.declared.refusal.FeedError.TheVariants.{UnknownStream, Empty, TooLarge, TooSoon, BadPts, Late, TooFar, Full, Group, Pace}
+use Rattle.unit_queue.specs.declared.refusal.FeedError.TheVariants.{UnknownStream, Empty, TooLarge, TooSoon, BadPts, Late, TooFar, Full, Group, Pace, OffAir}
 use Rattle.unit_records.specs.Records.{record_at}
 use Rattle.unit_records.specs.declared.reading.UnitFileError.{UnitFileError}
 use Rattle.mux_core.specs.RecordRuns.{after_records}
 use Rattle.mux_core.specs.WholeJobs.{job_history, output_of, first_refused}
+use Rattle.mux_core.specs.declared.room.Room.{Room}
 use Rattle.on_air.specs.declared.refusals.AirRefusal.{AirRefusal}
 use Rattle.on_air.specs.declared.refusals.AirRefusal.TheVariants.{Feed, Ahead, Followed, Texts}
 use Rattle.on_air.specs.Leaps.{is_near, leap_records}
-use Rattle.on_air.specs.Airing.{Run, Air, greatest_lead, is_tick, is_far_from, lead_of, limit_of, last_at, needed_room, settled_at, on_to, air_cause, aired}
+use Rattle.on_air.specs.Airing.{Run, Air, greatest_lead, is_tick, is_far_from, lead_of, limit_of, last_at, HasRoom, settled_at, on_to, air_cause, aired}
 use Rattle.on_air.specs.Airing.{heard, ended, air_output}
 use Rattle.on_air.specs.AirStates.{Promises}
 
@@ -57,11 +58,11 @@ pub record Comes (run : Run) (before : List (ℕ × AccessUnit)) (entry : ℕ ×
 abbrev pub ComeInOrder : Run → List (ℕ × AccessUnit) → Type 0
 ComeInOrder run records = (before after : List (ℕ × AccessUnit)) (entry : ℕ × AccessUnit) → records ≡ before ++ (entry ∷ after) → Comes run before entry
 
--- a run over a plan that serves its description, with room for the units that may wait; the units among these records are accepted as one job if `other`
--- units of a stream may wait, and they arrive in order
-pub record IsJobInOrder (run : Run) (other : ℕ) (records : List (ℕ × AccessUnit)) : Type 0 where
+-- a run over a plan that serves its description, with room for the units that may wait; the units among these records are accepted as one job with some
+-- room, and they arrive in order
+pub record IsJobInOrder (run : Run) (other : Room) (records : List (ℕ × AccessUnit)) : Type 0 where
   pub promises : Promises run.scheduled
-  pub room : needed_room (lead_of run) run.scheduled.description.streams ≤ run.capacity
+  pub room : HasRoom run run.scheduled.description.streams
   pub accepted : first_refused run.scheduled other [] (without_ticks records) ≡ None
   pub in_order : ComeInOrder run records
 
@@ -71,12 +72,12 @@ pub record AiredAll (a : Air) (records : List (ℕ × AccessUnit)) : Type 0 wher
   pub refused : a.refused ≡ []
 
 abbrev pub AiredInOrder : Type 0
-AiredInOrder = (run : Run) (other n : ℕ) (xs : List ℕ) → IsJobInOrder run other (records_of n xs) → AiredAll (heard run n xs) (records_of n xs)
+AiredInOrder = (run : Run) (other : Room) (n : ℕ) (xs : List ℕ) → IsJobInOrder run other (records_of n xs) → AiredAll (heard run n xs) (records_of n xs)
 
 -- if no record is refused, in order or not, the output is the output of the whole job, multiplexed at once: with the number of slots that the terms ask for,
 -- otherwise up to the greatest DTS
 abbrev pub AiredAsMultiplexed : Type 0
-AiredAsMultiplexed = (run : Run) (other n : ℕ) (xs : List ℕ) → first_refused run.scheduled other [] (records_of n xs) ≡ None → (heard run n xs).refused ≡ [] →
+AiredAsMultiplexed = (run : Run) (other : Room) (n : ℕ) (xs : List ℕ) → first_refused run.scheduled other [] (records_of n xs) ≡ None → (heard run n xs).refused ≡ [] →
     air_output run (ended run (heard run n xs))
     ≡ output_of run.hex run.scheduled (job_history (records_of n xs) (last_at run (greatest_of (records_of n xs))))
 
@@ -121,7 +122,8 @@ pub record ComesNear (run : Run) (a : Air) (entry : ℕ × AccessUnit) : Type 0 
   pub begun : greatest_lead run.scheduled.description.streams ≤ entry.1.dts
   pub early : release run.scheduled.description.rate (lead_of run) a.greatest ≤ limit_of run.terms
 
--- a cause within the unit and the units of its stream, by the declaration of the stream: all causes except the written slots and the room
+-- a cause within the unit and the units of its stream, by the declaration of the stream and the programs on air: all causes except the written slots and the
+-- room
 abbrev pub IsOwnCause : FeedError → Type 0
 IsOwnCause UnknownStream = ⊤
 IsOwnCause Empty = ⊤
@@ -133,6 +135,7 @@ IsOwnCause TooFar = ⊤
 IsOwnCause Full = ⊥
 IsOwnCause Group = ⊤
 IsOwnCause Pace = ⊤
+IsOwnCause OffAir = ⊤
 
 abbrev pub IsJudgedAlone : Option AirRefusal → Type 0
 IsJudgedAlone None = ⊤
@@ -145,5 +148,5 @@ IsJudgedAlone (Some (Texts refusal)) = ⊤
 -- streams need
 abbrev pub NearIsJudgedAlone : Type 0
 NearIsJudgedAlone = (run : Run) (n : ℕ) (xs : List ℕ) (entry : ℕ × AccessUnit) → Promises run.scheduled →
-    needed_room (lead_of run) run.scheduled.description.streams ≤ run.capacity → ComesNear run (heard run n xs) entry →
+    HasRoom run run.scheduled.description.streams → ComesNear run (heard run n xs) entry →
     IsJudgedAlone (air_cause run (heard run n xs) entry)

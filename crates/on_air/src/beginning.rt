@@ -1,20 +1,21 @@
 //! How a run begins: the one place where it takes memory of its own.
 
-ghost use Rattle.std.specs.Prelude.{◌≡◌, ◌≤◌, ◌+◌, ℕ, List, [], Option, None, is_none, IfOk};
+ghost use Rattle.std.specs.Prelude.{◌≡◌, ◌+◌, ℕ, List, [], Option, None, is_none, IfOk, IsTrue};
 ghost use Rattle.mux_core.specs.Buffer.{waiting_of};
 ghost use Rattle.mux_core.specs.NewMux.{Judges};
 ghost use Rattle.mux_core.specs.Scheduled.{Scheduled};
 ghost use Rattle.mux_core.specs.Histories.{empty_history};
-ghost use Rattle.on_air.specs.Airing.{silence, greatest_lead, room_by, room_of};
+ghost use Rattle.mux_core.specs.Rooms.{is_room};
+ghost use Rattle.on_air.specs.Airing.{silence, greatest_lead, room_by};
 ghost use Rattle.on_air.specs.AirStates.{Carries, IsOnAir, Promises, run_with, plan_run, switch_run, begin_refusal};
 ghost use Rattle.on_air.specs.AirStates.{switch_refusal};
 
 use crate::airing::OnAir;
-use crate::leads::{greatest_lead, room_by, room_of};
+use crate::leads::{greatest_lead, room_by};
 use crate::leap::Leap;
 use crate::options::Terms;
 use clock27::Rate;
-use mux_core::{Mux, NewError, PacketOutput};
+use mux_core::{Mux, NewError, PacketOutput, Room};
 use plan_checker::CheckedPlan;
 use slot_plan::Description;
 use std::alloc::Allocator;
@@ -37,7 +38,7 @@ impl<A: Allocator + Copy> OnAir<A> {
         plan.description().keeps_ranges();
         let _ = plan.plan();
         slot_plan::timing_laws::accepted_plan();
-        match Mux::new(alloc, plan, of.room) {
+        match Mux::with_room(alloc, plan, of.room) {
             Ok(mux) => begun(alloc, mux, true, terms, of, hex),
             Err((cause, plan)) => {
                 drop(plan);
@@ -64,7 +65,7 @@ impl<A: Allocator + Copy> OnAir<A> {
         let _ = switch.first().plan();
         let _ = switch.second();
         slot_plan::timing_laws::accepted_switch();
-        match Mux::with_switch(alloc, switch, periods, of.room) {
+        match Mux::with_switch_and_room(alloc, switch, periods, of.room) {
             Ok(mux) => begun(alloc, mux, false, terms, of, hex),
             Err((cause, switch)) => {
                 drop(switch);
@@ -79,23 +80,21 @@ impl<A: Allocator + Copy> OnAir<A> {
 struct Numbers {
     rate: Rate,
     lead: u64,
-    room: usize,
+    room: Room,
 }
 
 // Returns the numbers of a run over a description.
 fn numbers_of(description: &Description, terms: Terms) -> Numbers
     ensures rate { result.rate ≡ description.now.rate }
     ensures lead { result.lead ≡ greatest_lead description.now.streams + terms.wait }
-    ensures room { result.room ≡
-        room_by terms.room (room_of (greatest_lead description.now.streams + terms.wait) description.now.streams) }
-    ensures some { 1 ≤ result.room }
-    ensures most { result.room ≤ 1048576 }
+    ensures room { result.room ≡ room_by terms.room (greatest_lead description.now.streams + terms.wait) }
+    ensures valid { IsTrue (is_room result.room) }
 {
     let lead = u64::from(greatest_lead(description.streams())) + u64::from(terms.wait);
     Numbers {
         rate: description.rate(),
         lead,
-        room: room_by(terms.room, room_of(lead, description.streams())),
+        room: room_by(terms.room, lead),
     }
 }
 
