@@ -24,7 +24,7 @@ use Rattle.checked_jobs.proofs.LongerJobs.{job_kept}
 use Rattle.on_air.specs.declared.answers.Ending.{Ending}
 use Rattle.on_air.specs.declared.answers.Ending.TheVariants.{Input, Unread, Slots, Records, TextsMemory}
 use Rattle.on_air.specs.declared.refusals.AirRefusal.{AirRefusal}
-use Rattle.on_air.specs.Airing.{Air, Run, air_output, is_tick, ended, heard, last_at, last_by, last_of, lead_of, needed_room, slots_or}
+use Rattle.on_air.specs.Airing.{Air, Run, HasRoom, air_output, is_tick, ended, heard, last_at, last_by, last_of, slots_or}
 use Rattle.on_air.specs.Laws.{ComeInOrder, greatest_of, records_of, without_ticks}
 use Rattle.on_air.proofs.AsMultiplexed.{aired_as_multiplexed, first_taken}
 use Rattle.on_air.proofs.InOrder.{aired_in_order}
@@ -236,11 +236,10 @@ airs_what_mux_writes m o bytes j input output faults same takes known (inr (inr 
 -- Records in order
 
 has_room : (o : AirOptions) (job : JobView) (j : MuxJobView) → j ≡ served job j.units →
-    needed_room (lead_of (run_of o job)) j.description.streams ≤ (run_of o job).capacity →
-    needed_room (lead_of (run_of o job)) (run_of o job).scheduled.description.streams ≤ (run_of o job).capacity
+    HasRoom (run_of o job) j.description.streams → HasRoom (run_of o job) (run_of o job).scheduled.description.streams
 has_room o job j is le =
     let same : j.description ≡ (run_of o job).scheduled.description = ap (λ (x : MuxJobView). x.description) is ∙ sym (described_same o job) in
-    subst (λ d. needed_room (lead_of (run_of o job)) d.streams ≤ (run_of o job).capacity) same le
+    subst (λ d. HasRoom (run_of o job) d.streams) same le
 
 first_in_order : (run : Run) (units more : List (ℕ × AccessUnit)) → ComeInOrder run (units ++ more) → ComeInOrder run units
 first_in_order run units more order before after entry is =

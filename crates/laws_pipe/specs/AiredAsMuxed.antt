@@ -1,7 +1,7 @@
 -- One job, multiplexed whole by `tsmux mux`, and on air by `tsair`.
-use Rattle.std.specs.Prelude.{◌≡◌, ◌≤◌, ℕ, false, List, Some, None, Ok, is_some}
+use Rattle.std.specs.Prelude.{◌≡◌, ℕ, false, List, Some, None, Ok, is_some}
 use Rattle.devices.specs.Devices.{Device, Takes, between}
-use Rattle.on_air.specs.Airing.{Run, lead_of, needed_room}
+use Rattle.on_air.specs.Airing.{Run, HasRoom}
 use Rattle.on_air.specs.Laws.{ComeInOrder, without_ticks}
 use Rattle.checked_jobs.specs.declared.multiplexing.MuxOptions.{MuxOptions}
 use Rattle.checked_jobs.specs.MuxJobs.{MuxJobView, mux_job_of}
@@ -39,7 +39,7 @@ pub record TakesUnits (m : MuxOptions) (bytes : List ℕ) (j : MuxJobView) : Typ
 -- ahead than it allows. There is room for all units that wait
 pub record AreInOrder (run : Run) (j : MuxJobView) : Type 0 where
   pub in_order : ComeInOrder run j.units
-  pub room : needed_room (lead_of run) j.description.streams ≤ run.capacity
+  pub room : HasRoom run j.description.streams
 
 -- a run over such a job that came to its end refused no record, neither a unit nor a tick
 abbrev pub RefusesNone : Type 0

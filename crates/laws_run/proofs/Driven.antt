@@ -5,9 +5,10 @@ use Rattle.std.proofs.lemmas.Bool.{cases_lt}
 use Rattle.pes_packet.specs.AccessUnits.{AccessUnit}
 use Rattle.slot_contents.specs.Contents.{packet_of, run_bytes}
 use Rattle.description_parts.specs.Ranges.{IsInRange}
-use Rattle.description_parts.specs.Tables.{table_count}
+use Rattle.description_parts.specs.Tables.{table_count, stream_on_air}
 use Rattle.slot_plan.specs.Schedule.{slot_of}
 use Rattle.unit_queue.specs.declared.refusal.FeedError.{FeedError}
+use Rattle.mux_core.specs.declared.room.Room.{Room}
 use Rattle.mux_core.specs.Scheduled.{Scheduled}
 use Rattle.mux_core.specs.Histories.{Change, History, empty_history, next_slot, with_unit, content_at, content_over}
 use Rattle.mux_core.specs.MuxStates.{MuxState, Represents, feed_cause, refusal_of}
@@ -25,14 +26,14 @@ use Rattle.laws_run.proofs.RunFindings.{any_state}
 use Rattle.laws_run.proofs.Faultless.{any_state_clean}
 
 -- A multiplexer whose state represents this history
-pub record IsRepresented (d : Scheduled) (capacity : ℕ) (h : History) : Type 0 where
+pub record IsRepresented (d : Scheduled) (capacity : Room) (h : History) : Type 0 where
   pub mux : MuxState
   pub represents : Represents h mux
   pub schedule : mux.schedule ≡ d
   pub room : mux.capacity ≡ capacity
   pub few : h.slots ≤ 2 ^ 40
 
-pub first : (d : Scheduled) (capacity : ℕ) → IsInRange d.description → IsRepresented d capacity empty_history
+pub first : (d : Scheduled) (capacity : Room) → IsInRange d.description → IsRepresented d capacity empty_history
 first d capacity r = record {
   mux = record {
     schedule = d;
@@ -54,12 +55,12 @@ first d capacity r = record {
 unit_represents : (h : History) (m : MuxState) (k : ℕ) (u : AccessUnit) → IsInRange m.schedule.description → Represents h m → refusal_of m h k u ≡ None →
     Represents (with_unit h k u) (fed m k u)
 unit_represents h m k u r st none =
-    let cause : Option FeedError = queue_cause m.slots u (slice_get m.queues k) in
+    let cause : Option FeedError = queue_cause (stream_on_air m.texts k) m.slots u (slice_get m.queues k) in
     let t = takes feed_laws h m k u cause (fed m k u) (parameters_known m.schedule r) st
     (record { first = refl; taken = λ e. refl; same_schedule = refl; same_capacity = refl }) in
     t.represents (t.first ∙ none)
 
-pub fed_represents : (d : Scheduled) (capacity : ℕ) (h : History) (k : ℕ) (u : AccessUnit) (cause : Option FeedError) → IsInRange d.description →
+pub fed_represents : (d : Scheduled) (capacity : Room) (h : History) (k : ℕ) (u : AccessUnit) (cause : Option FeedError) → IsInRange d.description →
     IsRepresented d capacity h →
     feed_cause d capacity h k u (slice_get d.description.streams k) ≡ cause → IsRepresented d capacity (fed_history h k u cause)
 unfolding fed_history
@@ -67,7 +68,7 @@ fed_represents d capacity h k u (Some cause) r w e = w
 fed_represents d capacity h k u None r w e =
     let m : MuxState = w.mux in
     let none : refusal_of m h k u ≡ None =
-    ap₂ (λ (x : Scheduled) (n : ℕ). feed_cause x n h k u (slice_get x.description.streams k)) w.schedule w.room ∙ e in
+    ap₂ (λ (x : Scheduled) (n : Room). feed_cause x n h k u (slice_get x.description.streams k)) w.schedule w.room ∙ e in
     record {
       mux = fed m k u;
       represents = unit_represents h m k u (subst (λ (x : Scheduled). IsInRange x.description) (sym w.schedule) r) w.represents none;
@@ -78,7 +79,7 @@ fed_represents d capacity h k u None r w e =
 
 -- Writing a slot
 
-slot_represents : (d : Scheduled) (capacity : ℕ) (h : History) → IsInRange d.description → IsRepresented d capacity h → h.slots < 2 ^ 40 →
+slot_represents : (d : Scheduled) (capacity : Room) (h : History) → IsInRange d.description → IsRepresented d capacity h → h.slots < 2 ^ 40 →
     IsRepresented d capacity (next_slot h)
 slot_represents d capacity h r w less =
     let m : MuxState = w.mux in
@@ -90,7 +91,7 @@ slot_represents d capacity h r w less =
 
 -- One step, and all steps
 
-step_represents : (d : Scheduled) (capacity : ℕ) (h : History) (step : Step) → IsInRange d.description → IsRepresented d capacity h →
+step_represents : (d : Scheduled) (capacity : Room) (h : History) (step : Step) → IsInRange d.description → IsRepresented d capacity h →
     IsRepresented d capacity (step_history d capacity h step)
 unfolding step_history
 step_represents d capacity h (FeedStep k u) r w = fed_represents d capacity h k u (feed_cause d capacity h k u (slice_get d.description.streams k)) r w refl
@@ -99,7 +100,7 @@ step_represents d capacity h SlotStep r w = elim (cases_lt h.slots (2 ^ 40)) [
   | inr over ↦ let test = le-ltb h.slots (2 ^ 40) over in rw test w
 ]
 
-all_represent : (d : Scheduled) (capacity : ℕ) (h : History) (steps : List Step) → IsInRange d.description → IsRepresented d capacity h →
+all_represent : (d : Scheduled) (capacity : Room) (h : History) (steps : List Step) → IsInRange d.description → IsRepresented d capacity h →
     IsRepresented d capacity (history_after d capacity h steps)
 unfolding history_after
 all_represent d capacity h [] r w = w
@@ -107,13 +108,13 @@ all_represent d capacity h (step ∷ rest) r w = all_represent d capacity (step_
 
 -- The laws
 
-pub given_back_of : (d : Scheduled) (capacity : ℕ) (h : History) (n : ℕ) → IsInRange d.description → IsRepresented d capacity h → n ≤ 2 ^ 40 →
+pub given_back_of : (d : Scheduled) (capacity : Room) (h : History) (n : ℕ) → IsInRange d.description → IsRepresented d capacity h → n ≤ 2 ^ 40 →
     GivenBack d h.units n (run_bytes (content_at d h.units) 0 n)
 given_back_of d capacity h n r w few =
     subst (λ (x : Scheduled). GivenBack x h.units n (run_bytes (content_at x h.units) 0 n)) w.schedule
     (any_state h w.mux n (subst (λ (x : Scheduled). IsInRange x.description) (sym w.schedule) r) w.represents few)
 
-pub clean_of : (d : Scheduled) (capacity : ℕ) (h : History) (n : ℕ) → IsInRange d.description → IsRepresented d capacity h → n ≤ 2 ^ 40 →
+pub clean_of : (d : Scheduled) (capacity : Room) (h : History) (n : ℕ) → IsInRange d.description → IsRepresented d capacity h → n ≤ 2 ^ 40 →
     IsClean d (run_bytes (content_at d h.units) 0 n)
 clean_of d capacity h n r w few =
     subst (λ (x : Scheduled). IsClean x (run_bytes (content_at x h.units) 0 n)) w.schedule

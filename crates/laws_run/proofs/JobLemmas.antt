@@ -4,6 +4,7 @@ use Rattle.pes_packet.specs.AccessUnits.{AccessUnit}
 use Rattle.pes_packet.specs.Units.{units_of}
 use Rattle.description_parts.specs.Ranges.{IsInRange}
 use Rattle.unit_queue.specs.declared.refusal.FeedError.{FeedError}
+use Rattle.mux_core.specs.declared.room.Room.{Room}
 use Rattle.mux_core.specs.Scheduled.{Scheduled}
 use Rattle.mux_core.specs.Histories.{content_at}
 use Rattle.mux_core.specs.Events.{fed_history}
@@ -24,14 +25,14 @@ unfolding or_cause unit_refused
 neither index None next e = (refl, e)
 neither index (Some cause) next e = absurd (cc)
 
-one_more : (d : Scheduled) (capacity : ℕ) (fed : List (ℕ × AccessUnit)) (entry : ℕ × AccessUnit) → IsInRange d.description →
+one_more : (d : Scheduled) (capacity : Room) (fed : List (ℕ × AccessUnit)) (entry : ℕ × AccessUnit) → IsInRange d.description →
     IsRepresented d capacity (job_history fed 0) →
     cause_after d capacity fed entry ≡ None → IsRepresented d capacity (job_history (fed ++ (entry ∷ [])) 0)
 unfolding fed_history
 one_more d capacity fed entry r w none =
     subst (IsRepresented d capacity) (history_more fed entry) (fed_represents d capacity (job_history fed 0) entry.0 entry.1 None r w none)
 
-all_fed : (d : Scheduled) (capacity : ℕ) (fed left : List (ℕ × AccessUnit)) → IsInRange d.description → IsRepresented d capacity (job_history fed 0) →
+all_fed : (d : Scheduled) (capacity : Room) (fed left : List (ℕ × AccessUnit)) → IsInRange d.description → IsRepresented d capacity (job_history fed 0) →
     first_refused d capacity fed left ≡ None → IsRepresented d capacity (job_history (fed ++ left) 0)
 unfolding first_refused
 all_fed d capacity fed [] r w none = subst (λ (us : List (ℕ × AccessUnit)). IsRepresented d capacity (job_history us 0)) (sym (append-nil fed)) w

@@ -3,6 +3,7 @@ use Rattle.std.proofs.Common.{◌≡◌, ℕ, List, [], None, sym, subst, arith}
 use Rattle.pes_packet.specs.AccessUnits.{AccessUnit}
 use Rattle.pes_packet.specs.Units.{units_of}
 use Rattle.description_parts.specs.Ranges.{IsInRange}
+use Rattle.mux_core.specs.declared.room.Room.{Room}
 use Rattle.mux_core.specs.Scheduled.{Scheduled}
 use Rattle.mux_core.specs.Histories.{History, content_at}
 use Rattle.mux_core.specs.Headline.{UnitsKept}
@@ -15,7 +16,7 @@ use Rattle.laws_run.proofs.JobLemmas.{job_represents}
 use Rattle.laws_run.proofs.Soundness.{sound}
 use Rattle.laws_run.proofs.InTime.{in_time}
 
-kept_of : (d : Scheduled) (capacity : ℕ) (h : History) → IsInRange d.description → IsRepresented d capacity h → UnitsKept d h.units
+kept_of : (d : Scheduled) (capacity : Room) (h : History) → IsInRange d.description → IsRepresented d capacity h → UnitsKept d h.units
 kept_of d capacity h r w =
     subst (λ (x : Scheduled). UnitsKept x h.units) w.schedule
     (units_kept h w.mux (subst (λ (x : Scheduled). IsInRange x.description) (sym w.schedule) r) w.represents)

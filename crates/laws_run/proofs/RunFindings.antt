@@ -28,14 +28,14 @@ use Rattle.laws_run.proofs.TablesAndStreams.{tables_come_back, streams_come_back
 use Rattle.laws_run.proofs.FoundInRun.{nothing_comes_back}
 use Rattle.laws_run.proofs.OfPids.{all_is_of_pids, found_in_order}
 use Rattle.mux_core.specs.Scheduled.{Scheduled}
-use Rattle.mux_core.specs.Histories.{owned_stream, table_of, content_at}
+use Rattle.mux_core.specs.Histories.{Change, owned_stream, table_of, content_at, content_over}
 use Rattle.mux_core.specs.Headline.{UnitsKept}
-use Rattle.mux_core.proofs.StreamsAlone.{stream_alone}
+use Rattle.mux_core.proofs.StreamsAlone.{stream_alone, stream_alone_over}
 use Rattle.mux_core.proofs.TablesRead.{table_alone}
-use Rattle.mux_core.proofs.Whole.{contents_fit}
+use Rattle.mux_core.proofs.Whole.{contents_fit, contents_fit_over}
 use Rattle.mux_core.proofs.Accepted.{units_kept}
 use Rattle.laws_run.specs.Distinguishable.{IsDistinguishable}
-use Rattle.laws_run.specs.GivenBack.{stream_findings, table_findings, IsSentOn, GivenBackLaw, AnyStateLaw}
+use Rattle.laws_run.specs.GivenBack.{stream_findings, table_findings, IsSentOn, GivenBackLaw, AnyStateLaw, StreamsBackLaw, AnyStateStreamsLaw}
 use Rattle.laws_run.proofs.UnitPlaces.{units_are_placed}
 use Rattle.laws_run.proofs.SectionPlaces.{sections_are_placed}
 use Rattle.laws_run.proofs.DistinguishableSections.{section_distinguishable, rounds_all}
@@ -44,8 +44,12 @@ use Rattle.mux_core.proofs.TablesRead.{there as kind_there}
 
 -- The premises of the laws on one PID
 
+run_over : (d : Scheduled) (changes : List Change) (units : ℕ → List AccessUnit) (n : ℕ) → IsInRange d.description → UnitsKept d units → n < 2 ^ 64 - 1 →
+    IsRun n (content_over d changes units)
+run_over d changes units n r kept few = record { fits = contents_fit_over d changes units r kept; few = few }
+
 pub is_run : (d : Scheduled) (units : ℕ → List AccessUnit) (n : ℕ) → IsInRange d.description → UnitsKept d units → n < 2 ^ 64 - 1 → IsRun n (content_at d units)
-is_run d units n r kept few = record { fits = contents_fit d units r kept; few = few }
+is_run d units n r kept few = run_over d [] units n r kept few
 
 units_fit : (rules : StreamParameters) (us : List AccessUnit) → ParametersInRange rules → All (IsUnit rules) us →
     All (λ u. IsTrue (fits_packet rules.stream_id (length u.bytes))) us
@@ -75,13 +79,15 @@ has_room d t r = record { steady = λ s other j moment. refl; fits = λ s j mome
 
 -- The findings of each stream and each table
 
-stream_back : (d : Scheduled) (units : ℕ → List AccessUnit) (n k : ℕ) (s : DescribedStream) → IsInRange d.description → UnitsKept d units → n < 2 ^ 64 - 1 →
-    slice_get d.description.streams k ≡ Some s → found_on s.pid (run_bytes (content_at d units) 0 n) ≡ stream_findings d units n k s
-stream_back d units n k s r kept few is =
-    let alone = one_stream d units k s r kept is in
-    streams_come_back (owned_stream d k s) n (units k) (content_at d units) (is_run d units n r kept few) alone (stream_units_fit d units k s kept is)
+stream_back : (d : Scheduled) (changes : List Change) (units : ℕ → List AccessUnit) (n k : ℕ) (s : DescribedStream) → IsInRange d.description →
+    UnitsKept d units → n < 2 ^ 64 - 1 → slice_get d.description.streams k ≡ Some s →
+    found_on s.pid (run_bytes (content_over d changes units) 0 n) ≡ stream_findings d units n k s
+stream_back d changes units n k s r kept few is =
+    let alone = stream_alone_over d changes units k s r (contents_fit_over d changes units r kept) is in
+    streams_come_back (owned_stream d k s) n (units k) (content_over d changes units) (run_over d changes units n r kept few) alone
+    (stream_units_fit d units k s kept is)
     ∙ ap (λ (sent : List (Sending AccessUnit)). map (with_pid_at s.pid) (each_found (unit_found s.stream_id d.description.base0) n sent))
-    (units_are_placed (owned_stream d k s) n (units k) (content_at d units) alone)
+    (units_are_placed (owned_stream d k s) n (units k) (content_over d changes units) alone)
 
 table_back : (d : Scheduled) (units : ℕ → List AccessUnit) (n t : ℕ) → IsInRange d.description → UnitsKept d units → n < 2 ^ 64 - 1 →
     t < table_count d.description →
@@ -97,27 +103,45 @@ table_back d units n t r kept few lt reported =
 
 -- The findings of the whole run
 
+silent_over : (d : Scheduled) (changes : List Change) (units : ℕ → List AccessUnit) (n pid : ℕ) → IsRun n (content_over d changes units) →
+    (pid == 8191) ≡ false → IsSilent d.description pid → found_on pid (run_bytes (content_over d changes units) 0 n) ≡ []
+silent_over d changes units n pid run reported none =
+    nothing_comes_back pid n (content_over d changes units) run reported (λ t lt. all_silent d changes units pid t none)
+
 pub silent_back : (d : Scheduled) (units : ℕ → List AccessUnit) (n pid : ℕ) → IsRun n (content_at d units) → (pid == 8191) ≡ false →
     IsSilent d.description pid →
     found_on pid (run_bytes (content_at d units) 0 n) ≡ []
-silent_back d units n pid run reported none = nothing_comes_back pid n (content_at d units) run reported (λ t lt. all_silent d units pid t none)
+silent_back d units n pid run reported none = silent_over d [] units n pid run reported none
 
-known : (d : Scheduled) (units : ℕ → List AccessUnit) (n : ℕ) → IsRun n (content_at d units) → (pid : ℕ) → (pid == 8191) ≡ false →
-    IsSentOn d.description pid ⊎ (found_of pid (all_found (run_bytes (content_at d units) 0 n)) ≡ [])
-known d units n run pid reported = elim (sent_or_silent d.description pid) [
+known : (d : Scheduled) (changes : List Change) (units : ℕ → List AccessUnit) (n : ℕ) → IsRun n (content_over d changes units) → (pid : ℕ) →
+    (pid == 8191) ≡ false → IsSentOn d.description pid ⊎ (found_of pid (all_found (run_bytes (content_over d changes units) 0 n)) ≡ [])
+known d changes units n run pid reported = elim (sent_or_silent d.description pid) [
   | inl sent ↦ inl sent
-  | inr none ↦ inr (silent_back d units n pid run reported none)
+  | inr none ↦ inr (silent_over d changes units n pid run reported none)
 ]
+
+pub streams_back : StreamsBackLaw
+streams_back d changes units n r kept few =
+    let run = run_over d changes units n r kept few in
+    record {
+      streams = λ k s is. stream_back d changes units n k s r kept few is;
+      nothing_else = all_sent d.description (all_found (run_bytes (content_over d changes units) 0 n)) (all_is_of_pids n (content_over d changes units) run)
+          (known d changes units n run);
+      in_order = found_in_order n (content_over d changes units) run;
+    }
 
 pub given_back : GivenBackLaw
 given_back d units n r kept few =
-    let run = is_run d units n r kept few in
+    let back = streams_back d [] units n r kept few in
     record {
-      streams = λ k s is. stream_back d units n k s r kept few is;
+      streams = back.streams;
       tables = λ t lt reported. table_back d units n t r kept few lt reported;
-      nothing_else = all_sent d.description (all_found (run_bytes (content_at d units) 0 n)) (all_is_of_pids n (content_at d units) run) (known d units n run);
-      in_order = found_in_order n (content_at d units) run;
+      nothing_else = back.nothing_else;
+      in_order = back.in_order;
     }
+
+pub any_streams : AnyStateStreamsLaw
+any_streams h m n r st few = streams_back m.schedule h.changes h.units n r (units_kept h m r st) (omega (arith, few))
 
 pub any_state : AnyStateLaw
 any_state h m n r st few = given_back m.schedule h.units n r (units_kept h m r st) (omega (arith, few))

@@ -11,6 +11,7 @@ use Rattle.pid_findings.specs.Views.{IsErrored}
 use Rattle.pid_findings.specs.Views.{IsStray}
 use Rattle.pid_findings.specs.Views.{FindingView}
 use Rattle.laws_run.specs.PidLaws.{all_found, found_on}
+use Rattle.mux_core.specs.declared.room.Room.{Room}
 use Rattle.mux_core.specs.Scheduled.{Scheduled}
 use Rattle.mux_core.specs.Histories.{History, empty_history, content_at, bytes_of}
 use Rattle.mux_core.specs.Headline.{UnitsKept}
@@ -73,5 +74,5 @@ AnyStateCleanLaw = (h : History) (m : MuxState) (n : ℕ) → IsInRange m.schedu
 
 -- this holds for the history that any units and slots leave, in any order
 abbrev pub DrivenCleanLaw : Type 0
-DrivenCleanLaw = (d : Scheduled) (capacity : ℕ) (steps : List Step) → IsInRange d.description →
+DrivenCleanLaw = (d : Scheduled) (capacity : Room) (steps : List Step) → IsInRange d.description →
     IsClean d (bytes_of d (history_after d capacity empty_history steps))

@@ -11,8 +11,9 @@ use Rattle.laws_run.specs.Sent.{each_found}
 use Rattle.laws_run.specs.Units.{unit_found}
 use Rattle.laws_run.specs.Sections.{section_found}
 use Rattle.laws_run.specs.PidLaws.{all_found, found_on, InOrder}
+use Rattle.mux_core.specs.declared.room.Room.{Room}
 use Rattle.mux_core.specs.Scheduled.{Scheduled}
-use Rattle.mux_core.specs.Histories.{History, empty_history, owned_stream, table_of, content_at, bytes_of}
+use Rattle.mux_core.specs.Histories.{Change, History, empty_history, owned_stream, table_of, content_at, content_over, bytes_of}
 use Rattle.mux_core.specs.Headline.{UnitsKept}
 use Rattle.mux_core.specs.MuxStates.{MuxState, Represents}
 use Rattle.mux_core.specs.Events.{Step, history_after}
@@ -51,7 +52,22 @@ pub record GivenBack (d : Scheduled) (units : ℕ → List AccessUnit) (n : ℕ)
   -- in the order of the packets; findings that the end decides come last, with the number of packets
   pub in_order : InOrder 0 n (all_found bytes)
 
--- this holds for every run of fewer slots than a demultiplexer counts, over any schedule
+-- the same without what the texts decide: on a stream's PID exactly its units, and nothing but streams and tables
+pub record StreamsGivenBack (d : Scheduled) (units : ℕ → List AccessUnit) (n : ℕ) (bytes : List ℕ) : Type 0 where
+  pub streams : (k : ℕ) (s : DescribedStream) → slice_get d.description.streams k ≡ Some s → found_on s.pid bytes ≡ stream_findings d units n k s
+  pub nothing_else : All (IsOfSent d.description) (all_found bytes)
+  pub in_order : InOrder 0 n (all_found bytes)
+
+-- this holds however the texts change, and so for all that a multiplexer represents
+abbrev pub StreamsBackLaw : Type 0
+StreamsBackLaw = (d : Scheduled) (changes : List Change) (units : ℕ → List AccessUnit) (n : ℕ) → IsInRange d.description → UnitsKept d units →
+    n < 2 ^ 64 - 1 → StreamsGivenBack d units n (run_bytes (content_over d changes units) 0 n)
+
+abbrev pub AnyStateStreamsLaw : Type 0
+AnyStateStreamsLaw = (h : History) (m : MuxState) (n : ℕ) → IsInRange m.schedule.description → Represents h m → n ≤ 2 ^ 40 →
+    StreamsGivenBack m.schedule h.units n (run_bytes (content_over m.schedule h.changes h.units) 0 n)
+
+-- the whole holds for every run of fewer slots than a demultiplexer counts, over any schedule
 abbrev pub GivenBackLaw : Type 0
 GivenBackLaw = (d : Scheduled) (units : ℕ → List AccessUnit) (n : ℕ) → IsInRange d.description → UnitsKept d units → n < 2 ^ 64 - 1 →
     GivenBack d units n (run_bytes (content_at d units) 0 n)
@@ -61,9 +77,9 @@ abbrev pub AnyStateLaw : Type 0
 AnyStateLaw = (h : History) (m : MuxState) (n : ℕ) → IsInRange m.schedule.description → Represents h m → n ≤ 2 ^ 40 →
     GivenBack m.schedule h.units n (run_bytes (content_at m.schedule h.units) 0 n)
 
--- this holds for the history that any units and slots leave, in any order, if `capacity` units of a stream may wait; refused units are no part
+-- this holds for the history that any units and slots leave, in any order, with this room for the units of streams; refused units are no part
 -- of it
 abbrev pub DrivenLaw : Type 0
-DrivenLaw = (d : Scheduled) (capacity : ℕ) (steps : List Step) → IsInRange d.description →
+DrivenLaw = (d : Scheduled) (capacity : Room) (steps : List Step) → IsInRange d.description →
     GivenBack d (history_after d capacity empty_history steps).units (history_after d capacity empty_history steps).slots
     (bytes_of d (history_after d capacity empty_history steps))

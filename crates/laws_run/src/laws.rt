@@ -1,6 +1,6 @@
 //! What a demultiplexer finds in the finished bytes of a run. Each function does nothing: its contract is
 //! the law.
-ghost use Rattle.laws_run.specs.GivenBack.{GivenBackLaw, AnyStateLaw, DrivenLaw};
+ghost use Rattle.laws_run.specs.GivenBack.{GivenBackLaw, AnyStateLaw, DrivenLaw, StreamsBackLaw, AnyStateStreamsLaw};
 ghost use Rattle.laws_run.specs.Clean.{CleanLaw, AnyStateCleanLaw, DrivenCleanLaw};
 ghost use Rattle.laws_run.specs.Jobs.{JobLaw, JobCleanLaw};
 ghost use Rattle.laws_run.specs.Monitored.{SoundLaw, AnyStateSoundLaw, JobSoundLaw};
@@ -19,11 +19,13 @@ ghost use Rattle.laws_run.specs.WorkedSwitch.{WorkedSwitch};
 /// (ISO/IEC 13818-1, 2.4.3.7); on each table's PID exactly its sections as of their moments; and
 /// nothing else on any PID. Left open are PIDs with a ready-made section that is taken for a PES packet
 /// or for stuffing. For one plan and for two in turn; of units and slots in any order, accepted or
-/// refused.
+/// refused. The units also if the texts of the tables change.
 pub fn given_back()
     ensures whole { GivenBackLaw }
     ensures any_state { AnyStateLaw }
     ensures driven { DrivenLaw }
+    ensures streams { StreamsBackLaw }
+    ensures any_texts { AnyStateStreamsLaw }
 {}
 
 /// States that nothing is wrong with these bytes: no packet is refused, flagged in error, scrambled or
