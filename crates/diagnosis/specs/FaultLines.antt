@@ -1,6 +1,8 @@
 -- The line for why a description is refused.
 use Rattle.std.specs.Prelude.{ℕ, ◌==◌, Bool, List, [], ◌++◌, length, Option, Some, None, codes, decimal, if◌then◌else◌}
 use Rattle.description_keys.specs.KeyRows.{KeyRow, row_of as key_of}
+use Rattle.description_keys.specs.declared.key_row.KeyPart.{KeyPart}
+use Rattle.description_keys.specs.declared.key_row.KeyPart.TheVariants.{Network}
 use Rattle.description_keys.specs.declared.key_row.KeyKind.{KeyKind}
 use Rattle.description_keys.specs.declared.key_row.KeyKind.TheVariants as kind
 use Rattle.description_keys.specs.declared.fault.DescFault.{DescFault}
@@ -34,20 +36,29 @@ row_line (Some place) textless row item = row_words (Some place) ++ (table_words
 unfoldable pub key_line : List (List ℕ) → KeyRow → ℕ → List ℕ
 key_line lines row item = row_line (row_of row.part item row.name lines) (length lines == 0) row item
 
--- the tables of an array, by the key of the array: how many it may have, and the end of the line with the number for a transponder
+-- the tables of an array, by the key of the array: how many it may have, and the end of the line, with the number for a transponder if that
+-- is greater
 abbrev pub most_words : ℕ → ℕ → List ℕ
 most_words least most = if least == 0 then codes "expected at most " ++ decimal most else codes "expected " ++ (decimal least ++ (codes " to " ++ decimal most))
 
-abbrev pub more_words : ℕ → List ℕ → List ℕ
-more_words more name = codes " [[" ++ (name ++ (codes "]] tables, with transponder = true up to " ++ (decimal more ++ codes "\n")))
+abbrev pub array_words : List ℕ → List ℕ → List ℕ
+array_words parent name = codes " [[" ++ (parent ++ (name ++ codes "]] tables"))
 
-abbrev pub tables_words : ℕ → ℕ → ℕ → List ℕ → List ℕ
-tables_words least most more name = most_words least most ++ more_words more name
+abbrev pub more_words : ℕ → ℕ → List ℕ
+more_words most more = if most == more then codes "\n" else codes ", with transponder = true up to " ++ (decimal more ++ codes "\n")
+
+-- the table that has the array, with a dot; the document has no name
+unfoldable pub parent_words : KeyPart → List ℕ
+parent_words Network = codes "network."
+parent_words part = []
+
+abbrev pub tables_words : ℕ → ℕ → ℕ → KeyRow → List ℕ
+tables_words least most more row = most_words least most ++ array_words (parent_words row.part) row.name ++ more_words most more
 
 -- the network, an array, or another key
 unfoldable pub kind_line_by : KeyKind → List (List ℕ) → KeyRow → ℕ → List ℕ
 kind_line_by kind.OneTable lines row item = rule_words row
-kind_line_by (kind.Tables least most more) lines row item = tables_words least most more row.name
+kind_line_by (kind.Tables least most more) lines row item = tables_words least most more row
 kind_line_by other lines row item = key_line lines row item
 
 unfoldable pub kind_line : List (List ℕ) → KeyRow → ℕ → List ℕ

@@ -1,7 +1,7 @@
 -- The tables of a description that have keys: the part of each, and its number in its array, from 0; 0 for the document and its network.
 use Rattle.std.specs.Prelude.{ℕ, List, [], ◌++◌, Option, codes, decimal}
 use Rattle.description_keys.specs.declared.key_row.KeyPart.{KeyPart}
-use Rattle.description_keys.specs.declared.key_row.KeyPart.TheVariants.{Document, Network, Program, Stream, Event, Table}
+use Rattle.description_keys.specs.declared.key_row.KeyPart.TheVariants.{Document, Network, NetworkStream, Program, Stream, Event, Table}
 use Rattle.diagnosis.specs.KeyPlaces.{table_row, top_row}
 
 -- the head before its keys; the document has none
@@ -12,6 +12,7 @@ head_of Program = codes "[[program]]"
 head_of Stream = codes "[[stream]]"
 head_of Event = codes "[[event]]"
 head_of Table = codes "[[table]]"
+head_of NetworkStream = codes "[[network.stream]]"
 
 -- the line of a key of it
 unfoldable pub row_of : KeyPart → ℕ → List ℕ → List (List ℕ) → Option (ℕ × List ℕ)

@@ -5,7 +5,7 @@ use Rattle.std.specs.List.{before_first, position_or_len}
 use Rattle.std.specs.Str.{bytes_eq, is_utf8}
 use Rattle.description_keys.specs.Refusals.{names_of as keys_of}
 use Rattle.description_keys.specs.declared.key_row.KeyPart.{KeyPart}
-use Rattle.description_keys.specs.declared.key_row.KeyPart.TheVariants.{Document, Network, Program, Stream, Event, Table}
+use Rattle.description_keys.specs.declared.key_row.KeyPart.TheVariants.{Document, Network, NetworkStream, Program, Stream, Event, Table}
 use Rattle.description_values.specs.KnownKeys.{is_among}
 use Rattle.word_faults.specs.Hints.{nearest}
 use Rattle.diagnosis.specs.EqualKeys.{first_word}
@@ -17,7 +17,7 @@ document = Document
 -- 1. The tables and keys of a description
 
 abbrev pub head_names : List (List ℕ)
-head_names = codes "[network]" ∷ codes "[[program]]" ∷ codes "[[stream]]" ∷ codes "[[event]]" ∷ codes "[[table]]" ∷ []
+head_names = codes "[network]" ∷ codes "[[network.stream]]" ∷ codes "[[program]]" ∷ codes "[[stream]]" ∷ codes "[[event]]" ∷ codes "[[table]]" ∷ []
 
 -- the keys of a part; in place of an unknown one, the heads
 unfoldable pub names_of : Option KeyPart → List (List ℕ)
@@ -31,7 +31,8 @@ part_on word =
     else (if bytes_eq word (codes "[[program]]") then Some Program
     else (if bytes_eq word (codes "[[stream]]") then Some Stream
     else (if bytes_eq word (codes "[[event]]") then Some Event
-    else (if bytes_eq word (codes "[[table]]") then Some Table else None))))
+    else (if bytes_eq word (codes "[[table]]") then Some Table
+    else (if bytes_eq word (codes "[[network.stream]]") then Some NetworkStream else None)))))
 
 -- 2. The first word of a line
 

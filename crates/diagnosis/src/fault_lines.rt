@@ -8,7 +8,7 @@ use crate::equal_keys::{EqualKeys, write_equal};
 use crate::key_places::write_row;
 use crate::key_tables::{row_of, write_table};
 use crate::key_words::write_values;
-use description_keys::{DescFault, KeyKind, KeyRow, keys};
+use description_keys::{DescFault, KeyKind, KeyPart, KeyRow, keys};
 use std::alloc::AllocError;
 use std::fmt::Write;
 
@@ -77,14 +77,33 @@ fn write_most(least: usize, most: usize, text: &mut String) -> Result<(), AllocE
     }
 }
 
-// Appends the end of the line: the key of the array, and how many tables a transponder may have.
-fn write_more(more: usize, name: &str, text: &mut String) -> Result<(), AllocError>
-    ensures { OnOk result (string_bytes text.new ≡ string_bytes text.old ++ spec.more_words more name.now) }
+// Returns the name of the table that has an array, with a dot; the document has no name.
+#[tactic(auto, unfolding(crate::specs::FaultLines::parent_words))]
+fn parent_of(part: KeyPart) -> &'static str
+    ensures { result.now ≡ spec.parent_words part }
 {
-    write!(
-        text,
-        " [[{name}]] tables, with transponder = true up to {more}\n"
-    )
+    match part {
+        KeyPart::Network => "network.",
+        _ => "",
+    }
+}
+
+// Appends the head of an array.
+fn write_array(parent: &str, name: &str, text: &mut String) -> Result<(), AllocError>
+    ensures { OnOk result (string_bytes text.new ≡ string_bytes text.old ++ spec.array_words parent.now name.now) }
+{
+    write!(text, " [[{parent}{name}]] tables")
+}
+
+// Appends the end of the line: how many tables a transponder may have, if they are more.
+fn write_more(most: usize, more: usize, text: &mut String) -> Result<(), AllocError>
+    ensures { OnOk result (string_bytes text.new ≡ string_bytes text.old ++ spec.more_words most more) }
+{
+    if most == more {
+        text.push_str("\n")
+    } else {
+        write!(text, ", with transponder = true up to {more}\n")
+    }
 }
 
 // Appends how many tables of an array are expected.
@@ -92,13 +111,15 @@ fn write_tables(
     least: usize,
     most: usize,
     more: usize,
-    name: &str,
+    row: &KeyRow,
     text: &mut String,
 ) -> Result<(), AllocError>
-    ensures { OnOk result (string_bytes text.new ≡ string_bytes text.old ++ spec.tables_words least most more name.now) }
+    ensures { OnOk result (string_bytes text.new ≡ string_bytes text.old
+        ++ spec.tables_words least most more (view row.now)) }
 {
     write_most(least, most, text)?;
-    write_more(more, name, text)
+    write_array(parent_of(row.0), row.2, text)?;
+    write_more(most, more, text)
 }
 
 // Appends the line of a key's row, of the table with a number in its array.
@@ -114,7 +135,7 @@ fn write_kind(
 {
     match row.3 {
         KeyKind::OneTable => write_rule(row, text),
-        KeyKind::Tables(least, most, more) => write_tables(least, most, more, row.2, text),
+        KeyKind::Tables(least, most, more) => write_tables(least, most, more, row, text),
         _ => write_key(lines, row, item, text),
     }
 }

@@ -20,6 +20,7 @@ fn head_of(part: KeyPart) -> &'static str
         KeyPart::Stream => "[[stream]]",
         KeyPart::Event => "[[event]]",
         KeyPart::Table => "[[table]]",
+        KeyPart::NetworkStream => "[[network.stream]]",
     }
 }
 

@@ -19,8 +19,7 @@ fn kind_words(kind: KeyKind) -> &'static str
             "a time in quotation marks, YYYY-MM-DDThh:mm:ss, 1970-01-01T00:00:00 to 2037-12-31T23:59:59"
         }
         KeyKind::Flag(_) => "true or false",
-        KeyKind::Language | KeyKind::LanguageIfAny => "three ASCII letters",
-        KeyKind::Descriptors => "hex of whole descriptors, up to 700 bytes",
+        KeyKind::LanguageIfAny => "three ASCII letters",
         KeyKind::Sections => {
             "1 to 8 strings of hex, each a whole section of up to 4096 bytes with its check word"
         }
@@ -44,6 +43,13 @@ fn write_length(most: u8, text: &mut String) -> Result<(), AllocError>
     write!(text, "a text of up to {most} bytes")
 }
 
+// Appends how long a loop of descriptors may be.
+fn write_loop(most: usize, text: &mut String) -> Result<(), AllocError>
+    ensures { OnOk result (string_bytes text.new ≡ string_bytes text.old ++ spec.loop_words most) }
+{
+    write!(text, "hex of whole descriptors, up to {most} bytes")
+}
+
 /// Appends the values that the key of a row may have.
 #[tactic(auto, unfolding(crate::specs::KeyWords::values_of, crate::specs::KeyWords::values_text))]
 pub(crate) fn write_values(row: &KeyRow, text: &mut String) -> Result<(), AllocError>
@@ -53,7 +59,8 @@ pub(crate) fn write_values(row: &KeyRow, text: &mut String) -> Result<(), AllocE
         KeyKind::Number(least, most) => write_range(least, most, row.4, text),
         KeyKind::NumberOr(_, least, most) => write_range(least, most, row.4, text),
         KeyKind::NumberIfAny(least, most) => write_range(least, most, row.4, text),
-        KeyKind::Text(most) | KeyKind::TextOrEmpty(most) => write_length(most, text),
+        KeyKind::TextOrEmpty(most) => write_length(most, text),
+        KeyKind::Descriptors(most) => write_loop(most, text),
         KeyKind::Joint(_) => text.push_str(row.4),
         kind => text.push_str(kind_words(kind)),
     }

@@ -34,6 +34,8 @@ fn part_on(word: &[u8]) -> Option<KeyPart>
         Some(KeyPart::Event)
     } else if word == b"[[table]]".as_slice() {
         Some(KeyPart::Table)
+    } else if word == b"[[network.stream]]".as_slice() {
+        Some(KeyPart::NetworkStream)
     } else {
         None
     }
@@ -148,6 +150,7 @@ fn meant_names(alloc: Global, part: Option<KeyPart>) -> Result<Vec<String>, Allo
             alloc,
             &[
                 "[network]",
+                "[[network.stream]]",
                 "[[program]]",
                 "[[stream]]",
                 "[[event]]",
