@@ -1,20 +1,20 @@
 -- Another number of a sub-table changes nothing else in a description.
 use Rattle.std.proofs.Common.{◌≡◌, ◌≢◌, ℕ, zero, suc, ◌+◌, ◌<◌, ◌≤◌, Bool, true, false, List, [], ◌∷◌, ◌++◌, length, map, filter, sum_by, get_or, slice_get, slice_set, All, Contains}
-use Rattle.std.proofs.Common.{Option, None, Some, option_map, nat_eq, if◌then◌else◌, refl, ap, sym, subst, ◌∙◌, arith}
+use Rattle.std.proofs.Common.{Option, None, Some, nat_eq, if◌then◌else◌, refl, ap, sym, subst, ◌∙◌, arith}
 use Rattle.std.proofs.lemmas.List.{length-map}
 use Rattle.std.proofs.lemmas.List.Elements.{All-nil, All-cons, All-head, All-tail}
 use Rattle.std.specs.List.{IsDistinct}
 use Rattle.std.specs.Option.{option_to_list}
-use Rattle.description_parts.specs.Described.{Described, DescribedProgram, DescribedStream, DescribedTable}
+use Rattle.description_parts.specs.Described.{Described, DescribedProgram}
 use Rattle.description_parts.specs.declared.versions.Versions.{Versions}
 use Rattle.description_parts.specs.Numbers.{with_versions, with_programs, with_pmt_version, with_eit_count, numbered_if, numbered_at}
-use Rattle.description_parts.specs.Ranges.{IsInRange, IsProgram, IsStream, IsSharing, IsListed, AreVersions, named_pids, program_numbers, longest_section}
-use Rattle.description_parts.specs.Tables.{pmt_length, kind_lengths, section_count}
+use Rattle.description_parts.specs.Ranges.{IsInRange, IsProgram, AreVersions, named_pids, longest_section}
+use Rattle.description_parts.specs.Tables.{pmt_length, kind_lengths}
 use Rattle.description_parts.specs.declared.table_kind.TableKind.TheVariants as kind
 use Rattle.description.specs.declared.sub_table.SubTable.{SubTable}
 use Rattle.description.specs.declared.sub_table.SubTable.TheVariants.{Pat, Nit, Sdt, Map, Events}
 use Rattle.description.specs.SubTables.{sub_table_number, program_number_by, count_of, with_count, sections_in}
-use Rattle.description.specs.Versions.{without_number, without_versions, IsCounted, CountedLaw, CountLaw}
+use Rattle.description.specs.Versions.{without_number, without_versions, CountedLaw, CountLaw}
 use Rattle.description.proofs.Pids.{at_place}
 use Rattle.description.proofs.SameTables.{bare, sum_bare, each_bare, lengths_bare}
 use Rattle.description.proofs.Versions.{number_within, no_map, no_section}
@@ -184,7 +184,7 @@ other_programs d ps same programs r = record {
   distinct_pids = subst (IsDistinct nat_eq) (sym pids) r.distinct_pids;
   distinct_numbers = subst (IsDistinct nat_eq) (sym numbers) r.distinct_numbers;
   pmt_lengths = over (λ p. pmt_length d p ≤ longest_section) d.programs ps same (λ p h. h) (λ p h. h) r.pmt_lengths;
-  nit_length = r.nit_length;
+  nit_lengths = r.nit_lengths;
   sdt_lengths = λ there. subst (All (λ l. l ≤ longest_section)) (sym lengths) (r.sdt_lengths there);
 }
   where
@@ -238,7 +238,7 @@ other_versions d v versions r = record {
   distinct_pids = r.distinct_pids;
   distinct_numbers = r.distinct_numbers;
   pmt_lengths = r.pmt_lengths;
-  nit_length = r.nit_length;
+  nit_lengths = r.nit_lengths;
   sdt_lengths = r.sdt_lengths;
 }
 
@@ -267,9 +267,8 @@ renumbered_program p v n small few is = record {
   pmt_version = small;
   eit_count = few;
   descriptors = is.descriptors;
-  service_type = is.service_type;
-  provider = is.provider;
-  name = is.name;
+  service_descriptors = is.service_descriptors;
+  running_status = is.running_status;
   events = is.events;
 }
 

@@ -1,6 +1,5 @@
 pub mod Read
 pub mod LoopLengths
-pub mod EventPlaces
 pub mod NetworkFacts
 pub mod SectionBounds
 pub mod PidCounts
@@ -8,7 +7,9 @@ pub mod Pids
 pub mod Allowed
 pub mod SectionCounts
 pub mod Entries
+pub mod SaidParts
 pub mod Services
+pub mod Networks
 pub mod ScheduledPlaces
 pub mod Renumbered
 pub mod Versions

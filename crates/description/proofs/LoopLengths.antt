@@ -7,7 +7,7 @@ use Rattle.psi_tables.specs.ProgramMap.{StreamView, streams_bytes, stream_bytes}
 use Rattle.psi_tables.proofs.StreamEncodings.{length_stream_bytes}
 use Rattle.bit_fields.specs.Fields.{bit}
 use Rattle.dvb_tables.specs.RunningStates.{status_code}
-use Rattle.dvb_tables.specs.Descriptors.{iso_639_language_descriptor, network_name_descriptor, service_descriptor, stream_identifier_descriptor}
+use Rattle.dvb_tables.specs.Descriptors.{iso_639_language_descriptor, stream_identifier_descriptor}
 use Rattle.dvb_tables.specs.Services.{ServiceView, services_bytes, service_bytes, service_front}
 use Rattle.dvb_tables.specs.TransportStreams.{TransportStreamView, transport_streams_bytes, transport_stream_bytes, transport_stream_front}
 use Rattle.dvb_tables.specs.EventEntries.{EventView, events_bytes, event_bytes, event_status}
@@ -34,22 +34,14 @@ pub services_bytes-push : (ss : List ServiceView) (s : ServiceView) → length (
 unfolding services_bytes
 services_bytes-push ss s = omega (arith, flat_push service_bytes ss s, length_service_bytes s)
 
-length_transport_stream_bytes : (t : TransportStreamView) → length (transport_stream_bytes t) ≡ 6 + length t.descriptors
+pub length_transport_stream_bytes : (t : TransportStreamView) → length (transport_stream_bytes t) ≡ 6 + length t.descriptors
 unfolding transport_stream_bytes transport_stream_front
 length_transport_stream_bytes t = omega arith
 
-pub transport_streams_bytes-one : (t : TransportStreamView) → length (transport_streams_bytes (t ∷ [])) ≡ 6 + length t.descriptors
+pub transport_streams_bytes-push : (ts : List TransportStreamView) (t : TransportStreamView)
+    → length (transport_streams_bytes (ts ++ t ∷ [])) ≡ length (transport_streams_bytes ts) + 6 + length t.descriptors
 unfolding transport_streams_bytes
-transport_streams_bytes-one t = omega (arith, length-append (transport_stream_bytes t) [], length_transport_stream_bytes t)
-
-pub service_descriptor-length : (service_type : ℕ) (provider name : List ℕ) → length (service_descriptor service_type provider name) ≡ 5 + length provider
-    + length name
-unfolding service_descriptor
-service_descriptor-length service_type provider name = omega (arith, length-append provider (length name ∷ name))
-
-pub network_name_descriptor-length : (name : List ℕ) → length (network_name_descriptor name) ≡ 2 + length name
-unfolding network_name_descriptor
-network_name_descriptor-length name = omega arith
+transport_streams_bytes-push ts t = omega (arith, flat_push transport_stream_bytes ts t, length_transport_stream_bytes t)
 
 -- The lengths of a stream's descriptors
 tag-length : (o : Option ℕ) → length (tag_bytes o) ≡ (if is_some o then 3 else 0)
@@ -96,11 +88,9 @@ pub no_service_bytes : length (services_bytes []) ≡ 0
 unfolding services_bytes
 no_service_bytes = refl
 
-pub one_transport_stream : (t : TransportStreamView) (held : List TransportStreamView) → held ≡ [] → length t.descriptors ≤ 966
-    → length (transport_streams_bytes (held ++ t ∷ [])) ≤ 1008
-one_transport_stream t held none few =
-    let is : length (transport_streams_bytes (held ++ t ∷ [])) ≡ 6 + length t.descriptors = rw none (transport_streams_bytes-one t) in
-    omega (arith, is, few)
+pub no_transport_stream_bytes : length (transport_streams_bytes []) ≡ 0
+unfolding transport_streams_bytes
+no_transport_stream_bytes = refl
 
 pub length_event_bytes : (e : EventView) → length (event_bytes e) ≡ 4 + length e.start_time + length e.duration + length e.descriptors
 unfolding event_bytes event_status
@@ -115,7 +105,7 @@ length_event_bytes e =
       length-append id e.start_time,
     )
 
-pub one_event_entry : (e : EventView) (held : List EventView) → held ≡ [] → length e.start_time ≡ 5 → length e.duration ≡ 3 → length e.descriptors ≤ 257
+pub one_event_entry : (e : EventView) (held : List EventView) → held ≡ [] → length e.start_time ≡ 5 → length e.duration ≡ 3 → length e.descriptors ≤ 4000
     → length (events_bytes (held ++ e ∷ [])) ≤ 4078
 unfolding events_bytes
 one_event_entry e held none start duration few =

@@ -1,12 +1,15 @@
 -- The number of times a number is in a list; no PID is twice among the PIDs of an output.
-use Rattle.std.proofs.Common.{◌≡◌, ◌⊎◌, ℕ, zero, suc, ◌+◌, ◌<◌, ◌≤◌, ◌==◌, nat_eq, nat_lt, Bool, true, false, cond, List, [], ◌∷◌, ◌++◌, map, slice_get}
-use Rattle.std.proofs.Common.{Option, None, Some, flat_map, refl, ap, ◌∙◌, arith, sum_by, All, inl, inr, eq-eqb}
+use Rattle.std.proofs.Common.{◌≡◌, ◌⊎◌, ℕ, zero, suc, ◌+◌, ◌<◌, ◌≤◌, ◌==◌, nat_eq, nat_lt, Bool, true, false, cond, List, [], ◌∷◌, ◌++◌, length, map, slice_get}
+use Rattle.std.proofs.Common.{Option, None, Some, find, position, flat_map, refl, ap, ◌∙◌, arith, sum_by, All, inl, inr, eq-eqb}
 use Rattle.std.specs.Option.{option_to_list}
-use Rattle.std.proofs.lemmas.Bool.{and_parts, eqb-true, ltb-true, ne_eqb, cases_Bool}
+use Rattle.std.proofs.lemmas.Bool.{and_parts, cases_lt, eqb-true, ltb-true, ne_eqb, cases_Bool}
+use Rattle.std.proofs.lemmas.Bool.Decides.{nat_tests}
+use Rattle.std.proofs.lemmas.List.Folds.{find_at}
+use Rattle.std.proofs.lemmas.Option.{slice_get_past}
 use Rattle.std.proofs.lemmas.List.Sums.{sum_by-cons, sum_by-append}
 use Rattle.std.proofs.lemmas.List.Elements.{All-head, All-tail}
 use Rattle.std.proofs.lemmas.Map.Keys.{IsDistinct-head, IsDistinct-tail}
-use Rattle.std.specs.List.{IsDistinct, AllByRecursion, list_all}
+use Rattle.std.specs.List.{IsDistinct, AllByRecursion, list_all, position_or_len}
 use Rattle.description_parts.specs.Ranges.{IsPid}
 
 -- The number of times x is in the list
@@ -86,3 +89,10 @@ none_outside f x (e ∷ es) out h =
     let is = All-head (λ e. IsPid (f e)) e es h in
     let other : x ≡ f e → ⊥ = elim out [ inl low ↦ (λ same. omega (arith, same, low, is.low)) | inr high ↦ (λ same. omega (arith, same, high, is.high)) ] in
     not_here x (f e) (map f es) (ne_eqb x (f e) other) ∙ none_outside f x es out (All-tail (λ e. IsPid (f e)) e es h)
+
+-- An element that has no place is not found.
+pub missed : {X : Type 0} (p : X → Bool) (xs : List X) → position p xs ≡ None → find p xs ≡ None
+missed p xs h = elim (cases_lt (position_or_len p xs) (length xs)) [
+  | inl within ↦ absurd (grind (arith, nat_tests, within, h))
+  | inr past ↦ find_at p xs ∙ slice_get_past xs (position_or_len p xs) past
+]

@@ -6,7 +6,6 @@ use Rattle.std.proofs.lemmas.List.{length-map, map-append}
 use Rattle.std.proofs.lemmas.List.Concat.{flat_map-append}
 use Rattle.std.specs.Option.{option_to_list}
 use Rattle.std.proofs.lemmas.List.Elements.{All-head, All-tail, All-nil, All-cons}
-use Rattle.std.specs.List.{list_any}
 use Rattle.description_parts.specs.Described.{Described, DescribedProgram, DescribedStream, DescribedTable}
 use Rattle.description_parts.specs.Ranges.{IsInRange, IsProgram, IsStream, IsTable, named_pids}
 use Rattle.description_parts.specs.Tables.{shares_clock, clock_holder}
@@ -15,8 +14,7 @@ use Rattle.description_parts.specs.declared.table_kind.TableKind.{TableKind}
 use Rattle.description_parts.specs.declared.table_kind.TableKind.TheVariants.{Pat, Pmt, Nit, Sdt, Eit, Tdt, Private}
 use Rattle.description.specs.Pids.{references_pid, all_pids, PidsApartLaw, PidsBelowLaw, PidPositionsLaw, StreamRangeLaw, ProgramRangeLaw}
 use Rattle.description_parts.proofs.Distinct.{IsDistinct-is}
-use Rattle.description.proofs.EventPlaces.{missed}
-use Rattle.description.proofs.PidCounts.{times, times-append, present, present-map, some_times, two_times, at_most_once, none_low, none_outside}
+use Rattle.description.proofs.PidCounts.{times, times-append, present, present-map, some_times, two_times, at_most_once, none_low, none_outside, missed}
 
 -- Elements that are looked up by their numbers, from n on
 numbered : {X K : Type 0} (f : K → ℕ) (c : ℕ → K) (g : X → ℕ) (n : ℕ) (xs : List X) → ((i : ℕ) (x : X) → slice_get xs i ≡ Some x → f (c (n + i)) ≡ g x)

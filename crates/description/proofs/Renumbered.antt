@@ -11,10 +11,11 @@ use Rattle.dvb_tables.specs.NetworkInformation.{nit_body, nit_section}
 use Rattle.dvb_tables.specs.ServiceDescription.{sdt_body, sdt_section}
 use Rattle.dvb_tables.specs.EventInformation.{eit_body, eit_section}
 use Rattle.description_parts.specs.Described.{Described, DescribedNetwork, DescribedProgram}
-use Rattle.description_parts.specs.Tables.{sdt_parts}
+use Rattle.description_parts.specs.Tables.{nit_parts, sdt_parts}
+use Rattle.description_parts.specs.declared.network_stream.NetworkStream.{NetworkStream}
 use Rattle.description.specs.declared.sub_table.SubTable.{SubTable}
 use Rattle.description.specs.declared.sub_table.SubTable.TheVariants.{Pat, Nit, Sdt, Map, Events}
-use Rattle.description.specs.SectionBytes.{part_header, pat_of, pmt_of, nit_of, sdt_of, eit_of, sdt_part_bytes}
+use Rattle.description.specs.SectionBytes.{part_header, pat_of, pmt_of, network_bytes, nit_of, sdt_of, eit_of, sdt_part_bytes}
 use Rattle.description.specs.SubTables.{section_of}
 
 -- The byte that has the version, the bytes with their check word, and another version in a section
@@ -51,12 +52,18 @@ pub shows : (table_id : ℕ) (private : Bool) (extension version number last : �
 unfolding section_bytes with_crc header_bytes front_bytes start_bytes long_header_bytes
 shows table_id private extension version number last body = refl
 
-network : (d : Described) (v : ℕ) (o : Option DescribedNetwork)
-    → (elim o as (λ _. List ℕ) [ None ↦ [] | Some n ↦ section_bytes (nit_section (nit_of d n v)) ])
-    ≡ renumbered v (elim o as (λ _. List ℕ) [ None ↦ [] | Some n ↦ section_bytes (nit_section (nit_of d n 0)) ])
+streams : (n : DescribedNetwork) (v number last : ℕ) (o : Option (List NetworkStream))
+    → (elim o as (λ _. List ℕ) [ None ↦ [] | Some part ↦ section_bytes (nit_section (nit_of n part v number last)) ])
+    ≡ renumbered v (elim o as (λ _. List ℕ) [ None ↦ [] | Some part ↦ section_bytes (nit_section (nit_of n part 0 number last)) ])
 unfolding nit_section nit_body
-network d v None = refl
-network d v (Some n) = renumber 0x40 true n.id v 0 0 (nit_body (nit_of d n v))
+streams n v number last None = refl
+streams n v number last (Some part) = renumber 0x40 true n.id v number last (nit_body (nit_of n part v number last))
+
+network : (d : Described) (v number : ℕ) (o : Option DescribedNetwork)
+    → (elim o as (λ _. List ℕ) [ None ↦ [] | Some n ↦ network_bytes n (nit_parts d n) v number ])
+    ≡ renumbered v (elim o as (λ _. List ℕ) [ None ↦ [] | Some n ↦ network_bytes n (nit_parts d n) 0 number ])
+network d v number None = refl
+network d v number (Some n) = streams n v number (length (nit_parts d n) - 1) (slice_get (nit_parts d n) number)
 
 part : (d : Described) (v number last : ℕ) (o : Option (List DescribedProgram))
     → (elim o as (λ _. List ℕ) [ None ↦ [] | Some ps ↦ section_bytes (sdt_section (sdt_of d ps v number last)) ])
@@ -90,7 +97,7 @@ association d v = renumber 0 false d.transport_stream_id v 0 0 (programs_bytes (
 
 again : (d : Described) (x : SubTable) (v number moment : ℕ) → section_of d x v number moment ≡ renumbered v (section_of d x 0 number moment)
 again d Pat v number moment = association d v
-again d Nit v number moment = network d v d.network
+again d Nit v number moment = network d v number d.network
 again d Sdt v number moment = services d v number d.has_sdt
 again d (Map p) v number moment = program d v (slice_get d.programs p)
 again d (Events p) v number moment = events d moment v number (slice_get d.programs p)

@@ -1,28 +1,29 @@
 -- Versions change no table, length or section but for its version.
-use Rattle.std.proofs.Common.{◌≡◌, ℕ, zero, suc, ◌+◌, ◌-◌, ◌*◌, ◌/◌, ◌%◌, ◌==◌, ◌||◌, nat_le, Bool, true, false, List, [], ◌∷◌, ◌++◌, length, map, filter, sum_by, slice_get, Option, None, Some}
-use Rattle.std.proofs.Common.{option_map, option_and_then, is_some, if◌then◌else◌, refl, ap, ap₂, sym, ◌∙◌, All}
+use Rattle.std.proofs.Common.{◌≡◌, ℕ, zero, suc, ◌+◌, ◌-◌, ◌*◌, ◌/◌, ◌%◌, ◌==◌, ◌&&◌, ◌||◌, nat_le, Bool, true, false, List, [], ◌∷◌, ◌++◌, length, map, filter, sum_by, slice_get, Option, None, Some}
+use Rattle.std.proofs.Common.{option_map, option_and_then, is_some, if◌then◌else◌, refl, ap, ap₂, sym, ◌∙◌}
 use Rattle.std.proofs.lemmas.List.{length-map, map-append}
 use Rattle.std.proofs.lemmas.List.Sums.{sum_by-cons}
 use Rattle.std.specs.List.{list_any}
 use Rattle.std.specs.Option.{option_to_list}
 use Rattle.psi_tables.specs.Encoding.{section_bytes}
-use Rattle.psi_tables.specs.ProgramAssociation.{PatView, pat_section}
+use Rattle.psi_tables.specs.ProgramAssociation.{pat_section}
 use Rattle.psi_tables.specs.ProgramMap.{pmt_section}
 use Rattle.psi_tables.specs.declared.pat.programs.Program.{Program as PatEntry}
 use Rattle.dvb_tables.specs.Services.{ServiceView}
 use Rattle.dvb_tables.specs.ServiceDescription.{sdt_section}
 use Rattle.dvb_tables.specs.EventInformation.{eit_section}
 use Rattle.description_parts.specs.Described.{Described, DescribedProgram}
-use Rattle.description_parts.specs.Tables.{numbers_from, only_if, has_event, is_scheduled, scheduled_programs, has_events_table, service_tables, table_kinds, table_kind}
-use Rattle.description_parts.specs.Tables.{kind_pid, kind_limit, table_pid, table_limit, service_length, takes_service, services_cut, sdt_parts, most_services, services_length}
+use Rattle.description_parts.specs.Tables.{numbers_from, only_if, has_event, is_scheduled, scheduled_programs, service_tables, table_kinds, table_kind}
+use Rattle.description_parts.specs.Tables.{kind_pid, kind_limit, table_pid, table_limit, service_length, sdt_parts, most_services, services_length}
+use Rattle.description_parts.specs.Cuts.{cut, takes_next}
 use Rattle.description_parts.specs.Tables.{room_length, most_bytes, section_overhead, eit_lengths, schedule_length, eit_room, eit_place, map_length, kind_lengths, section_lengths}
 use Rattle.description_parts.specs.declared.table_kind.TableKind.{TableKind}
 use Rattle.description_parts.specs.declared.table_kind.TableKind.TheVariants as kind
 use Rattle.description.specs.declared.sub_table.SubTable.{SubTable}
 use Rattle.description.specs.declared.sub_table.SubTable.TheVariants.{Pat, Nit, Sdt, Map, Events}
-use Rattle.description.specs.SectionBytes.{part_header, network_entries, pat_entry, pat_of, pmt_of, service_says, sdt_of, sdt_part_bytes, eit_of}
-use Rattle.description.specs.SubTables.{places_where, scheduled_places, sub_table_in, sub_table_of, number_in, number_of, sections_in, section_of}
-use Rattle.description.specs.Versions.{without_number, without_versions, HasSameTables, SameTablesLaw}
+use Rattle.description.specs.SectionBytes.{part_header, network_entries, pat_entry, pmt_of, service_says, sdt_of, sdt_part_bytes, eit_of}
+use Rattle.description.specs.SubTables.{places_where, sub_table_in, sub_table_of, number_in, number_of, sections_in, section_of}
+use Rattle.description.specs.Versions.{without_number, without_versions, SameTablesLaw}
 
 abbrev pub bare : List DescribedProgram → List DescribedProgram
 bare ps = map without_number ps
@@ -72,27 +73,31 @@ sum_last : (ps : List DescribedProgram) (p : DescribedProgram) → sum_by servic
 sum_last ps p =
     ap (sum_by service_length) (sym (map-append without_number ps (p ∷ []))) ∙ sum_bare service_length (ps ++ p ∷ []) (λ q. refl)
 
-takes_bare : (begun : List DescribedProgram) (p : DescribedProgram) → takes_service (bare begun) (without_number p) ≡ takes_service begun p
-takes_bare begun p =
-    ap₂ (λ (a b : ℕ). a == 0 || nat_le b most_services) (length-map begun without_number) (sum_last begun p)
+takes_bare : (used : ℕ) (begun : List DescribedProgram) (p : DescribedProgram)
+    → takes_next service_length most_services used (bare begun) (without_number p) ≡ takes_next service_length most_services used begun p
+takes_bare used begun p =
+    ap₂ (λ (a b : ℕ). (used == 0 && a == 0) || nat_le (used + b) most_services) (length-map begun without_number) (sum_last begun p)
 
 parts_if : (b : Bool) (these others : List (List DescribedProgram)) (these' others' : List (List DescribedProgram)) → these' ≡ map bare these → others' ≡ map bare others
     → (if b then these' else others') ≡ map bare (if b then these else others)
 parts_if true these others these' others' e f = e
 parts_if false these others these' others' e f = f
 
-cut_bare : (begun ps : List DescribedProgram) → services_cut (bare begun) (bare ps) ≡ map bare (services_cut begun ps)
-cut_bare begun [] = refl
-cut_bare begun (p ∷ ps) =
-    let more = ap (λ (qs : List DescribedProgram). services_cut qs (bare ps)) (sym (map-append without_number begun (p ∷ []))) ∙ cut_bare (begun ++ p ∷ []) ps in
-    let next = ap (λ (rest : List (List DescribedProgram)). bare begun ∷ rest) (cut_bare (p ∷ []) ps) in
-    ap (λ (b : Bool). if b then services_cut (bare begun ++ without_number p ∷ []) (bare ps) else bare begun ∷ services_cut (without_number p ∷ []) (bare ps))
-    (takes_bare begun p)
-    ∙ parts_if (takes_service begun p) (services_cut (begun ++ p ∷ []) ps) (begun ∷ services_cut (p ∷ []) ps)
-    (services_cut (bare begun ++ without_number p ∷ []) (bare ps)) (bare begun ∷ services_cut (without_number p ∷ []) (bare ps)) more next
+abbrev cut_into : ℕ → List DescribedProgram → List DescribedProgram → List (List DescribedProgram)
+cut_into used begun ps = cut service_length most_services used begun ps
+
+cut_bare : (used : ℕ) (begun ps : List DescribedProgram) → cut_into used (bare begun) (bare ps) ≡ map bare (cut_into used begun ps)
+cut_bare used begun [] = refl
+cut_bare used begun (p ∷ ps) =
+    let more = ap (λ (qs : List DescribedProgram). cut_into used qs (bare ps)) (sym (map-append without_number begun (p ∷ []))) ∙ cut_bare used (begun ++ p ∷ []) ps in
+    let next = ap (λ (rest : List (List DescribedProgram)). bare begun ∷ rest) (cut_bare 0 (p ∷ []) ps) in
+    ap (λ (b : Bool). if b then cut_into used (bare begun ++ without_number p ∷ []) (bare ps) else bare begun ∷ cut_into 0 (without_number p ∷ []) (bare ps))
+    (takes_bare used begun p)
+    ∙ parts_if (takes_next service_length most_services used begun p) (cut_into used (begun ++ p ∷ []) ps) (begun ∷ cut_into 0 (p ∷ []) ps)
+    (cut_into used (bare begun ++ without_number p ∷ []) (bare ps)) (bare begun ∷ cut_into 0 (without_number p ∷ []) (bare ps)) more next
 
 parts_bare : (d : Described) → sdt_parts (without_versions d) ≡ map bare (sdt_parts d)
-parts_bare d = parts_if d.is_transponder (services_cut [] d.programs) (d.programs ∷ []) (services_cut [] (bare d.programs)) (bare d.programs ∷ []) (cut_bare [] d.programs) refl
+parts_bare d = parts_if d.is_transponder (cut_into 0 [] d.programs) (d.programs ∷ []) (cut_into 0 [] (bare d.programs)) (bare d.programs ∷ []) (cut_bare 0 [] d.programs) refl
 
 -- Tables
 service_tables_bare : (d : Described) → service_tables (without_versions d) ≡ service_tables d

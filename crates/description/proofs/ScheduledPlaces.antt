@@ -1,5 +1,5 @@
 -- The programs of the EIT by their places among all programs.
-use Rattle.std.proofs.Common.{◌≡◌, ℕ, zero, suc, ◌+◌, Bool, true, false, cond, List, [], ◌∷◌, map, drop, length, filter, slice_get, Option, None, Some, option_map}
+use Rattle.std.proofs.Common.{◌≡◌, ℕ, zero, suc, ◌+◌, Bool, true, false, List, [], ◌∷◌, map, drop, filter, slice_get, Option, None, Some, option_map}
 use Rattle.std.proofs.Common.{option_and_then, if◌then◌else◌, refl, ap, sym, ◌∙◌, arith}
 use Rattle.description_parts.specs.Described.{Described}
 use Rattle.description_parts.specs.Tables.{is_scheduled, scheduled_programs}

@@ -1,14 +1,14 @@
 -- No section is longer than its greatest length.
 use Rattle.std.proofs.Common.{◌≡◌, ℕ, suc, zero, ◌+◌, ◌-◌, ◌*◌, ◌/◌, ◌%◌, ◌<◌, ◌≤◌, ◌==◌, max, Bool, true, false, cond, List, [], ◌∷◌, ◌++◌, length, map, filter}
 use Rattle.std.proofs.Common.{find, flat_map, get_or, slice_get, sum_by, option_map, Option, None, Some, refl, ap, arith, length-append, All, if◌then◌else◌}
-use Rattle.std.proofs.Common.{◌∙◌, inl, inr, sym, subst, mod-eq_of_lt}
+use Rattle.std.proofs.Common.{ap₂, ◌∙◌, inl, inr, sym, subst, mod-eq_of_lt}
 use Rattle.std.proofs.Math.Nat.{le_trans, mod-eq-sub-mod}
 use Rattle.std.proofs.lemmas.Bool.{cases_lt}
 use Rattle.std.proofs.lemmas.List.{length-map, get_or_append_left, get_or-append_right}
-use Rattle.std.proofs.lemmas.List.Elements.{All-head, All-tail, All-filter}
+use Rattle.std.proofs.lemmas.List.Elements.{All-head, All-tail}
 use Rattle.std.proofs.lemmas.List.Sums.{sum_by-cons}
 use Rattle.std.specs.Option.{option_to_list}
-use Rattle.std.specs.List.{filter_map, cons_option}
+use Rattle.std.specs.List.{cons_option}
 use Rattle.psi_tables.specs.CheckWord.{check_word}
 use Rattle.psi_tables.specs.Encoding.{section_bytes, with_crc, header_bytes, front_bytes, start_bytes, long_header_bytes, check_word_bytes}
 use Rattle.psi_tables.specs.declared.section.LongHeader.{LongHeader}
@@ -22,25 +22,27 @@ use Rattle.dvb_tables.specs.ServiceDescription.{sdt_body, sdt_section}
 use Rattle.dvb_tables.specs.EventEntries.{events_bytes, event_bytes}
 use Rattle.dvb_tables.specs.EventInformation.{eit_body, eit_section}
 use Rattle.dvb_tables.specs.TimeAndDate.{tdt_section}
-use Rattle.dvb_tables.specs.Descriptors.{short_event_descriptor}
+use Rattle.dvb_tables.specs.TransportStreams.{transport_streams_bytes, transport_stream_bytes}
 use Rattle.dvb_tables.specs.declared.running_status.RunningStatus.{RunningStatus}
-use Rattle.dvb_tables.specs.declared.running_status.RunningStatus.TheVariants.{Running, NotRunning}
+use Rattle.dvb_tables.specs.declared.running_status.RunningStatus.TheVariants.{NotRunning}
 use Rattle.dvb_tables.proofs.BodyLengths.{nit_body_length, sdt_body_length, eit_body_length}
 use Rattle.description_parts.specs.Described.{Described, DescribedNetwork, DescribedProgram, DescribedStream, DescribedEvent, DescribedEntry, DescribedTable}
-use Rattle.description_parts.specs.Ranges.{IsInRange, IsProgram, IsStream, IsEvent}
-use Rattle.description_parts.specs.Tables.{is_scheduled, room_length, most_bytes, most_eit_bytes, pat_length, pmt_length, map_length, nit_length, network_length, sdt_parts, sdt_length}
-use Rattle.description_parts.specs.Tables.{services_length as part_length, eit_place, eit_room, eit_length, eit_lengths, schedule_length, es_info_length, entry_length}
-use Rattle.description_parts.specs.Tables.{is_shared_with, shared_length, entry_in, listed_length, service_length, event_length, longest_event, kind_lengths}
+use Rattle.description_parts.specs.Described.{network_stream_view}
+use Rattle.description_parts.specs.Ranges.{IsInRange, IsStream}
+use Rattle.description_parts.specs.Tables.{room_length, most_bytes, most_eit_bytes, pat_length, pmt_length, map_length, sdt_parts, sdt_length}
+use Rattle.description_parts.specs.Tables.{section_overhead, nit_length, nit_lengths, nit_parts, network_lengths, network_stream_length}
+use Rattle.description_parts.specs.declared.network_stream.NetworkStream.{NetworkStream}
+use Rattle.description_parts.specs.Tables.{services_length as part_length, eit_place, eit_room, eit_length, eit_lengths, schedule_length, es_info_length}
+use Rattle.description_parts.specs.Tables.{is_shared_with, entry_in, listed_length, service_length, event_length, longest_event, kind_lengths}
 use Rattle.description_parts.specs.Tables.{section_lengths, scheduled_programs, table_kind, greatest_length}
-use Rattle.description.specs.SectionBytes.{network_entries, pat_entry, pat_says, entries_length, pmt_entries, pmt_stream, is_of_program, pmt_streams, pmt_shared, table_stream, pmt_table}
-use Rattle.description.specs.SectionBytes.{pmt_tables, pmt_says, network_stream, nit_says, service_says, sdt_says, sdt_bytes, event_says, is_present_event}
-use Rattle.description.specs.SectionBytes.{is_following_event, eit_says, eit_bytes, tdt_bytes, kind_bytes, table_bytes}
+use Rattle.description.specs.SectionBytes.{network_entries, pat_entry, pat_says, entries_length, pmt_entries, pmt_stream, is_of_program, pmt_streams, pmt_shared, table_stream}
+use Rattle.description.specs.SectionBytes.{pmt_tables, pmt_says, network_bytes, nit_of, service_says, sdt_says, sdt_bytes, program_status, event_says}
+use Rattle.description.specs.SectionBytes.{is_present_event, is_following_event, eit_says, eit_bytes, tdt_bytes, kind_bytes, table_bytes}
 use Rattle.description_parts.proofs.RoomLengths.{room_least}
 use Rattle.description_parts.specs.declared.table_kind.TableKind.{TableKind}
 use Rattle.description_parts.specs.declared.table_kind.TableKind.TheVariants as kind
-use Rattle.description.proofs.LoopLengths.{stream_descriptors-length, transport_streams_bytes-one, network_name_descriptor-length, service_descriptor-length}
+use Rattle.description.proofs.LoopLengths.{stream_descriptors-length, length_transport_stream_bytes}
 use Rattle.description.proofs.LoopLengths.{length_service_bytes, length_event_bytes, no_stream_bytes}
-use Rattle.description.proofs.Pids.{at_place}
 use Rattle.description.proofs.SectionCounts.{eit_count}
 
 -- The length of a section of the long form
@@ -139,15 +141,35 @@ pmt_fits d p h =
       entries_fit p.is_on_air d p.number h,
     )
 
-nit_fits : (d : Described) (n : DescribedNetwork) → length (section_bytes (nit_section (nit_says d n))) ≡ nit_length n
-unfolding nit_section
-nit_fits d n =
+pub loop_size : (b : Bool) (n : DescribedNetwork) → length (if b then n.network_descriptors else []) ≡ (if b then length n.network_descriptors else 0)
+loop_size true n = refl
+loop_size false n = refl
+
+streams_size : (part : List NetworkStream) → length (transport_streams_bytes (map network_stream_view part)) ≡ sum_by network_stream_length part
+unfolding transport_streams_bytes
+streams_size [] = refl
+streams_size (s ∷ ss) =
     omega (
       arith,
-      long_section_length 0x40 true (nit_says d n).header (nit_body (nit_says d n)),
-      nit_body_length (nit_says d n),
-      transport_streams_bytes-one (network_stream d n),
-      network_name_descriptor-length n.name,
+      length-append (transport_stream_bytes (network_stream_view s)) (flat_map transport_stream_bytes (map network_stream_view ss)),
+      length_transport_stream_bytes (network_stream_view s),
+      streams_size ss,
+      sum_by-cons network_stream_length s ss,
+    )
+
+pub nit_size : (n : DescribedNetwork) (part : List NetworkStream) (version number last : ℕ)
+    → section_overhead + length (nit_body (nit_of n part version number last)) ≡ nit_length n number part
+nit_size n part version number last =
+    omega (arith, nit_body_length (nit_of n part version number last), streams_size part, loop_size (number == 0) n)
+
+nit_fits : (n : DescribedNetwork) (part : List NetworkStream) (version number last : ℕ)
+    → length (section_bytes (nit_section (nit_of n part version number last))) ≡ nit_length n number part
+unfolding nit_section
+nit_fits n part version number last =
+    omega (
+      arith,
+      long_section_length 0x40 true (nit_of n part version number last).header (nit_body (nit_of n part version number last)),
+      nit_size n part version number last,
     )
 
 pub services_size : (has_eit : Bool) (ps : List DescribedProgram) → length (services_bytes (map (service_says has_eit) ps)) ≡ sum_by service_length ps
@@ -158,7 +180,6 @@ services_size has_eit (p ∷ ps) =
       arith,
       length-append (service_bytes (service_says has_eit p)) (flat_map service_bytes (map (service_says has_eit) ps)),
       length_service_bytes (service_says has_eit p),
-      service_descriptor-length p.service_type p.provider p.name,
       services_size has_eit ps,
       sum_by-cons service_length p ps,
     )
@@ -175,46 +196,38 @@ sdt_fits d part number last =
     )
 
 -- The length of an event's entry
-entry_length_is : (status : RunningStatus) (e : DescribedEvent) → IsEvent e → length (event_bytes (event_says status e)) ≡ event_length e
-unfolding short_event_descriptor
-entry_length_is status e h =
-    omega (
-      arith,
-      length_event_bytes (event_says status e),
-      h.language.letters,
-      length-append (e.language ++ (length e.name ∷ e.name)) (length e.text ∷ e.text),
-      length-append e.language (length e.name ∷ e.name),
-    )
+entry_length_is : (free_ca : Bool) (status : RunningStatus) (e : DescribedEvent) → length (event_bytes (event_says free_ca status e)) ≡ event_length e
+entry_length_is free_ca status e = omega (arith, length_event_bytes (event_says free_ca status e))
 
-found_or_later : (status : RunningStatus) (b : Bool) (e : DescribedEvent) (o : Option DescribedEvent) (most : ℕ) → IsEvent e
-    → length (flat_map event_bytes (map (event_says status) (option_to_list o))) ≤ most
-    → length (flat_map event_bytes (map (event_says status) (option_to_list (cond b (Some e) o)))) ≤ max (event_length e) most
-found_or_later status true e o most h later = omega (arith, length-append (event_bytes (event_says status e)) [], entry_length_is status e h)
-found_or_later status false e o most h later = omega (arith, later)
+found_or_later : (free_ca : Bool) (status : RunningStatus) (b : Bool) (e : DescribedEvent) (o : Option DescribedEvent) (most : ℕ)
+    → length (flat_map event_bytes (map (event_says free_ca status) (option_to_list o))) ≤ most
+    → length (flat_map event_bytes (map (event_says free_ca status) (option_to_list (cond b (Some e) o)))) ≤ max (event_length e) most
+found_or_later free_ca status true e o most later =
+    omega (arith, length-append (event_bytes (event_says free_ca status e)) [], entry_length_is free_ca status e)
+found_or_later free_ca status false e o most later = omega (arith, later)
 
-event_fits : (status : RunningStatus) (q : DescribedEvent → Bool) (es : List DescribedEvent) → All IsEvent es
-    → length (events_bytes (map (event_says status) (option_to_list (find q es)))) ≤ longest_event es
+event_fits : (free_ca : Bool) (status : RunningStatus) (q : DescribedEvent → Bool) (es : List DescribedEvent)
+    → length (events_bytes (map (event_says free_ca status) (option_to_list (find q es)))) ≤ longest_event es
 unfolding events_bytes
-event_fits status q [] h = omega arith
-event_fits status q (e ∷ es) h =
-    found_or_later status (q e) e (find q es) (longest_event es) (All-head IsEvent e es h) (event_fits status q es (All-tail IsEvent e es h))
+event_fits free_ca status q [] = omega arith
+event_fits free_ca status q (e ∷ es) = found_or_later free_ca status (q e) e (find q es) (longest_event es) (event_fits free_ca status q es)
 
-either_fits : (moment : ℕ) (p : DescribedProgram) (b : Bool) → All IsEvent p.events
+either_fits : (moment : ℕ) (p : DescribedProgram) (b : Bool)
     → length (events_bytes
-    (if b then map (event_says Running) (option_to_list (find (is_present_event moment) p.events)) else map (event_says NotRunning)
-    (option_to_list (find (is_following_event moment) p.events))))
+    (if b then map (event_says p.free_ca (program_status p)) (option_to_list (find (is_present_event moment) p.events))
+    else map (event_says p.free_ca NotRunning) (option_to_list (find (is_following_event moment) p.events))))
     ≤ longest_event p.events
-either_fits moment p true h = event_fits Running (is_present_event moment) p.events h
-either_fits moment p false h = event_fits NotRunning (is_following_event moment) p.events h
+either_fits moment p true = event_fits p.free_ca (program_status p) (is_present_event moment) p.events
+either_fits moment p false = event_fits p.free_ca NotRunning (is_following_event moment) p.events
 
-eit_fits : (d : Described) (moment : ℕ) (p : DescribedProgram) (number : ℕ) → All IsEvent p.events → length (eit_bytes d moment p number) ≤ eit_length p
+eit_fits : (d : Described) (moment : ℕ) (p : DescribedProgram) (number : ℕ) → length (eit_bytes d moment p number) ≤ eit_length p
 unfolding eit_section
-eit_fits d moment p number h =
+eit_fits d moment p number =
     omega (
       arith,
       long_section_length 0x4E true (eit_says d moment p number).header (eit_body (eit_says d moment p number)),
       eit_body_length (eit_says d moment p number),
-      either_fits moment p (number == 0) h,
+      either_fits moment p (number == 0),
     )
 
 -- A section has its room, and a table with one section
@@ -260,15 +273,13 @@ eit_at true n ps j p h within = in_turn (schedule_length n) ps j p h within
 eit_at false n ps j p h within = in_pairs n ps j p h
 
 event_section_fits : (d : Described) (section moment number place : ℕ) (o : Option DescribedProgram) → (eit_place d section).0 ≡ place →
-    slice_get (scheduled_programs d) place ≡ o → All IsProgram d.programs → section < length (kind_lengths d kind.Eit)
+    slice_get (scheduled_programs d) place ≡ o → section < length (kind_lengths d kind.Eit)
     → length (elim o as (λ _. List ℕ) [ None ↦ [] | Some program ↦ eit_bytes d moment program number ]) ≤ get_or (kind_lengths d kind.Eit) section 0
-event_section_fits d section moment number place None at is h within = omega arith
-event_section_fits d section moment number place (Some p) at is h within =
+event_section_fits d section moment number place None at is within = omega arith
+event_section_fits d section moment number place (Some p) at is within =
     let found : slice_get (scheduled_programs d) (eit_place d section).0 ≡ Some p = ap (slice_get (scheduled_programs d)) at ∙ is in
     let long = eit_at d.is_transponder (eit_room d) (scheduled_programs d) section p found (omega (arith, within, eit_count d)) in
-    let scheduled = All-filter (is_scheduled d.has_eit) IsProgram d.programs h in
-    let one : IsProgram p = at_place IsProgram (scheduled_programs d) place p scheduled is in
-    let fits = within_room (length (eit_bytes d moment p number)) most_eit_bytes (eit_room d) (eit_length p) (eit_fits d moment p number one.events) in
+    let fits = within_room (length (eit_bytes d moment p number)) most_eit_bytes (eit_room d) (eit_length p) (eit_fits d moment p number) in
     subst (λ (n : ℕ). length (eit_bytes d moment p number) ≤ n) (sym long) fits
 
 tdt_fits : (moment : ℕ) → length (tdt_bytes moment) ≡ 8
@@ -289,13 +300,43 @@ map_section_fits d (Some p) section h within =
     let size = length (section_bytes (pmt_section (pmt_says d p))) in
     first_most (map_length d p) size section (within_room size most_bytes p.pmt_packets (pmt_length d p) (pmt_fits d p h)) within
 
-network_section_fits : (d : Described) (o : Option DescribedNetwork) (section : ℕ) → section < length (map (network_length d) (option_to_list o))
-    → length (elim o as (λ _. List ℕ) [ None ↦ [] | Some network ↦ section_bytes (nit_section (nit_says d network)) ]) ≤ get_or
-    (map (network_length d) (option_to_list o)) section 0
-network_section_fits d None section within = omega arith
-network_section_fits d (Some n) section within =
-    let size = length (section_bytes (nit_section (nit_says d n))) in
-    first_most (network_length d n) size section (within_room size most_bytes d.rooms.nit (nit_length n) (omega (arith, nit_fits d n))) within
+nit_parts_fit : (n : DescribedNetwork) (packets version : ℕ) (parts : List (List NetworkStream)) (place number last section : ℕ) → number ≡ place + section
+    → length
+    (elim (slice_get parts section) as (λ _. List ℕ) [ None ↦ [] | Some part ↦ section_bytes (nit_section (nit_of n part version number last)) ])
+    ≤ get_or (map (room_length most_bytes packets) (nit_lengths n place parts)) section 0
+nit_parts_fit n packets version [] place number last section is = omega arith
+nit_parts_fit n packets version (part ∷ parts) place number last zero is =
+    let at : number ≡ place = omega (arith, is) in
+    let size : length (section_bytes (nit_section (nit_of n part version number last))) ≡ nit_length n place part =
+    nit_fits n part version number last ∙ ap (λ (k : ℕ). nit_length n k part) at in
+    within_room (length (section_bytes (nit_section (nit_of n part version number last)))) most_bytes packets (nit_length n place part) (omega (arith, size))
+nit_parts_fit n packets version (part ∷ parts) place number last (suc section) is =
+    nit_parts_fit n packets version parts (place + 1) number last section (omega (arith, is))
+
+network_section_fits : (d : Described) (o : Option DescribedNetwork) (section : ℕ)
+    → length (elim o as (λ _. List ℕ) [ None ↦ [] | Some n ↦ network_bytes n (nit_parts d n) d.versions.nit section ])
+    ≤ get_or (elim o as (λ _. List ℕ) [ None ↦ [] | Some n ↦ network_lengths d n ]) section 0
+network_section_fits d None section = omega arith
+network_section_fits d (Some n) section =
+    nit_parts_fit n d.rooms.nit d.versions.nit (nit_parts d n) 0 section (length (nit_parts d n) - 1) section (omega arith)
+
+-- The length of a section of the NIT among those of all its sections
+lengths_at : (n : DescribedNetwork) (place : ℕ) (parts : List (List NetworkStream)) (j : ℕ) (part : List NetworkStream) → slice_get parts j ≡ Some part
+    → slice_get (nit_lengths n place parts) j ≡ Some (nit_length n (place + j) part)
+lengths_at n place [] j part e = absurd (cc)
+lengths_at n place (p ∷ ps) zero part e =
+    let same : p ≡ part = cc in
+    let on : place ≡ place + 0 = omega arith in
+    ap₂ (λ (k : ℕ) (q : List NetworkStream). Some (nit_length n k q)) on same
+lengths_at n place (p ∷ ps) (suc j) part e =
+    let on : place + 1 + j ≡ place + suc j = omega arith in
+    lengths_at n (place + 1) ps j part e ∙ ap (λ (k : ℕ). Some (nit_length n k part)) on
+
+pub nit_length_at : (n : DescribedNetwork) (parts : List (List NetworkStream)) (j : ℕ) (part : List NetworkStream) → slice_get parts j ≡ Some part
+    → slice_get (nit_lengths n 0 parts) j ≡ Some (nit_length n j part)
+nit_length_at n parts j part e =
+    let on : 0 + j ≡ j = omega arith in
+    lengths_at n 0 parts j part e ∙ ap (λ (k : ℕ). Some (nit_length n k part)) on
 
 part_fits : (d : Described) (parts : List (List DescribedProgram)) (number last section : ℕ)
     → length
@@ -324,11 +365,11 @@ kind_fits d kind.Pat section moment h within =
     first_most (room_length most_bytes d.rooms.pat (pat_length d)) size section
     (within_room size most_bytes d.rooms.pat (pat_length d) (omega (arith, pat_fits d))) within
 kind_fits d (kind.Pmt p) section moment h within = map_section_fits d (slice_get d.programs p) section h.streams within
-kind_fits d kind.Nit section moment h within = network_section_fits d d.network section within
+kind_fits d kind.Nit section moment h within = network_section_fits d d.network section
 kind_fits d kind.Sdt section moment h within = services_section_fits d d.has_sdt section
 kind_fits d kind.Eit section moment h within =
     event_section_fits d section moment (eit_place d section).1 (eit_place d section).0 (slice_get (scheduled_programs d) (eit_place d section).0) refl refl
-    h.programs within
+    within
 kind_fits d kind.Tdt section moment h within = first_most 8 (length (tdt_bytes moment)) section (omega (arith, tdt_fits moment)) within
 kind_fits d (kind.Private i) section moment h within = private_section_fits (slice_get d.tables i) section
 

@@ -5,14 +5,18 @@ use Rattle.std.proofs.lemmas.List.{length-map, length-append}
 use Rattle.std.proofs.lemmas.List.Sums.{sum_by-cons, length-filter, count_by-le-length}
 use Rattle.std.proofs.lemmas.List.Elements.{All-nil, All-cons, All-append}
 use Rattle.std.specs.List.{list_any}
-use Rattle.description_parts.specs.Described.{Described, DescribedProgram, DescribedTable}
-use Rattle.description_parts.specs.Ranges.{IsInRange, IsTable}
+use Rattle.description_parts.specs.Described.{Described, DescribedNetwork, DescribedProgram, DescribedTable}
+use Rattle.description_parts.specs.Ranges.{IsInRange, IsNetwork, IsTable}
 use Rattle.description_parts.specs.Tables.{numbers_from, only_if, has_event, is_scheduled, scheduled_programs, has_events_table, service_tables, table_kinds, table_count, table_kind}
 use Rattle.description_parts.specs.Tables.{sdt_parts, services_length, kind_lengths, eit_room, schedule_length, eit_lengths, packets_of_section, section_lengths, section_count}
+use Rattle.description_parts.specs.Tables.{most_bytes, network_lengths, nit_lengths, nit_parts, room_length}
+use Rattle.description_parts.specs.declared.network_stream.NetworkStream.{NetworkStream}
 use Rattle.description_parts.specs.declared.table_kind.TableKind.{TableKind}
 use Rattle.description_parts.specs.declared.table_kind.TableKind.TheVariants.{Pat, Pmt, Nit, Sdt, Eit, Tdt, Private}
+use Rattle.description_parts.proofs.NitParts.{nit_parts_law}
 use Rattle.description_parts.proofs.SdtParts.{sdt_parts_law}
 use Rattle.description.specs.Pids.{SectionsLaw}
+use Rattle.description.proofs.NetworkFacts.{of_some}
 use Rattle.description.proofs.Pids.{at_place}
 
 -- A table of this kind has 1 to 128 sections.
@@ -64,9 +68,23 @@ some_scheduled true [] some e = absurd (omega (arith, some))
 some_scheduled true (p ∷ ps) some e = omega arith
 some_scheduled false ps some e = some_filtered ps e
 
-network_count : (d : Described) (o : Option _) → d.network ≡ o → is_some d.network ≡ true → Some128 d Nit
-network_count d None e y = absurd (cc)
-network_count d (Some n) e y = of_one d Nit (rw e refl)
+-- The NIT has as many sections as its transport streams need.
+lengths_count : (n : DescribedNetwork) (place : ℕ) (parts : List (List NetworkStream)) → length (nit_lengths n place parts) ≡ length parts
+lengths_count n place [] = refl
+lengths_count n place (part ∷ parts) = ap suc (lengths_count n (place + 1) parts)
+
+pub network_count : (d : Described) (n : DescribedNetwork) → d.network ≡ Some n → length (kind_lengths d Nit) ≡ length (nit_parts d n)
+network_count d n there =
+    let is : kind_lengths d Nit ≡ network_lengths d n =
+    ap (λ (o : Option DescribedNetwork). elim o as (λ _. List ℕ) [ None ↦ [] | Some m ↦ network_lengths d m ]) there in
+    ap (length {A = ℕ}) is ∙ length-map (nit_lengths n 0 (nit_parts d n)) (room_length most_bytes d.rooms.nit) ∙ lengths_count n 0 (nit_parts d n)
+
+network_good : (d : Described) → IsInRange d → (o : Option DescribedNetwork) → d.network ≡ o → is_some d.network ≡ true → Some128 d Nit
+network_good d r None e y = absurd (cc)
+network_good d r (Some n) e y =
+    let parts = nit_parts_law d r n e in
+    let few = (of_some IsNetwork d.network n e r.network).most_streams in
+    record { some = omega (arith, network_count d n e, parts.some); most = omega (arith, network_count d n e, parts.most, few) }
 
 kinds_good : (d : Described) → IsInRange d → All (Some128 d) (table_kinds d)
 kinds_good d r =
@@ -78,7 +96,7 @@ kinds_good d r =
     (All-append (Some128 d) (nit ++ sdt ++ eit) tdt
     (All-append (Some128 d) (nit ++ sdt) eit
     (All-append (Some128 d) nit sdt
-    (one_if d (is_some d.network) Nit (network_count d d.network refl))
+    (one_if d (is_some d.network) Nit (network_good d r d.network refl))
     (one_if d d.has_sdt Sdt (λ y. services)))
     (one_if d (has_events_table d) Eit events))
     (one_if d d.has_tdt Tdt (λ y. of_one d Tdt refl)))

@@ -1,12 +1,11 @@
 -- Each section of a sub-table has the version of the description.
-use Rattle.std.proofs.Common.{◌≡◌, ℕ, zero, suc, ◌+◌, ◌-◌, ◌*◌, ◌/◌, ◌%◌, ◌<◌, ◌≤◌, ◌==◌, ◌&&◌, Bool, true, false, List, [], ◌∷◌, ◌++◌, length, map, get_or, slice_get, Option, None, Some}
-use Rattle.std.proofs.Common.{option_map, option_and_then, IfSome, IsTrue, bytes_eq, if◌then◌else◌, inl, inr, refl, ap, sym, subst, ◌∙◌, arith, div-lt_iff_lt-mul}
+use Rattle.std.proofs.Common.{◌≡◌, ℕ, zero, suc, ◌-◌, ◌*◌, ◌/◌, ◌%◌, ◌<◌, ◌==◌, ◌&&◌, Bool, true, false, List, [], length, map, slice_get, Option, None, Some}
+use Rattle.std.proofs.Common.{option_map, option_and_then, IfSome, bytes_eq, if◌then◌else◌, inl, inr, refl, ap, sym, subst, ◌∙◌, arith, div-lt_iff_lt-mul}
 use Rattle.std.proofs.lemmas.Bool.{cases_lt}
 use Rattle.std.proofs.lemmas.List.{length-map}
 use Rattle.std.proofs.lemmas.Option.{slice_get_within}
 use Rattle.std.specs.Option.{option_to_list}
 use Rattle.std.proofs.lemmas.Slice.Eq.{bytes_eq-Decides}
-use Rattle.bit_fields.specs.Fields.{bit}
 use Rattle.psi_tables.specs.Encoding.{section_bytes}
 use Rattle.psi_tables.specs.ProgramAssociation.{pat_section, pat_header, programs_bytes}
 use Rattle.psi_tables.specs.ProgramMap.{pmt_body, pmt_section, pmt_header}
@@ -15,15 +14,16 @@ use Rattle.dvb_tables.specs.ServiceDescription.{sdt_body, sdt_section}
 use Rattle.dvb_tables.specs.EventInformation.{eit_body, eit_section}
 use Rattle.description_parts.specs.Described.{Described, DescribedNetwork, DescribedProgram}
 use Rattle.description_parts.specs.Ranges.{IsInRange, IsProgram}
-use Rattle.description_parts.specs.Tables.{is_scheduled, scheduled_programs, sdt_parts, services_length, map_length, eit_place, table_kind, kind_lengths, section_count}
+use Rattle.description_parts.specs.Tables.{is_scheduled, scheduled_programs, nit_parts, sdt_parts, services_length, map_length, eit_place, table_kind, kind_lengths, section_count}
+use Rattle.description_parts.specs.declared.network_stream.NetworkStream.{NetworkStream}
 use Rattle.description_parts.specs.declared.table_kind.TableKind.{TableKind}
 use Rattle.description_parts.specs.declared.table_kind.TableKind.TheVariants as kind
 use Rattle.description.specs.declared.sub_table.SubTable.{SubTable}
 use Rattle.description.specs.declared.sub_table.SubTable.TheVariants.{Pat, Nit, Sdt, Map, Events}
-use Rattle.description.specs.SectionBytes.{part_header, pat_of, pmt_of, pmt_says, nit_of, sdt_of, sdt_part_bytes, eit_of, eit_version, eit_bytes, kind_bytes, table_bytes}
-use Rattle.description.specs.SubTables.{scheduled_places, sub_table_in, sub_table_of, number_in, number_of, sub_table_number, sub_table_count, program_number_by, count_of, version_of, sections_in}
+use Rattle.description.specs.SectionBytes.{pat_of, pmt_of, pmt_says, network_bytes, nit_of, sdt_of, eit_of, eit_version, eit_bytes, kind_bytes, table_bytes}
+use Rattle.description.specs.SubTables.{scheduled_places, sub_table_in, sub_table_of, number_in, number_of, sub_table_number, sub_table_count, program_number_by, version_of, sections_in}
 use Rattle.description.specs.SubTables.{section_of, unnumbered, same_below, shows_same}
-use Rattle.description.specs.Versions.{shown_version, IsNumbered, NumberedLaw, VersionedLaw}
+use Rattle.description.specs.Versions.{shown_version, NumberedLaw, VersionedLaw}
 use Rattle.description.proofs.Pids.{at_place}
 use Rattle.description.proofs.Renumbered.{version_byte, numbered, shows, same_under}
 use Rattle.description.proofs.ScheduledPlaces.{placed, passes}
@@ -119,11 +119,16 @@ shows_pat : (d : Described) (v : ℕ) → v < 32 → Shows v (section_bytes (pat
 unfolding pat_section pat_header
 shows_pat d v small = λ some. shows_byte 0 false d.transport_stream_id v 0 0 (programs_bytes (pat_of d v).programs) small
 
-shows_nit : (d : Described) (v : ℕ) (o : Option DescribedNetwork) → v < 32
-    → Shows v (elim o as (λ _. List ℕ) [ None ↦ [] | Some n ↦ section_bytes (nit_section (nit_of d n v)) ])
+shows_streams : (n : DescribedNetwork) (v number last : ℕ) (o : Option (List NetworkStream)) → v < 32
+    → Shows v (elim o as (λ _. List ℕ) [ None ↦ [] | Some part ↦ section_bytes (nit_section (nit_of n part v number last)) ])
 unfolding nit_section
-shows_nit d v None small = λ some. absurd (omega (arith, some))
-shows_nit d v (Some n) small = λ some. shows_byte 0x40 true n.id v 0 0 (nit_body (nit_of d n v)) small
+shows_streams n v number last None small = λ some. absurd (omega (arith, some))
+shows_streams n v number last (Some part) small = λ some. shows_byte 0x40 true n.id v number last (nit_body (nit_of n part v number last)) small
+
+shows_nit : (d : Described) (v number : ℕ) (o : Option DescribedNetwork) → v < 32
+    → Shows v (elim o as (λ _. List ℕ) [ None ↦ [] | Some n ↦ network_bytes n (nit_parts d n) v number ])
+shows_nit d v number None small = λ some. absurd (omega (arith, some))
+shows_nit d v number (Some n) small = shows_streams n v number (length (nit_parts d n) - 1) (slice_get (nit_parts d n) number) small
 
 shows_part : (d : Described) (v number last : ℕ) (b : Bool) (o : Option (List DescribedProgram)) → v < 32
     → Shows v (if b then elim o as (λ _. List ℕ) [ None ↦ [] | Some ps ↦ section_bytes (sdt_section (sdt_of d ps v number last)) ] else [])
@@ -145,7 +150,7 @@ shows_events d moment v number (Some q) small = λ some. shows_byte 0x4E true q.
 
 shows_of : (d : Described) (x : SubTable) (v number moment : ℕ) → v < 32 → Shows v (section_of d x v number moment)
 shows_of d Pat v number moment small = shows_pat d v small
-shows_of d Nit v number moment small = shows_nit d v d.network small
+shows_of d Nit v number moment small = shows_nit d v number d.network small
 shows_of d Sdt v number moment small = shows_part d v number (length (sdt_parts d) - 1) d.has_sdt (slice_get (sdt_parts d) number) small
 shows_of d (Map p) v number moment small = shows_map d v (slice_get d.programs p) small
 shows_of d (Events p) v number moment small = shows_events d moment v number (slice_get d.programs p) small

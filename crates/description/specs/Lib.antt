@@ -5,3 +5,4 @@ pub mod Versions
 pub mod Pids
 pub mod Entries
 pub mod Services
+pub mod Networks

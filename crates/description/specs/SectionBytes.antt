@@ -1,6 +1,6 @@
 -- What each section of each table says at a moment, and its bytes (ISO/IEC 13818-1, 2.4.4; EN 300 468, 5.2): under a
--- version_number, and under that which the description has; section 0 of 0, except in the SDT and the EIT.
-use Rattle.std.specs.Prelude.{ℕ, ◌+◌, ◌-◌, ◌%◌, ◌==◌, ◌&&◌, nat_le, nat_lt, Bool, true, false, List, [], ◌∷◌, ◌++◌, map, filter, find, Option, None, Some}
+-- version_number, and under that which the description has; section 0 of 0, except in the NIT, the SDT and the EIT.
+use Rattle.std.specs.Prelude.{ℕ, ◌+◌, ◌-◌, ◌%◌, ◌==◌, ◌&&◌, nat_le, nat_lt, Bool, true, List, [], ◌++◌, map, filter, find, Option, None, Some}
 use Rattle.std.specs.Prelude.{length, option_map, slice_get, slice_index_or, sum_by, if◌then◌else◌}
 use Rattle.std.specs.List.{count_by, filter_map}
 use Rattle.std.specs.Option.{option_to_list}
@@ -9,10 +9,9 @@ use Rattle.psi_tables.specs.declared.section.LongHeader.{LongHeader}
 use Rattle.psi_tables.specs.declared.pat.programs.Program.{Program as PatEntry}
 use Rattle.psi_tables.specs.ProgramAssociation.{PatView, pat_section}
 use Rattle.psi_tables.specs.ProgramMap.{PmtView, StreamView, pmt_section}
-use Rattle.dvb_tables.specs.Descriptors.{iso_639_language_descriptor, network_name_descriptor, service_descriptor, short_event_descriptor}
-use Rattle.dvb_tables.specs.Descriptors.{stream_identifier_descriptor}
+use Rattle.dvb_tables.specs.Descriptors.{iso_639_language_descriptor, stream_identifier_descriptor}
+use Rattle.dvb_tables.specs.RunningStates.{status_of}
 use Rattle.dvb_tables.specs.CodedTimes.{utc_time_bytes, clock_bytes}
-use Rattle.dvb_tables.specs.TransportStreams.{TransportStreamView}
 use Rattle.dvb_tables.specs.NetworkInformation.{NitView, nit_section}
 use Rattle.dvb_tables.specs.Services.{ServiceView}
 use Rattle.dvb_tables.specs.ServiceDescription.{SdtView, sdt_section}
@@ -20,9 +19,11 @@ use Rattle.dvb_tables.specs.EventEntries.{EventView}
 use Rattle.dvb_tables.specs.EventInformation.{EitView, eit_section}
 use Rattle.dvb_tables.specs.TimeAndDate.{tdt_section}
 use Rattle.dvb_tables.specs.declared.running_status.RunningStatus.{RunningStatus}
-use Rattle.dvb_tables.specs.declared.running_status.RunningStatus.TheVariants.{Running, NotRunning}
-use Rattle.description_parts.specs.Described.{Described, DescribedNetwork, DescribedProgram, DescribedStream, DescribedEvent, DescribedEntry, DescribedTable}
-use Rattle.description_parts.specs.Tables.{is_scheduled, scheduled_programs, sdt_parts, eit_place, table_kind, is_shared_with, entry_in, entry_length, shared_length, listed_length}
+use Rattle.dvb_tables.specs.declared.running_status.RunningStatus.TheVariants.{NotRunning}
+use Rattle.description_parts.specs.Described.{Described, DescribedNetwork, DescribedProgram, DescribedStream, DescribedEvent, DescribedEntry, DescribedTable, network_stream_view}
+use Rattle.description_parts.specs.Tables.{is_scheduled, scheduled_programs, nit_parts, sdt_parts, eit_place, table_kind, is_shared_with, entry_in, entry_length}
+use Rattle.description_parts.specs.Tables.{shared_length, listed_length}
+use Rattle.description_parts.specs.declared.network_stream.NetworkStream.{NetworkStream}
 use Rattle.description_parts.specs.declared.table_kind.TableKind.{TableKind}
 use Rattle.description_parts.specs.declared.table_kind.TableKind.TheVariants as kind
 
@@ -106,33 +107,42 @@ pmt_of d p version = record {
 abbrev pub pmt_says : Described → DescribedProgram → PmtView
 pmt_says d p = pmt_of d p p.pmt_version
 
--- NIT: the name, and this transport stream with the network's descriptors
-abbrev pub network_stream : Described → DescribedNetwork → TransportStreamView
-network_stream d n = record { transport_stream_id = d.transport_stream_id; original_network_id = d.original_network_id; descriptors = n.descriptors }
+-- NIT: the network's descriptors in section 0, and the transport streams of a part with their descriptors
+abbrev pub network_loop : DescribedNetwork → ℕ → List ℕ
+network_loop n number = if number == 0 then n.network_descriptors else []
 
-abbrev pub nit_of : Described → DescribedNetwork → ℕ → NitView
-nit_of d n version = record {
-  header = single_header n.id version;
-  network_descriptors = network_name_descriptor n.name;
-  transport_streams = network_stream d n ∷ [];
+abbrev pub nit_of : DescribedNetwork → List NetworkStream → ℕ → ℕ → ℕ → NitView
+nit_of n part version number last = record {
+  header = part_header n.id version number last;
+  network_descriptors = network_loop n number;
+  transport_streams = map network_stream_view part;
 }
 
-abbrev pub nit_says : Described → DescribedNetwork → NitView
-nit_says d n = nit_of d n d.versions.nit
+-- the bytes of the section of a number, of these parts, and of the description's under a version
+abbrev pub network_bytes : DescribedNetwork → List (List NetworkStream) → ℕ → ℕ → List ℕ
+network_bytes n parts version section =
+    elim (slice_get parts section) [ None ↦ [] | Some part ↦ section_bytes (nit_section (nit_of n part version section (length parts - 1))) ]
 
--- SDT: each program's service, running if the program is on air; present and following events are carried if the EIT has
--- the program's sections. The programs of a part are the services of one section
-abbrev pub status_of : Bool → RunningStatus
-status_of is_on_air = if is_on_air then Running else NotRunning
+abbrev pub nit_part_bytes : Described → ℕ → ℕ → List ℕ
+nit_part_bytes d version section = elim d.network [ None ↦ [] | Some n ↦ network_bytes n (nit_parts d n) version section ]
 
+abbrev pub nit_bytes : Described → ℕ → List ℕ
+nit_bytes d section = nit_part_bytes d d.versions.nit section
+
+-- the running_status of a program's service, and of its present event
+abbrev pub program_status : DescribedProgram → RunningStatus
+program_status p = if p.is_on_air then status_of p.running_status else NotRunning
+
+-- SDT: each program's service; present and following events are carried if the EIT has the program's sections. The programs of a part
+-- are the services of one section
 abbrev pub service_says : Bool → DescribedProgram → ServiceView
 service_says has_eit p = record {
   service_id = p.number;
-  eit_schedule = false;
+  eit_schedule = p.eit_schedule;
   eit_present_following = is_scheduled has_eit p;
-  running_status = status_of p.is_on_air;
-  free_ca_mode = false;
-  descriptors = service_descriptor p.service_type p.provider p.name;
+  running_status = program_status p;
+  free_ca_mode = p.free_ca;
+  descriptors = p.service_descriptors;
 }
 
 abbrev pub sdt_of : Described → List DescribedProgram → ℕ → ℕ → ℕ → SdtView
@@ -160,15 +170,15 @@ is_present_event moment e = nat_le e.start moment && nat_lt moment (e.start + e.
 abbrev pub is_following_event : ℕ → DescribedEvent → Bool
 is_following_event moment e = nat_lt moment e.start
 
--- an entry of the EIT
-abbrev pub event_says : RunningStatus → DescribedEvent → EventView
-event_says status e = record {
+-- an entry of the EIT, of a program with this free_CA_mode
+abbrev pub event_says : Bool → RunningStatus → DescribedEvent → EventView
+event_says free_ca status e = record {
   event_id = e.id;
   start_time = utc_time_bytes e.start;
   duration = clock_bytes e.duration;
   running_status = status;
-  free_ca_mode = false;
-  descriptors = short_event_descriptor e.language e.name e.text;
+  free_ca_mode = free_ca;
+  descriptors = e.descriptors;
 }
 
 -- the program's number, and how many events have begun and how many have ended, modulo 32: it changes with what the
@@ -185,11 +195,11 @@ counted_events moment p = count_by (has_begun moment) p.events + count_by (has_e
 abbrev pub eit_version : ℕ → DescribedProgram → ℕ
 eit_version moment p = (p.eit_count + counted_events moment p) % 32
 
--- section 0 of 1 has the present event, running; section 1 of 1 the following one, not running
+-- section 0 of 1 has the present event, with the program's status; section 1 of 1 the following one, not running
 abbrev pub section_events : ℕ → DescribedProgram → ℕ → List EventView
 section_events moment p number =
-    if number == 0 then map (event_says Running) (option_to_list (find (is_present_event moment) p.events))
-    else map (event_says NotRunning) (option_to_list (find (is_following_event moment) p.events))
+    if number == 0 then map (event_says p.free_ca (program_status p)) (option_to_list (find (is_present_event moment) p.events))
+    else map (event_says p.free_ca NotRunning) (option_to_list (find (is_following_event moment) p.events))
 
 abbrev pub eit_of : Described → ℕ → DescribedProgram → ℕ → ℕ → EitView
 eit_of d moment p version number = record {
@@ -215,7 +225,7 @@ tdt_bytes moment = section_bytes (tdt_section (record { utc_time = utc_time_byte
 abbrev pub kind_bytes : Described → TableKind → ℕ → ℕ → List ℕ
 kind_bytes d kind.Pat section moment = section_bytes (pat_section (pat_says d))
 kind_bytes d (kind.Pmt p) section moment = elim (slice_get d.programs p) [ None ↦ [] | Some program ↦ section_bytes (pmt_section (pmt_says d program)) ]
-kind_bytes d kind.Nit section moment = elim d.network [ None ↦ [] | Some network ↦ section_bytes (nit_section (nit_says d network)) ]
+kind_bytes d kind.Nit section moment = nit_bytes d section
 kind_bytes d kind.Sdt section moment = if d.has_sdt then sdt_bytes d section else []
 kind_bytes d kind.Eit section moment =
     elim (slice_get (scheduled_programs d) (eit_place d section).0) [ None ↦ [] | Some program ↦ eit_bytes d moment program (eit_place d section).1 ]

@@ -1,18 +1,17 @@
 -- The sub-tables of a description (EN 300 468, 5.1.1): sections that have one version_number. Each section of PAT, NIT, SDT,
 -- PMT and EIT is of one, by its table and number.
-use Rattle.std.specs.Prelude.{ℕ, zero, suc, ◌+◌, ◌-◌, ◌%◌, ◌==◌, ◌&&◌, ◌||◌, nat_lt, bytes_eq, Bool, true, List, [], ◌∷◌, map, Option, None, Some, length, option_map}
+use Rattle.std.specs.Prelude.{ℕ, zero, suc, ◌+◌, ◌-◌, ◌==◌, ◌&&◌, nat_lt, bytes_eq, Bool, true, List, [], ◌∷◌, map, Option, None, Some, length, option_map}
 use Rattle.std.specs.Prelude.{option_and_then, slice_get, if◌then◌else◌}
 use Rattle.psi_tables.specs.Encoding.{section_bytes}
 use Rattle.psi_tables.specs.ProgramAssociation.{pat_section}
 use Rattle.psi_tables.specs.ProgramMap.{pmt_section}
-use Rattle.dvb_tables.specs.NetworkInformation.{nit_section}
 use Rattle.dvb_tables.specs.EventInformation.{eit_section}
 use Rattle.description_parts.specs.Described.{Described, DescribedProgram}
 use Rattle.description_parts.specs.Numbers.{with_versions, with_programs, with_pmt_version, with_eit_count, numbered_at}
 use Rattle.description_parts.specs.Tables.{is_scheduled, sdt_parts, eit_place, table_kind, kind_lengths}
 use Rattle.description_parts.specs.declared.table_kind.TableKind.{TableKind}
 use Rattle.description_parts.specs.declared.table_kind.TableKind.TheVariants as kind
-use Rattle.description.specs.SectionBytes.{pat_of, pmt_of, nit_of, sdt_part_bytes, eit_of, eit_version}
+use Rattle.description.specs.SectionBytes.{pat_of, pmt_of, nit_part_bytes, sdt_part_bytes, eit_of, eit_version}
 use Rattle.description.specs.declared.sub_table.SubTable.{SubTable}
 use Rattle.description.specs.declared.sub_table.SubTable.TheVariants.{Pat, Nit, Sdt, Map, Events}
 
@@ -95,7 +94,7 @@ sections_in d (Events p) = elim (slice_get d.programs p) [ None ↦ 0 | Some q �
 -- the bytes of the section of a number at a moment, under a version
 abbrev pub section_of : Described → SubTable → ℕ → ℕ → ℕ → List ℕ
 section_of d Pat version number moment = section_bytes (pat_section (pat_of d version))
-section_of d Nit version number moment = elim d.network [ None ↦ [] | Some n ↦ section_bytes (nit_section (nit_of d n version)) ]
+section_of d Nit version number moment = nit_part_bytes d version number
 section_of d Sdt version number moment = if d.has_sdt then sdt_part_bytes d version number else []
 section_of d (Map p) version number moment = elim (slice_get d.programs p) [ None ↦ [] | Some q ↦ section_bytes (pmt_section (pmt_of d q version)) ]
 section_of d (Events p) version number moment =

@@ -1,8 +1,8 @@
 -- What the versions of sub-tables promise, and that they change nothing else.
-use Rattle.std.specs.Prelude.{◌≡◌, ◌≢◌, ℕ, ◌+◌, ◌/◌, ◌%◌, ◌<◌, List, map, Some, length, slice_index, IsTrue}
+use Rattle.std.specs.Prelude.{◌≡◌, ◌≢◌, ℕ, ◌/◌, ◌%◌, ◌<◌, List, map, Some, length, slice_index, IsTrue}
 use Rattle.description_parts.specs.Described.{Described, DescribedProgram}
 use Rattle.description_parts.specs.Ranges.{IsInRange}
-use Rattle.description_parts.specs.Tables.{table_count, table_kinds, table_pid, table_limit, section_count, section_lengths}
+use Rattle.description_parts.specs.Tables.{table_kinds, table_pid, table_limit, section_count, section_lengths}
 use Rattle.description.specs.declared.sub_table.SubTable.{SubTable}
 use Rattle.description.specs.SectionBytes.{table_bytes}
 use Rattle.description.specs.SubTables.{sub_table_number, sub_table_of, number_of, count_of, version_of, with_count, sections_in, section_of, shows_same}

@@ -31,7 +31,7 @@ impl Model for Description {
 impl Description {
     ghost use Rattle.description_parts.specs.Ranges.{IsInRange};
     ghost use Rattle.description_parts.specs.Tables.{table_count, table_kind, table_pid, table_limit};
-    ghost use Rattle.description_parts.specs.Tables.{clock_of, has_references};
+    ghost use Rattle.description_parts.specs.Tables.{clock_of, has_references, stream_on_air};
 
     /// States that the numbers of every description are in range, and its PIDs distinct.
     pub fn keeps_ranges(&self)
@@ -161,6 +161,13 @@ impl Description {
         ensures ranges { IsInRange self.now }
     {
         self.contents.streams()
+    }
+
+    /// Returns whether there is an elementary stream of a number that a program on air has, as its own or shared.
+    pub fn stream_on_air(&self, stream: usize) -> bool
+        ensures { result ≡ stream_on_air self.now stream }
+    {
+        self.contents.stream_on_air(stream)
     }
 
     /// Returns the private tables, in order.

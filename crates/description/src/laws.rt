@@ -4,6 +4,7 @@ ghost use Rattle.description.specs.Pids.{PidsApartLaw, PidsBelowLaw, PidPosition
 ghost use Rattle.description.specs.Pids.{SectionsLaw};
 ghost use Rattle.description.specs.Entries.{SharedLaw, EntryLaw, OwnLaw, OffAirLaw};
 ghost use Rattle.description.specs.Services.{ServicesLaw};
+ghost use Rattle.description.specs.Networks.{NetworkLaw};
 ghost use Rattle.description.specs.Versions.{NumberedLaw, VersionedLaw, SameTablesLaw, CountedLaw, CountLaw};
 
 /// States that no two of a description's tables, clocks and streams share a PID, that each PID is below the PID of null
@@ -29,6 +30,13 @@ pub fn sections()
 /// order, with their section_number and last_section_number.
 pub fn services()
     ensures { ServicesLaw }
+{}
+
+/// States that the sections of the NIT, read one after another, list this transport stream and the network's others,
+/// each once and in order, with their section_number and last_section_number; and that section 0 has the network's
+/// descriptors.
+pub fn networks()
+    ensures { NetworkLaw }
 {}
 
 /// States that the PMT of a program that is on air names its own streams, each stream that the program shares, and each

@@ -12,6 +12,20 @@ use arrayvec::ArrayVec;
 use bit_fields::append;
 use description_parts::TableKind;
 use dvb_tables::{Tdt, utc_time};
+use psi_tables::LongHeader;
+
+/// Returns the header of a section of a table of several, by its number and the number of the last section.
+pub(crate) fn part_header(extension: u16, version: u8, number: u8, last: u8) -> LongHeader
+    ensures { result ≡ bytes.part_header extension version number last }
+{
+    LongHeader {
+        table_id_extension: extension,
+        version_number: version,
+        current_next: true,
+        section_number: number,
+        last_section_number: last,
+    }
+}
 
 // Writes the time and date section.
 fn write_tdt(moment: u64, out: &mut ArrayVec<u8, 4096>)
@@ -38,14 +52,13 @@ impl Description {
         }
     }
 
-    fn write_nit_if_any(&self, version: u8, out: &mut ArrayVec<u8, 4096>)
+    fn write_nit_if_any(&self, version: u8, number: u8, out: &mut ArrayVec<u8, 4096>)
         requires { version < 32 }
-        ensures { out.new.items ≡ spec.section_of self.now SubTable.Nit version 0 0 }
+        ensures { out.new.items ≡ spec.section_of self.now SubTable.Nit version number 0 }
     {
-        self.keeps_ranges();
         match self.network() {
             None => out.clear(),
-            Some(network) => self.write_nit(network, version, out),
+            Some(network) => self.write_nit_at(network, version, number, out),
         }
     }
 
@@ -91,7 +104,7 @@ impl Description {
     {
         match sub_table {
             SubTable::Pat => self.write_pat(version, out),
-            SubTable::Nit => self.write_nit_if_any(version, out),
+            SubTable::Nit => self.write_nit_if_any(version, number, out),
             SubTable::Sdt => self.write_sdt_if_any(version, number, out),
             SubTable::Map(place) => self.write_pmt_at(place, version, out),
             SubTable::Events(place) => self.write_eit_at(place, version, number, moment, out),

@@ -1,43 +1,29 @@
 //! The service description sections of a description (EN 300 468, 5.2.3).
 
-ghost use Rattle.std.specs.Prelude.{◌≡◌, ◌<◌, ◌≤◌, ◌+◌, ◌++◌, [], ◌∷◌, All, IsTrue, length, map, option_map, slice_get, sum_by};
+ghost use Rattle.std.specs.Prelude.{◌≡◌, ◌<◌, ◌≤◌, ◌+◌, ◌++◌, [], ◌∷◌, IsTrue, length, map, option_map};
+ghost use Rattle.std.specs.Prelude.{slice_get, sum_by};
 ghost use Rattle.psi_tables.specs.Encoding.{section_bytes};
 ghost use Rattle.psi_tables.specs.declared.writing.TheConstants.{GREATEST_TABLE_LENGTH};
 ghost use Rattle.dvb_tables.specs.declared.service_loop.TheConstants.{GREATEST_SERVICE_LOOP};
-ghost use Rattle.dvb_tables.specs.Descriptors.{service_descriptor};
 ghost use Rattle.dvb_tables.specs.ServiceDescription.{sdt_section};
 ghost use Rattle.dvb_tables.specs.Services.{service_loop_of, services_of, services_bytes};
-ghost use Rattle.description_parts.specs.Ranges.{IsProgram};
 ghost use Rattle.description_parts.specs.Tables.{service_length, sdt_parts};
 ghost use Rattle.description.specs.SectionBytes as spec;
 
 use crate::description::Description;
+use crate::section_bytes::part_header;
 use arrayvec::ArrayVec;
 use description_parts::table_kind::is_scheduled;
 use description_parts::{ProgramDescription, laws};
-use dvb_tables::{RunningStatus, Sdt, Service, ServiceLoop, Services, push_service};
+use dvb_tables::{RunningStatus, Sdt, Service, ServiceLoop, Services};
 use psi_tables::LongHeader;
 
-// Returns the descriptor of a program's service.
-fn descriptor_of(program: &ProgramDescription) -> ArrayVec<u8, 205>
-    requires { IsProgram program.now }
-    ensures { result.items ≡ service_descriptor program.now.service_type program.now.provider program.now.name }
+/// Returns running_status of a program's service, and of its present event.
+pub(crate) fn program_status(program: &ProgramDescription) -> RunningStatus
+    ensures { result ≡ spec.program_status program.now }
 {
-    let mut bytes = ArrayVec::new();
-    push_service(
-        &mut bytes,
-        program.service_type(),
-        program.provider(),
-        program.name(),
-    );
-    bytes
-}
-
-fn status_of(is_on_air: bool) -> RunningStatus
-    ensures { result ≡ spec.status_of is_on_air }
-{
-    if is_on_air {
-        RunningStatus::Running
+    if program.is_on_air() {
+        program.running_status()
     } else {
         RunningStatus::NotRunning
     }
@@ -45,22 +31,20 @@ fn status_of(is_on_air: bool) -> RunningStatus
 
 // Adds the service of a program, for which there is room.
 fn push_service_of(entries: &mut ServiceLoop, program: &ProgramDescription, has_eit: bool)
-    requires ranges { IsProgram program.now }
-    requires room { length (services_bytes (service_loop_of entries.old)) + service_length program.now
+    requires { length (services_bytes (service_loop_of entries.old)) + service_length program.now
         ≤ GREATEST_SERVICE_LOOP }
     ensures value { service_loop_of entries.new ≡ service_loop_of entries.old
         ++ spec.service_says has_eit program.now ∷ [] }
     ensures length { length (services_bytes (service_loop_of entries.new))
         ≡ length (services_bytes (service_loop_of entries.old)) + service_length program.now }
 {
-    let descriptors = descriptor_of(program);
     let entry = Service {
         service_id: program.number(),
-        eit_schedule: false,
+        eit_schedule: program.eit_schedule(),
         eit_present_following: is_scheduled(has_eit, program),
-        running_status: status_of(program.is_on_air()),
-        free_ca_mode: false,
-        descriptors: descriptors.as_slice(),
+        running_status: program_status(program),
+        free_ca_mode: program.free_ca(),
+        descriptors: program.service_descriptors(),
     };
     match entries.push(&entry) {
         Ok(()) => {}
@@ -69,8 +53,7 @@ fn push_service_of(entries: &mut ServiceLoop, program: &ProgramDescription, has_
 }
 
 fn program_services(programs: &[ProgramDescription], has_eit: bool) -> ServiceLoop
-    requires ranges { All IsProgram programs.now }
-    requires room { sum_by service_length programs.now ≤ GREATEST_SERVICE_LOOP }
+    requires { sum_by service_length programs.now ≤ GREATEST_SERVICE_LOOP }
     ensures value { service_loop_of result ≡ map (spec.service_says has_eit) programs.now }
     ensures length { length (services_bytes (service_loop_of result)) ≡ sum_by service_length programs.now }
 {
@@ -91,19 +74,12 @@ impl Description {
         last: u8,
         out: &mut ArrayVec<u8, 4096>,
     )
-        requires ranges { All IsProgram part.now }
         requires room { sum_by service_length part.now ≤ GREATEST_SERVICE_LOOP }
         requires version { version < 32 }
         ensures { out.new.items ≡ section_bytes (sdt_section (spec.sdt_of self.now part.now version number last)) }
     {
         let entries = program_services(part, self.has_eit());
-        let header = LongHeader {
-            table_id_extension: self.transport_stream_id(),
-            version_number: version,
-            current_next: true,
-            section_number: number,
-            last_section_number: last,
-        };
+        let header = part_header(self.transport_stream_id(), version, number, last);
         write_section(header, self.original_network_id(), entries.services(), out);
     }
 

@@ -135,8 +135,8 @@ impl Description {
         }
     }
 
-    /// Returns the number of a sub-table in the description: its version, or, for events, the number that is counted on; 0
-    /// if there is no such program.
+    /// Returns the number of a sub-table in the description: its version, or, for events, the number that is counted
+    /// on; 0 if there is no such program.
     pub fn count(&self, sub_table: SubTable) -> u8
         ensures value { result ≡ spec.count_of self.now sub_table }
         ensures five_bits { result < 32 }

@@ -1,7 +1,8 @@
 //! The sections of a table, and their greatest lengths.
 
 ghost use Rattle.std.specs.Prelude.{◌≡◌, ◌<◌, ◌≤◌, length, filter};
-ghost use Rattle.description_parts.specs.Tables.{is_scheduled, scheduled_programs, sdt_parts, kind_lengths, section_lengths};
+ghost use Rattle.description_parts.specs.Tables.{is_scheduled, scheduled_programs, sdt_parts, kind_lengths};
+ghost use Rattle.description_parts.specs.Tables.{section_lengths};
 ghost use Rattle.description_parts.specs.Tables.{table_count, section_count, greatest_length, round_packets};
 
 use crate::description::Description;
@@ -51,7 +52,7 @@ impl Description {
         packets_of_sections(self.section_lengths(table).as_slice())
     }
 
-    /// Returns the number of sections of a table. It makes no list of their lengths, except for the SDT.
+    /// Returns the number of sections of a table. It makes no list of their lengths, except for the NIT and the SDT.
     pub fn sections(&self, table: usize) -> usize
         requires { table < table_count self.now }
         ensures { result ≡ section_count self.now table }
@@ -85,12 +86,11 @@ impl Description {
     }
 
     pub(crate) fn network_sections(&self) -> usize
-        ensures { result ≡ length (kind_lengths self.now TableKind.Nit) }
+        ensures value { result ≡ length (kind_lengths self.now TableKind.Nit) }
+        ensures most { result ≤ 128 }
     {
-        match self.network() {
-            None => 0,
-            Some(_) => 1,
-        }
+        self.keeps_ranges();
+        self.contents.kind_lengths(TableKind::Nit).len()
     }
 
     pub(crate) fn service_sections(&self) -> usize

@@ -1,15 +1,10 @@
-use Rattle.std.proofs.Common.{◌≡◌, ◌≤◌, ◌∙◌, Some, All, map, slice_get, option_map, sym, ap, arith}
+use Rattle.std.proofs.Common.{◌≡◌, ◌≤◌, ◌∙◌, Some, map, slice_get, option_map, sym, ap, arith}
 use Rattle.std.proofs.Math.Nat.{le_trans}
-use Rattle.description_parts.specs.Ranges.{IsProgram, longest_section}
+use Rattle.description_parts.specs.Ranges.{longest_section}
 use Rattle.description_parts.specs.Tables.{most_bytes, sdt_length, sdt_parts, services_length}
 use Rattle.description_parts.proofs.RoomLengths.{room_least}
 use Rattle.description.proofs.Pids.{at_place, get_map}
 use Rattle.description.proofs.description.Description.write_sdt_at.Goals as goal
-
-pub write_sdt-requires-clause-ranges : goal.write_sdt-requires-clause-ranges
-write_sdt-requires-clause-ranges c =
-    at_place (All IsProgram) (sdt_parts c.args.self.now) c.args.section c.in-Some.part.now (c.sdt_parts.ensures c.args.self.now c.keeps_ranges.ensures).programs
-    (sym c.sdt_part.ensures ∙ ap (option_map (λ s. s.now)) c.in-Some.is)
 
 pub write_sdt-requires-clause-room : goal.write_sdt-requires-clause-room
 write_sdt-requires-clause-room c =
