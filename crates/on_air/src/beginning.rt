@@ -23,6 +23,7 @@ use switch_checker::CheckedSwitch;
 
 impl<A: Allocator + Copy> OnAir<A> {
     /// Returns a run over a plan, before its first slot.
+    #[tactic(auto, using(crate::proofs::FirstStates::room_judged))]
     pub fn new(
         alloc: A,
         plan: CheckedPlan<A>,
@@ -48,6 +49,7 @@ impl<A: Allocator + Copy> OnAir<A> {
     }
 
     /// Returns a run over two plans, the first for `periods` of its periods.
+    #[tactic(auto, using(crate::proofs::FirstStates::switch_judged))]
     pub fn with_switch(
         alloc: A,
         switch: CheckedSwitch<A>,
