@@ -6,3 +6,4 @@ pub mod OwnMarks
 pub mod Rounds
 pub mod Leaks
 pub mod EmptyWalks
+pub mod OwnWalks

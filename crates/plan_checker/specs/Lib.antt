@@ -3,3 +3,4 @@ pub mod Served
 pub mod SentBytes
 pub mod Failing
 pub mod EmptyWalks
+pub mod OwnWalks

@@ -19,6 +19,7 @@ use crate::comparison::at_most;
 use crate::conditions::ItemCondition;
 use crate::empties::empty_slots;
 use crate::failure_search::FailureSearch;
+use crate::period::Period;
 use crate::plans::ShapedPlan;
 use crate::work::{Work, work_of};
 use clock27::SLOT_SECONDS_AT_1BPS;
@@ -129,7 +130,7 @@ fn stream_overflow<A: Allocator>(
     let rate = plans.description.rate().bits_per_second();
     let item = Item::Stream(i as u8);
     let work = work_of(
-        plans.plan.slots(),
+        &Period::of(plans.plan),
         item,
         rate,
         stream.rx as u64,
@@ -193,7 +194,7 @@ impl<A: Allocator> ItemCondition<ShapedPlan<'_, A>> for TransportBuffers {
         let start = claim.transport_start;
         let rate = plans.description.rate().bits_per_second();
         let item = Item::System(i as u8);
-        let work = work_of(plans.plan.slots(), item, rate, SYSTEM_TB_DRAIN, start);
+        let work = work_of(&Period::of(plans.plan), item, rate, SYSTEM_TB_DRAIN, start);
         buffer(
             Condition::TransportBuffer,
             number as u32,
@@ -226,7 +227,7 @@ impl<A: Allocator> ItemCondition<ShapedPlan<'_, A>> for SystemBuffers {
         let start = claim.system_start;
         let rate = plans.description.rate().bits_per_second();
         let item = Item::System(i as u8);
-        let work = work_of(plans.plan.slots(), item, rate, BSYS_DRAIN, start);
+        let work = work_of(&Period::of(plans.plan), item, rate, BSYS_DRAIN, start);
         buffer(
             Condition::SystemBuffer,
             i as u32,
@@ -298,7 +299,7 @@ fn leaking_buffer<A: Allocator>(
     let rate = plans.description.rate().bits_per_second();
     let drain = buffered.rbx as u64;
     let item = Item::Stream(i as u8);
-    let work = work_of(plans.plan.slots(), item, rate, drain, claim.start);
+    let work = work_of(&Period::of(plans.plan), item, rate, drain, claim.start);
     buffer(
         Condition::MultiplexingBuffer,
         i as u32,

@@ -19,6 +19,7 @@ use crate::condition_terms::{time_given, time_needed};
 use crate::conditions::ItemCondition;
 use crate::failure_search::FailureSearch;
 use crate::own_counts::own_count;
+use crate::period::Period;
 use crate::plans::ShapedPlan;
 use slot_plan::{Condition, Item, StreamDescription};
 use std::alloc::Allocator;
@@ -170,7 +171,7 @@ fn row_leads<A: Allocator>(
         plans.now.description.now.rate way.drain (peaked_share plans.now.plan.now i way.peak) i stream.now) 1
         (allowance_rows stream.now.allowance)) }
 {
-    let count = own_count(plans.plan.slots(), Item::Stream(i as u8));
+    let count = own_count(&Period::of(plans.plan), Item::Stream(i as u8));
     for before in 0..stream.allowance.rows() {
         units_lead(condition, plans, i, stream, count, way, before + 1, search);
     }

@@ -16,6 +16,7 @@ use crate::conditions::ItemCondition;
 use crate::failure_search::FailureSearch;
 use crate::frames::frame_rooms;
 use crate::own_counts::own_count;
+use crate::period::Period;
 use crate::plans::ShapedPlan;
 use crate::waiting_units::bytes_led;
 use slot_plan::{Condition, Description, Item, Plan, StreamDescription};
@@ -54,7 +55,7 @@ pub fn sent_within<A: Allocator>(
     ensures bytes { result ≡ sent_within description.now plan.now i time }
     ensures bound { result < 2 ^ 72 }
 {
-    let slots = plan.slots();
+    let slots = &Period::of(plan);
     let count = own_count(slots, Item::Stream(i as u8));
     let spread = claim_of_stream(plan, i).spread;
     let window = slots_of_time(time, description.rate().bits_per_second());

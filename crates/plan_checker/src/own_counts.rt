@@ -4,17 +4,23 @@ ghost use Rattle.std.specs.Prelude.{◌≡◌, ◌<◌, ◌≤◌, length};
 ghost use Rattle.own_slots.specs.Period.{per_period, position};
 ghost use Rattle.slot_plan.specs.Items.{marks};
 
+use crate::period::Period;
 use slot_plan::{Item, Slot};
 
 /// Returns the number of the item's own slots in a period.
-pub fn own_count(slots: &[Slot], item: Item) -> u64
+pub fn own_count(slots: &Period<'_>, item: Item) -> u64
     ensures count { result ≡ per_period (marks item slots.now) }
     ensures bound { result ≤ length slots.now }
 {
+    let period = slots.len();
     let mut count: u64 = 0;
-    for slot in slots {
-        if item.owns(*slot) {
+    let mut at = 0;
+    'walk: while at < period {
+        if slots.owns(item, at) {
             count += 1;
+            at = slots.next(item, at);
+        } else {
+            at += 1;
         }
     }
     count

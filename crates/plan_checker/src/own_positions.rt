@@ -6,21 +6,23 @@ ghost use Rattle.own_slots.specs.Period.{own, per_period, position};
 ghost use Rattle.slot_plan.specs.Items.{marks};
 
 use crate::own_counts::{own_count, own_slot};
-use slot_plan::{Item, Slot};
+use crate::period::Period;
+use slot_plan::Item;
 
 /// Returns the slot of own slot number `number`, from 0.
-pub fn position(slots: &[Slot], item: Item, number: u64) -> u64
+pub fn position(slots: &Period<'_>, item: Item, number: u64) -> u64
     requires owned { 0 < per_period (marks item slots.now) }
     requires short { length slots.now ≤ 65536 }
     requires near { number < 2 ^ 32 }
     ensures { result ≡ position (marks item slots.now) number }
 {
     let count = own_count(slots, item);
-    own_slot(slots, item, number % count) + number / count * slots.len() as u64
+    let all = slots.slots();
+    own_slot(all, item, number % count) + number / count * all.len() as u64
 }
 
 /// Returns the next own slot after an own slot.
-pub fn next_own_slot(slots: &[Slot], item: Item, from: u64) -> u64
+pub fn next_own_slot(slots: &Period<'_>, item: Item, from: u64) -> u64
     requires own { own (marks item slots.now) from ≡ true }
     requires owned { 0 < per_period (marks item slots.now) }
     requires short { length slots.now ≤ 65536 }
@@ -28,10 +30,13 @@ pub fn next_own_slot(slots: &[Slot], item: Item, from: u64) -> u64
     ensures { result ≡ position (marks item slots.now) (own_before (own (marks item slots.now)) from + 1) }
 {
     let period = slots.len() as u64;
-    for at in from + 1..from + period {
-        if item.owns(slots[(at % period) as usize]) {
+    let place = from % period;
+    let mut at = from + (slots.next(item, place as usize) as u64 - place);
+    'walk: while at < from + period {
+        if slots.owns(item, (at % period) as usize) {
             return at;
         }
+        at += 1;
     }
     from + period
 }

@@ -9,6 +9,7 @@ use crate::comparison::at_most;
 use crate::conditions::ItemCondition;
 use crate::failure_search::FailureSearch;
 use crate::gap::greatest_gap;
+use crate::period::Period;
 use crate::plans::ShapedPlan;
 use clock27::SLOT_MS_AT_1BPS;
 use slot_plan::{Condition, Description, Item, ProgramDescription, TableKind};
@@ -40,7 +41,7 @@ impl<A: Allocator> ItemCondition<ShapedPlan<'_, A>> for PcrGaps {
 
     fn check_item(plans: &ShapedPlan<'_, A>, i: usize, search: &mut FailureSearch) {
         let clock = clock_item(plans.description, i);
-        let gap = greatest_gap(plans.plan.slots(), clock, 1);
+        let gap = greatest_gap(&Period::of(plans.plan), clock, 1);
         let limit = plans.description.programs()[i].pcr_limit();
         at_most(
             Condition::PcrGap,
@@ -70,7 +71,7 @@ impl<A: Allocator> ItemCondition<ShapedPlan<'_, A>> for TableGaps {
     fn check_item(plans: &ShapedPlan<'_, A>, i: usize, search: &mut FailureSearch) {
         plans.description.keeps_ranges();
         let places = plans.description.round_packets(i) as u64;
-        let gap = greatest_gap(plans.plan.slots(), Item::Table(i as u8), places);
+        let gap = greatest_gap(&Period::of(plans.plan), Item::Table(i as u8), places);
         let limit = plans.description.table_limit(i);
         at_most(
             Condition::TableGap,

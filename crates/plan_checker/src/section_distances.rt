@@ -13,16 +13,17 @@ use crate::comparison::at_most;
 use crate::conditions::ItemCondition;
 use crate::failure_search::FailureSearch;
 use crate::own_positions::{next_own_slot, position};
+use crate::period::Period;
 use crate::plans::ShapedPlan;
 use clock27::SLOT_MS_AT_1BPS;
-use slot_plan::{Condition, Description, Item, Slot, TableKind};
+use slot_plan::{Condition, Description, Item, TableKind};
 use std::alloc::Allocator;
 
 /// The least time from the end of a section to the begin of the next section of its sub-table, in ms.
 const LEAST_DISTANCE: u128 = 25;
 
 /// Returns the least distance in slots from an own slot to the `row`-th own slot after it, round the period's end too.
-pub fn least_gap(slots: &[Slot], item: Item, row: u64) -> u64
+pub fn least_gap(slots: &Period<'_>, item: Item, row: u64) -> u64
     requires owned { 0 < per_period (marks item slots.now) }
     requires short { length slots.now ≤ 65536 }
     requires near { row < 2 ^ 31 }
@@ -30,10 +31,15 @@ pub fn least_gap(slots: &[Slot], item: Item, row: u64) -> u64
 {
     let mut ahead = position(slots, item, row);
     let mut least = ahead;
-    for (at, slot) in slots.iter().enumerate() {
-        if item.owns(*slot) {
+    let period = slots.len();
+    let mut at = 0;
+    'walk: while at < period {
+        if slots.owns(item, at) {
             least = least.min(ahead - at as u64);
             ahead = next_own_slot(slots, item, ahead);
+            at = slots.next(item, at);
+        } else {
+            at += 1;
         }
     }
     least
@@ -151,7 +157,7 @@ impl<A: Allocator> ItemCondition<ShapedPlan<'_, A>> for SectionDistances {
         }
         plans.description.keeps_ranges();
         let places = places_apart(plans.description, i);
-        let gap = least_gap(plans.plan.slots(), Item::Table(i as u8), places);
+        let gap = least_gap(&Period::of(plans.plan), Item::Table(i as u8), places);
         check_distance(plans.description, i, 0, gap, search);
     }
 }

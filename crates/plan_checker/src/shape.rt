@@ -13,6 +13,7 @@ use crate::comparison::{at_most, equal_counts};
 use crate::conditions::{ItemCondition, check_each};
 use crate::failure_search::FailureSearch;
 use crate::own_counts::own_count;
+use crate::period::Period;
 use crate::plans::AnyPlan;
 use slot_plan::{
     Condition, Description, Item, Plan, ProgramDescription, Slot, StreamDescription, TableKind,
@@ -103,7 +104,7 @@ fn owner<A: Allocator>(plan: &Plan<A>, number: usize, item: Item, search: &mut F
         4,
         number as u32,
         1,
-        own_count(plan.slots(), item) as u128,
+        own_count(&Period::of(plan), item) as u128,
         search,
     );
 }

@@ -5,11 +5,12 @@ ghost use Rattle.own_slots.specs.Spread.{spread};
 ghost use Rattle.slot_plan.specs.Items.{marks};
 
 use crate::own_counts::own_count;
-use slot_plan::{Item, Slot};
+use crate::period::Period;
+use slot_plan::Item;
 
 /// Returns how far the own slots stray from even spacing, in slots times own slots a period: the greatest difference of
 /// two own slots, found in one walk as the difference of the two extremes; 0 if the item has no own slot.
-pub fn spread_of(slots: &[Slot], item: Item) -> u64
+pub fn spread_of(slots: &Period<'_>, item: Item) -> u64
     requires short { length slots.now ≤ 65536 }
     ensures spread { result ≡ spread (marks item slots.now) }
     ensures bound { result ≤ 2 * 65536 * 65536 }
@@ -18,16 +19,21 @@ pub fn spread_of(slots: &[Slot], item: Item) -> u64
     if count == 0 {
         return 0;
     }
-    let period = slots.len() as u64;
+    let end = slots.len();
+    let period = end as u64;
     let mut number = 0;
     let mut highest = 0;
     let mut lowest = 2 * count * period;
-    for (at, slot) in slots.iter().enumerate() {
-        if item.owns(*slot) {
+    let mut at = 0;
+    'walk: while at < end {
+        if slots.owns(item, at) {
             let raised = count * at as u64 + (count - number) * period;
             highest = highest.max(raised);
             lowest = lowest.min(raised);
             number += 1;
+            at = slots.next(item, at);
+        } else {
+            at += 1;
         }
     }
     highest.saturating_sub(lowest)

@@ -11,6 +11,7 @@ use crate::condition_terms::{rate_given, rate_needed};
 use crate::conditions::ItemCondition;
 use crate::failure_search::FailureSearch;
 use crate::own_counts::own_count;
+use crate::period::Period;
 use crate::plans::ShapedPlan;
 use crate::spread::spread_of;
 use clock27::SLOT_UNITS_AT_1BPS;
@@ -34,7 +35,7 @@ impl<A: Allocator> ItemCondition<ShapedPlan<'_, A>> for Spreads {
 
     fn check_item(plans: &ShapedPlan<'_, A>, i: usize, search: &mut FailureSearch) {
         plans.description.keeps_ranges();
-        let spread = spread_of(plans.plan.slots(), Item::Stream(i as u8));
+        let spread = spread_of(&Period::of(plans.plan), Item::Stream(i as u8));
         let claimed = claim_of_stream(plans.plan, i).spread;
         at_most(
             Condition::Spread,
@@ -90,7 +91,7 @@ impl<A: Allocator> ItemCondition<ShapedPlan<'_, A>> for StreamRates {
 
     fn check_item(plans: &ShapedPlan<'_, A>, i: usize, search: &mut FailureSearch) {
         let stream = &plans.description.streams()[i];
-        let slots = plans.plan.slots();
+        let slots = &Period::of(plans.plan);
         let count = own_count(slots, Item::Stream(i as u8));
         let rate = plans.description.rate().bits_per_second();
         let needed = rate_needed(steady_packets(stream), slots.len() as u64);

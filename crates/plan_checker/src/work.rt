@@ -4,7 +4,8 @@ ghost use Rattle.std.specs.Prelude.{◌≡◌, ◌+◌, ◌*◌, ◌^◌, ◌<�
 ghost use Rattle.own_slots.specs.Work.{most_before, most_after, work_left};
 ghost use Rattle.slot_plan.specs.Items.{marks};
 
-use slot_plan::{Item, Slot};
+use crate::period::Period;
+use slot_plan::Item;
 
 /// The work of a buffer over one period, in units of 8 / (rate * drain) seconds: a byte is worth `rate`.
 #[derive(Clone, Copy, PartialEq, Eq)]
@@ -19,7 +20,7 @@ pub struct Work {
 
 /// Returns the work over one period that begins with `start`, of an output of `rate` bits/s and a buffer that drains
 /// `drain` bits/s: each slot drains the time of 188 bytes, an own slot adds 188 bytes.
-pub fn work_of(slots: &[Slot], item: Item, rate: u64, drain: u64, start: u64) -> Work
+pub fn work_of(slots: &Period<'_>, item: Item, rate: u64, drain: u64, start: u64) -> Work
     requires short { length slots.now ≤ 65536 }
     requires rate { rate ≤ 100000000 }
     requires drain { drain ≤ 200000000 }
@@ -35,14 +36,19 @@ pub fn work_of(slots: &[Slot], item: Item, rate: u64, drain: u64, start: u64) ->
     let mut work = start;
     let mut most_before = 0;
     let mut most_after = 0;
-    for slot in slots {
+    let period = slots.len();
+    let mut at = 0;
+    'walk: while at < period {
         let left = work.saturating_sub(drained);
-        if item.owns(*slot) {
+        if slots.owns(item, at) {
+            let next = slots.next(item, at);
             most_before = most_before.max(work + packet);
-            work = left + packet;
-            most_after = most_after.max(work);
+            most_after = most_after.max(left + packet);
+            work = (left + packet).saturating_sub(drained * (next - at - 1) as u64);
+            at = next;
         } else {
             work = left;
+            at += 1;
         }
     }
     Work {

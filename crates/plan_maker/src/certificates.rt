@@ -9,7 +9,7 @@ ghost use Rattle.plan_maker.specs.Certificates.{multiplexing_entry_of, stream_en
 ghost use Rattle.plan_maker.specs.Certificates.{stream_entries_of};
 ghost use Rattle.plan_maker.specs.Certificates.{program_entries_of, certificate_of, start_of, peak_of};
 
-use plan_checker::{spread_of, work_of};
+use plan_checker::{Period, spread_of, work_of};
 use slot_plan::{
     Certificate, Description, Item, MultiplexingEntry, ProgramEntry, Slot, StreamDescription,
     StreamEntry,
@@ -35,8 +35,9 @@ fn claim(slots: &[Slot], item: Item, rate: u64, drain: u64) -> BufferClaim
     ensures small_start { result.start < 10 ^ 18 }
     ensures small_peak { result.peak < 10 ^ 18 }
 {
-    let start = work_of(slots, item, rate, drain, 0).left;
-    let peak = work_of(slots, item, rate, drain, start).most_after;
+    let slots = Period::plain(slots);
+    let start = work_of(&slots, item, rate, drain, 0).left;
+    let peak = work_of(&slots, item, rate, drain, start).most_after;
     BufferClaim { start, peak }
 }
 
@@ -79,7 +80,7 @@ fn stream_entry(
     let rate = description.rate().bits_per_second();
     let claim = claim(slots, item, rate, stream.rx as u64);
     StreamEntry {
-        spread: spread_of(slots, item),
+        spread: spread_of(&Period::plain(slots), item),
         start: claim.start,
         peak: claim.peak,
         multiplexing: multiplexing_entry(description, slots, i, stream),

@@ -2,7 +2,7 @@
 ghost use Rattle.std.specs.Prelude.{◌≡◌, ◌≤◌, length};
 ghost use Rattle.plan_page.specs.Owners as spec;
 
-use plan_checker::{greatest_gap, own_count};
+use plan_checker::{Period, greatest_gap, own_count};
 use slot_plan::{Item, Slot};
 
 /// What a slot is for: an item, or null packets.
@@ -40,8 +40,9 @@ fn item_gap(item: Item, slots: &[Slot], row: u64) -> Option<u64>
     requires near { row ≤ 65535 }
     ensures { result ≡ spec.item_gap item slots.now row }
 {
-    if own_count(slots, item) > 0 {
-        Some(greatest_gap(slots, item, row))
+    let slots = Period::plain(slots);
+    if own_count(&slots, item) > 0 {
+        Some(greatest_gap(&slots, item, row))
     } else {
         None
     }

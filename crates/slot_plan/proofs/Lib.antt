@@ -23,3 +23,4 @@ pub mod OnePlan
 pub mod OwnSlotsInTurn
 pub mod TwoPlans
 pub mod Waiting
+mod PeriodLinks

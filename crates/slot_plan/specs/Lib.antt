@@ -3,6 +3,7 @@ pub mod Numbered
 pub mod Planned
 pub mod Refusals
 pub mod Items
+pub mod Links
 pub mod Plans
 pub mod Text
 pub mod Readers

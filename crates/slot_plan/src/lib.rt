@@ -20,6 +20,7 @@ mod certificate;
 mod condition;
 mod entries;
 pub mod laws;
+mod links;
 mod plan;
 mod reader;
 pub mod serving_plans;

@@ -1,7 +1,8 @@
 //! A plan: the slots of one period and their certificate.
 
-ghost use Rattle.std.specs.Prelude.{◌≡◌, IfOk, IfErr, None, string_bytes};
+ghost use Rattle.std.specs.Prelude.{◌≡◌, IfOk, IfErr, None, option_map, string_bytes};
 ghost use Rattle.std.specs.List.{list_all};
+ghost use Rattle.slot_plan.specs.Links.{AreLinks};
 ghost use Rattle.slot_plan.specs.Text.{plan_text};
 ghost use Rattle.slot_plan.specs.PlanTexts.{BeginsWithPlan, Refuses};
 ghost use Rattle.slot_plan.specs.Refusals.{plan_refusal};
@@ -9,6 +10,7 @@ ghost use Rattle.slot_plan.specs.Planned.{plan_error, has_small_numbers, is_smal
 ghost use Rattle.slot_plan.specs.Planned.{is_small_multiplexing};
 
 use crate::certificate::{Certificate, MAX_ENTRIES, MultiplexingEntry, ProgramEntry, StreamEntry};
+use crate::links::links_of;
 use crate::reader::{PlanTextError, plan_at};
 use crate::slot::{MAX_SLOTS, Slot};
 use crate::text::{write_head, write_programs, write_slots, write_streams};
@@ -28,23 +30,26 @@ pub enum PlanError {
     Number,
 }
 
-/// The slots of one period, with their claims for the buffers: at most 99,999 slots, at most 256
-/// entries of a kind, each number below 10^18. Whether the claims hold is for the plan checker to say.
+/// The slots of one period, with their claims for the buffers: at most 99,999 slots, at most 256 entries of a kind, each
+/// number below 10^18. Whether the claims hold is for the plan checker to say, which is faster with links between slots.
 #[derive(Drop)]
 pub struct Plan<A: Allocator = Global> {
     slots: Vec<Slot, A>,
     certificate: Certificate<A>,
+    links: Option<Vec<u32, A>>,
 }
 
 impl<A: Allocator> Model for Plan<A> {
-    ghost use Rattle.std.specs.Prelude.{◌≡◌, None};
+    ghost use Rattle.std.specs.Prelude.{◌≡◌, None, option_map};
+    ghost use Rattle.slot_plan.specs.Links.{AreLinks};
     ghost use Rattle.slot_plan.specs.Planned.{Planned, plan_error};
 
     ghost Value = { Planned };
 
     ghost view = { λ p. record { slots = p.slots.items; certificate = p.certificate } };
 
-    ghost invariant = { λ p. plan_error p.slots.items p.certificate ≡ None };
+    ghost invariant = { λ p. (plan_error p.slots.items p.certificate ≡ None)
+        × AreLinks p.slots.items (option_map (λ links. links.items) p.links) };
 }
 
 impl<A: Allocator> Plan<A> {
@@ -59,7 +64,11 @@ impl<A: Allocator> Plan<A> {
     {
         match error_of(&slots, &certificate) {
             Some(error) => Err((error, slots, certificate)),
-            None => Ok(Plan { slots, certificate }),
+            None => Ok(Plan {
+                slots,
+                certificate,
+                links: None,
+            }),
         }
     }
 
@@ -69,6 +78,16 @@ impl<A: Allocator> Plan<A> {
         ensures within { plan_error self.now.slots self.now.certificate ≡ None }
     {
         self.slots.as_slice()
+    }
+
+    /// Returns the links of the slots, from the last slot to the first, if there are any.
+    pub fn links(&self) -> Option<&[u32]>
+        ensures { AreLinks self.now.slots (option_map (λ links. links.now) result) }
+    {
+        match &self.links {
+            None => None,
+            Some(links) => Some(links.as_slice()),
+        }
     }
 
     /// Returns the plan's claims for its buffers.
@@ -101,9 +120,18 @@ impl<A: Allocator + Clone> Plan<A> {
         ensures read { IfOk result (λ read. BeginsWithPlan text.now read.0 read.1) }
         ensures refused { IfErr result (Refuses text.now) }
     {
+        let Ok(second) = alloc.clone() else {
+            return Err(PlanTextError::Memory);
+        };
         let (slots, certificate, rest) = plan_at(alloc, text)?;
         let bytes = text.len() - rest.len();
-        Ok((Plan { slots, certificate }, bytes))
+        let links = links_of(second, &slots);
+        let plan = Plan {
+            slots,
+            certificate,
+            links,
+        };
+        Ok((plan, bytes))
     }
 }
 

@@ -20,7 +20,7 @@ use plan_checker::condition_terms::{time_given, time_needed};
 use plan_checker::conditions::ItemCondition;
 use plan_checker::failure_search::FailureSearch;
 use plan_checker::leads::group_part;
-use plan_checker::{own_count, packets_in_row};
+use plan_checker::{Period, own_count, packets_in_row};
 use slot_plan::{Condition, Item, StreamDescription};
 use std::alloc::Allocator;
 
@@ -163,18 +163,18 @@ fn shares_of<A: Allocator>(plans: &PlanPair<'_, A>, i: usize) -> SwitchShares
     let next_claim = claim_of_stream(second, i);
     SwitchShares {
         first: PlanShare {
-            count: own_count(first.slots(), item),
+            count: own_count(&Period::of(first), item),
             period: first.slots().len() as u64,
             spread: claim.spread,
             peak: claim.peak,
         },
         second: PlanShare {
-            count: own_count(second.slots(), item),
+            count: own_count(&Period::of(second), item),
             period: second.slots().len() as u64,
             spread: next_claim.spread,
             peak: next_claim.peak,
         },
-        shift: shift_of(first.slots(), second.slots(), item),
+        shift: shift_of(&Period::of(first), &Period::of(second), item),
     }
 }
 

@@ -7,10 +7,10 @@ ghost use Rattle.slot_plan.specs.SwitchConditions.{pcr_switch_entry, table_switc
 use crate::across::greatest_gap_across;
 use crate::plan_pair::PlanPair;
 use clock27::SLOT_MS_AT_1BPS;
-use plan_checker::clock_item;
 use plan_checker::comparison::at_most;
 use plan_checker::conditions::ItemCondition;
 use plan_checker::failure_search::FailureSearch;
+use plan_checker::{Period, clock_item};
 use slot_plan::{Condition, Item, ProgramDescription, TableKind};
 use std::alloc::Allocator;
 
@@ -29,9 +29,9 @@ impl<A: Allocator> ItemCondition<PlanPair<'_, A>> for PcrSwitches {
     }
 
     fn check_item(plans: &PlanPair<'_, A>, i: usize, search: &mut FailureSearch) {
-        let (first, second) = (plans.first.slots(), plans.second.slots());
+        let (first, second) = (Period::of(plans.first), Period::of(plans.second));
         let clock = clock_item(plans.description, i);
-        let gap = greatest_gap_across(first, second, clock, 1);
+        let gap = greatest_gap_across(&first, &second, clock, 1);
         let limit = plans.description.programs()[i].pcr_limit();
         at_most(
             Condition::PcrSwitch,
@@ -61,8 +61,8 @@ impl<A: Allocator> ItemCondition<PlanPair<'_, A>> for TableSwitches {
     fn check_item(plans: &PlanPair<'_, A>, i: usize, search: &mut FailureSearch) {
         plans.description.keeps_ranges();
         let places = plans.description.round_packets(i) as u64;
-        let (first, second) = (plans.first.slots(), plans.second.slots());
-        let gap = greatest_gap_across(first, second, Item::Table(i as u8), places);
+        let (first, second) = (Period::of(plans.first), Period::of(plans.second));
+        let gap = greatest_gap_across(&first, &second, Item::Table(i as u8), places);
         let limit = plans.description.table_limit(i);
         at_most(
             Condition::TableSwitch,

@@ -10,15 +10,15 @@ ghost use Rattle.slot_plan.specs.SectionDistances.{section_switch_entries};
 use crate::plan_pair::PlanPair;
 use plan_checker::conditions::ItemCondition;
 use plan_checker::failure_search::FailureSearch;
-use plan_checker::own_count;
 use plan_checker::own_positions::{next_own_slot, position};
 use plan_checker::section_distances::{check_distance, is_spaced, places_apart};
-use slot_plan::{Item, Slot, TableKind};
+use plan_checker::{Period, own_count};
+use slot_plan::{Item, TableKind};
 use std::alloc::Allocator;
 
 /// Returns the least gap across the switch between `row` own slots in a row: from own slot `-x` of the first plan to
 /// own slot `row - x` of the second, x from 1 to `row`.
-pub fn least_gap_across(first: &[Slot], second: &[Slot], item: Item, row: u64) -> u64
+pub fn least_gap_across(first: &Period<'_>, second: &Period<'_>, item: Item, row: u64) -> u64
     requires owned { 0 < per_period (marks item first.now) }
     requires next_owned { 0 < per_period (marks item second.now) }
     requires short { length first.now ≤ 65536 }
@@ -27,7 +27,7 @@ pub fn least_gap_across(first: &[Slot], second: &[Slot], item: Item, row: u64) -
     requires near { row < 32768 }
     ensures { result ≡ least_gap_across (marks item first.now) (marks item second.now) row }
 {
-    let end = row * first.len() as u64;
+    let end = first.slots_in(row);
     let mut before = position(first, item, row * own_count(first, item) - row);
     let mut after = position(second, item, 0);
     let mut least = after + (end - before);
@@ -59,8 +59,8 @@ impl<A: Allocator> ItemCondition<PlanPair<'_, A>> for SectionSwitches {
         }
         plans.description.keeps_ranges();
         let places = places_apart(plans.description, i);
-        let (first, second) = (plans.first.slots(), plans.second.slots());
-        let gap = least_gap_across(first, second, Item::Table(i as u8), places);
+        let (first, second) = (Period::of(plans.first), Period::of(plans.second));
+        let gap = least_gap_across(&first, &second, Item::Table(i as u8), places);
         check_distance(plans.description, i, 1, gap, search);
     }
 }

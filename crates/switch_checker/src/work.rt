@@ -16,7 +16,7 @@ use plan_checker::claims::{claim_of_multiplexing, claim_of_program, claim_of_str
 use plan_checker::comparison::at_most;
 use plan_checker::conditions::ItemCondition;
 use plan_checker::failure_search::FailureSearch;
-use plan_checker::{empty_slots, work_of};
+use plan_checker::{Period, empty_slots, work_of};
 use slot_plan::{Condition, Item, ProgramDescription, Slot, StreamDescription};
 use std::alloc::Allocator;
 use unit_timing::buffers::{BSYS_DRAIN, SYSTEM_TB_DRAIN};
@@ -25,7 +25,7 @@ use unit_timing::multiplexing_buffer::MultiplexingBuffer;
 /// Checks one buffer at the switch; takes its item and number, its drain and the works that both plans' periods begin
 /// with.
 fn work_switch(
-    slots: &[Slot],
+    slots: &Period<'_>,
     item: Item,
     number: usize,
     rate: u64,
@@ -139,7 +139,7 @@ fn stream_work<A: Allocator>(
         plans.now.description.now plans.now.first.now plans.now.second.now i stream.now ∷ []) }
 {
     work_switch(
-        plans.first.slots(),
+        &Period::of(plans.first),
         Item::Stream(i as u8),
         i,
         plans.description.rate().bits_per_second(),
@@ -195,7 +195,7 @@ impl<A: Allocator> ItemCondition<PlanPair<'_, A>> for TransportWorks {
 
     fn check_item(plans: &PlanPair<'_, A>, i: usize, search: &mut FailureSearch) {
         work_switch(
-            plans.first.slots(),
+            &Period::of(plans.first),
             Item::System(i as u8),
             plans.description.streams().len() + i,
             plans.description.rate().bits_per_second(),
@@ -225,7 +225,7 @@ impl<A: Allocator> ItemCondition<PlanPair<'_, A>> for SystemWorks {
         let streams = plans.description.streams().len();
         let programs = plans.description.programs().len();
         work_switch(
-            plans.first.slots(),
+            &Period::of(plans.first),
             Item::System(i as u8),
             streams + programs + i,
             plans.description.rate().bits_per_second(),
@@ -300,7 +300,16 @@ fn leaking_work<A: Allocator>(
     let slots = plans.first.slots();
     let next_slots = plans.second.slots();
     let rbx = buffer.rbx as u64;
-    work_switch(slots, item, number, rate, rbx, start, next, search);
+    work_switch(
+        &Period::of(plans.first),
+        item,
+        number,
+        rate,
+        rbx,
+        start,
+        next,
+        search,
+    );
     emptied_switch(
         slots, next_slots, item, number, rate, rbx, start, next, search,
     );

@@ -1,16 +1,21 @@
-use Rattle.std.proofs.Common.{◌≡◌, ℕ, ◌+◌, ◌*◌, length, arith, ap, sym, ◌∙◌}
+use Rattle.std.proofs.Common.{◌≡◌, ℕ, ◌+◌, ◌-◌, ◌*◌, false, length, arith, ap, sym, ◌∙◌}
+use Rattle.std.proofs.Math.Nat.{mul-le-mul_right}
 use Rattle.own_slots.specs.Extremes.{greatest}
 use Rattle.own_slots.specs.Work.{work_at, before_at, after_at}
 use Rattle.own_slots.proofs.Extremes.{greatest_none}
 use Rattle.own_slots.proofs.WorkLemmas.{work_begin, before_more, before_same, after_more, after_same}
 use Rattle.slot_plan.specs.Items.{marks}
 use Rattle.plan_checker.proofs.work.work_of.Goals as goal
-use Rattle.plan_checker.proofs.work.work_of.Goals.{then-owns, else-owns}
 use Rattle.clock27.proofs.MinMax.{max_is}
-use Rattle.plan_checker.proofs.OwnMarks.{length_marks, mark_within, work_own, work_other}
+use Rattle.plan_checker.proofs.OwnMarks.{length_marks, work_own, work_other}
+use Rattle.plan_checker.proofs.OwnWalks.{mark_in, work_over, before_over, after_over}
 
-pub loop-slot-init : goal.loop-slot-init
-loop-slot-init c = record {
+slots_between : (n i : ℕ) → n - i - 1 ≡ n - (i + 1)
+slots_between n i = omega arith
+
+pub walk-init : goal.walk-init
+walk-init c = record {
+  within = omega arith;
   now = sym (work_begin c.args.rate c.args.drain c.args.start (marks c.args.item c.args.slots.now));
   bound = omega arith;
   few_after = omega arith;
@@ -18,71 +23,94 @@ loop-slot-init c = record {
   after = sym (greatest_none (after_at c.args.rate c.args.drain c.args.start (marks c.args.item c.args.slots.now)));
 }
 
-pub loop-slot-preserved : goal.loop-slot-preserved
-loop-slot-preserved c = elim c.if-owns.branch [
-  | then-owns w ↦
-      let y = mark_within c.args.item c.args.slots.now c.loop-slot.slot-index _ c.loop-slot-test.true ∙ sym c.owns.ensures ∙ w.if-owns.true in
-      let next = work_own c.args.rate c.args.drain c.args.start c.args.item c.args.slots.now c.loop-slot.slot-index c.loop-slot-test.true y in
-      record {
-        now = omega (arith, w.work-is, c.saturating_sub-left.ensures, c.loop-slot.invariant.now, next);
-        bound = omega (arith, w.work-is, c.saturating_sub-left.ensures, c.loop-slot.invariant.bound);
-        before = omega (
-          arith,
-          w.most_before-is,
-          w.max-most_before.ensures,
-          max_is c.loop-slot.most_before (c.loop-slot.work + 188 * c.args.rate),
-          c.loop-slot.invariant.now,
-          c.loop-slot.invariant.before,
-          before_more c.args.rate c.args.drain c.args.start (marks c.args.item c.args.slots.now) c.loop-slot.slot-index y,
-        );
-        few_after = omega (
-          arith,
-          w.most_after-is,
-          w.max-most_after.ensures,
-          max_is c.loop-slot.most_after (c.saturating_sub-left.result + 188 * c.args.rate),
-          w.work-is,
-          c.saturating_sub-left.ensures,
-          c.loop-slot.invariant.bound,
-          c.loop-slot.invariant.few_after,
-        );
-        after = omega (
-          arith,
-          w.most_after-is,
-          w.max-most_after.ensures,
-          max_is c.loop-slot.most_after (c.saturating_sub-left.result + 188 * c.args.rate),
-          w.work-is,
-          c.saturating_sub-left.ensures,
-          c.loop-slot.invariant.now,
-          c.loop-slot.invariant.after,
-          next,
-          after_more c.args.rate c.args.drain c.args.start (marks c.args.item c.args.slots.now) c.loop-slot.slot-index y,
-        );
-      }
-  | else-owns w ↦
-      let n = mark_within c.args.item c.args.slots.now c.loop-slot.slot-index _ c.loop-slot-test.true ∙ sym c.owns.ensures ∙ w.if-owns.false in
-      let next = work_other c.args.rate c.args.drain c.args.start c.args.item c.args.slots.now c.loop-slot.slot-index c.loop-slot-test.true n in
-      record {
-        now = omega (arith, w.work-is, c.saturating_sub-left.ensures, c.loop-slot.invariant.now, next);
-        bound = omega (arith, w.work-is, c.saturating_sub-left.ensures, c.loop-slot.invariant.bound);
-        before = w.most_before-is ∙ c.loop-slot.invariant.before
-            ∙ sym (before_same c.args.rate c.args.drain c.args.start (marks c.args.item c.args.slots.now) c.loop-slot.slot-index n);
-        few_after = omega (arith, w.most_after-is, c.loop-slot.invariant.few_after);
-        after = w.most_after-is ∙ c.loop-slot.invariant.after
-            ∙ sym (after_same c.args.rate c.args.drain c.args.start (marks c.args.item c.args.slots.now) c.loop-slot.slot-index n);
-      }
-]
+pub walk-preserved-then-owns : goal.walk-preserved-then-owns
+walk-preserved-then-owns c =
+    let y = mark_in c.args.item c.args.slots.now c.walk.at (omega arith) ∙ sym c.owns.ensures ∙ c.if-owns.true in
+    let here = work_own c.args.rate c.args.drain c.args.start c.args.item c.args.slots.now c.walk.at (omega arith) y in
+    let next = c.next-next.ensures in
+    let over = work_over c.args.rate c.args.drain c.args.start c.args.item c.args.slots.now (c.walk.at + 1) c.next-next.result next in
+    record {
+      within = omega (arith, next.within);
+      now = omega (
+        arith,
+        c.saturating_sub-work.ensures,
+        c.saturating_sub-left.ensures,
+        c.walk.invariant.now,
+        here,
+        over,
+        ap (λ (n : ℕ). 188 * c.args.drain * n) (slots_between c.next-next.result c.walk.at),
+      );
+      bound = omega (
+        arith,
+        next.after,
+        c.saturating_sub-work.ensures,
+        c.saturating_sub-left.ensures,
+        c.walk.invariant.bound,
+        mul-le-mul_right (188 * c.args.rate) next.after,
+      );
+      before = omega (
+        arith,
+        c.max-most_before.ensures,
+        max_is c.walk.most_before (c.walk.work + 188 * c.args.rate),
+        c.walk.invariant.now,
+        c.walk.invariant.before,
+        before_more c.args.rate c.args.drain c.args.start (marks c.args.item c.args.slots.now) c.walk.at y,
+        before_over c.args.rate c.args.drain c.args.start c.args.item c.args.slots.now (c.walk.at + 1) c.next-next.result next,
+      );
+      few_after = omega (
+        arith,
+        c.max-most_after.ensures,
+        max_is c.walk.most_after (c.saturating_sub-left.result + 188 * c.args.rate),
+        next.after,
+        c.saturating_sub-left.ensures,
+        c.walk.invariant.bound,
+        c.walk.invariant.few_after,
+        mul-le-mul_right (188 * c.args.rate) next.after,
+      );
+      after = omega (
+        arith,
+        c.max-most_after.ensures,
+        max_is c.walk.most_after (c.saturating_sub-left.result + 188 * c.args.rate),
+        c.saturating_sub-left.ensures,
+        c.walk.invariant.now,
+        c.walk.invariant.after,
+        here,
+        after_more c.args.rate c.args.drain c.args.start (marks c.args.item c.args.slots.now) c.walk.at y,
+        after_over c.args.rate c.args.drain c.args.start c.args.item c.args.slots.now (c.walk.at + 1) c.next-next.result next,
+      );
+    }
+
+pub walk-preserved : goal.walk-preserved
+walk-preserved c =
+    let n = mark_in c.args.item c.args.slots.now c.walk.at (omega arith) ∙ sym c.owns.ensures ∙ c.if-owns.false in
+    let here = work_other c.args.rate c.args.drain c.args.start c.args.item c.args.slots.now c.walk.at (omega arith) n in
+    record {
+      within = omega arith;
+      now = omega (
+        arith,
+        c.saturating_sub-left.ensures,
+        c.walk.invariant.now,
+        here,
+      );
+      bound = omega (arith, c.saturating_sub-left.ensures, c.walk.invariant.bound);
+      before = c.walk.invariant.before
+          ∙ sym (before_same c.args.rate c.args.drain c.args.start (marks c.args.item c.args.slots.now) c.walk.at n);
+      few_after = omega (arith, c.walk.invariant.few_after);
+      after = c.walk.invariant.after
+          ∙ sym (after_same c.args.rate c.args.drain c.args.start (marks c.args.item c.args.slots.now) c.walk.at n);
+    }
 
 pub returns-clause-before : goal.returns-clause-before
 returns-clause-before c =
-    let e : c.loop-slot.slot-index ≡ length (marks c.args.item c.args.slots.now) = omega (arith, length_marks c.args.item c.args.slots.now) in
-    c.loop-slot.invariant.before ∙ ap (λ (n : ℕ). greatest n (before_at c.args.rate c.args.drain c.args.start (marks c.args.item c.args.slots.now))) e
+    let e : c.walk.at ≡ length (marks c.args.item c.args.slots.now) = omega (arith, length_marks c.args.item c.args.slots.now) in
+    c.walk.invariant.before ∙ ap (λ (n : ℕ). greatest n (before_at c.args.rate c.args.drain c.args.start (marks c.args.item c.args.slots.now))) e
 
 pub returns-clause-after : goal.returns-clause-after
 returns-clause-after c =
-    let e : c.loop-slot.slot-index ≡ length (marks c.args.item c.args.slots.now) = omega (arith, length_marks c.args.item c.args.slots.now) in
-    c.loop-slot.invariant.after ∙ ap (λ (n : ℕ). greatest n (after_at c.args.rate c.args.drain c.args.start (marks c.args.item c.args.slots.now))) e
+    let e : c.walk.at ≡ length (marks c.args.item c.args.slots.now) = omega (arith, length_marks c.args.item c.args.slots.now) in
+    c.walk.invariant.after ∙ ap (λ (n : ℕ). greatest n (after_at c.args.rate c.args.drain c.args.start (marks c.args.item c.args.slots.now))) e
 
 pub returns-clause-left : goal.returns-clause-left
 returns-clause-left c =
-    let e : c.loop-slot.slot-index ≡ length (marks c.args.item c.args.slots.now) = omega (arith, length_marks c.args.item c.args.slots.now) in
-    c.loop-slot.invariant.now ∙ ap (work_at c.args.rate c.args.drain c.args.start (marks c.args.item c.args.slots.now)) e
+    let e : c.walk.at ≡ length (marks c.args.item c.args.slots.now) = omega (arith, length_marks c.args.item c.args.slots.now) in
+    c.walk.invariant.now ∙ ap (work_at c.args.rate c.args.drain c.args.start (marks c.args.item c.args.slots.now)) e

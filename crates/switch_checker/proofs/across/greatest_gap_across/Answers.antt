@@ -20,7 +20,7 @@ loop-step-init c = record {
 
 pub overflow_sub-end : goal.overflow_sub-end
 overflow_sub-end c =
-    omega (arith, c.loop-step.invariant.left, before_end c.args.item c.args.first.now c.args.row c.loop-step.step c.requires.owned c.loop-step-test.true)
+    omega (arith, c.slots_in-end.ensures, c.loop-step.invariant.left, before_end c.args.item c.args.first.now c.args.row c.loop-step.step c.requires.owned c.loop-step-test.true)
 
 pub overflow_add-after : goal.overflow_add-after
 overflow_add-after c = record {
@@ -29,6 +29,7 @@ overflow_add-after c = record {
     c.loop-step.invariant.reached,
     position_small c.args.item c.args.second.now c.loop-step.step 32768 c.requires.next_owned c.requires.next_short (omega arith),
     end_small c.args.row (length c.args.first.now) c.requires.near c.requires.short,
+    c.slots_in-end.ensures,
   );
 }
   where
@@ -70,7 +71,8 @@ loop-step-preserved c = record {
     arith,
     c.max-greatest.ensures,
     c.loop-step.invariant.found,
-    max_is c.loop-step.greatest (c.loop-step.after + (c.args.row * length c.args.first.now - c.loop-step.before)),
+    max_is c.loop-step.greatest (c.loop-step.after + (c.slots_in-end.result - c.loop-step.before)),
+    c.slots_in-end.ensures,
     gap_here c.args.item c.args.first.now c.args.second.now c.args.row c.loop-step.step c.loop-step.before c.loop-step.after
         c.loop-step.invariant.left c.loop-step.invariant.reached c.requires.owned c.loop-step-test.true,
     greatest_more c.loop-step.step (gap_after (marks c.args.item c.args.first.now) (marks c.args.item c.args.second.now) c.args.row),

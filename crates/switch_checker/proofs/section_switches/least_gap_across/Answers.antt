@@ -15,19 +15,24 @@ loop-step-init c = record {
       ap (λ (n : ℕ). c.args.row * n - c.args.row) c.own_count.ensures.count ∙ omega arith in
       c.position-before.ensures ∙ ap (position (marks c.args.item c.args.first.now)) e;
   reached = c.position-after.ensures;
-  found = first_here c.args.item c.args.first.now c.args.second.now c.args.row c.own_count.result c.position-before.result c.position-after.result
+  found = ap (λ (n : ℕ). c.position-after.result + (n - c.position-before.result)) c.slots_in-end.ensures
+      ∙ first_here c.args.item c.args.first.now c.args.second.now c.args.row c.own_count.result c.position-before.result c.position-after.result
       c.own_count.ensures.count c.position-before.ensures c.position-after.ensures c.requires.owned c.requires.some
       ∙ sym (least_none (first_gap (marks c.args.item c.args.first.now) (marks c.args.item c.args.second.now) c.args.row)
       (gap_after (marks c.args.item c.args.first.now) (marks c.args.item c.args.second.now) c.args.row));
 }
 
 pub overflow_sub-least : goal.overflow_sub-least
-overflow_sub-least c = before_first c.args.item c.args.first.now c.args.row c.own_count.result c.position-before.result c.own_count.ensures.count
-    c.position-before.ensures c.requires.owned c.requires.some
+overflow_sub-least c = omega (
+  arith,
+  c.slots_in-end.ensures,
+  before_first c.args.item c.args.first.now c.args.row c.own_count.result c.position-before.result c.own_count.ensures.count
+      c.position-before.ensures c.requires.owned c.requires.some,
+)
 
 pub overflow_sub-end : goal.overflow_sub-end
 overflow_sub-end c =
-    omega (arith, c.loop-step.invariant.left, before_end c.args.item c.args.first.now c.args.row c.loop-step.step c.requires.owned c.loop-step-test.true)
+    omega (arith, c.slots_in-end.ensures, c.loop-step.invariant.left, before_end c.args.item c.args.first.now c.args.row c.loop-step.step c.requires.owned c.loop-step-test.true)
 
 end_small : (k n : ℕ) → k < 32768 → n ≤ 65536 → k * n ≤ 32768 * 65536
 end_small k n near short = mul-le k n 32768 65536 (omega arith) short
@@ -39,6 +44,7 @@ overflow_add-least c = record {
     c.position-after.ensures,
     position_small c.args.item c.args.second.now 0 32768 c.requires.next_owned c.requires.next_short (omega arith),
     end_small c.args.row (length c.args.first.now) c.requires.near c.requires.short,
+    c.slots_in-end.ensures,
   );
 }
 
@@ -49,6 +55,7 @@ overflow_add-after c = record {
     c.loop-step.invariant.reached,
     position_small c.args.item c.args.second.now c.loop-step.step 32768 c.requires.next_owned c.requires.next_short (omega arith),
     end_small c.args.row (length c.args.first.now) c.requires.near c.requires.short,
+    c.slots_in-end.ensures,
   );
 }
 
@@ -87,7 +94,8 @@ loop-step-preserved c = record {
     arith,
     c.min-least.ensures,
     c.loop-step.invariant.found,
-    min_is c.loop-step.least (c.loop-step.after + (c.args.row * length c.args.first.now - c.loop-step.before)),
+    min_is c.loop-step.least (c.loop-step.after + (c.slots_in-end.result - c.loop-step.before)),
+    c.slots_in-end.ensures,
     gap_here c.args.item c.args.first.now c.args.second.now c.args.row c.loop-step.step c.loop-step.before c.loop-step.after
         c.loop-step.invariant.left c.loop-step.invariant.reached c.requires.owned c.loop-step-test.true,
     least_more (first_gap (marks c.args.item c.args.first.now) (marks c.args.item c.args.second.now) c.args.row) c.loop-step.step
