@@ -194,6 +194,7 @@ impl<A: Allocator> ItemCondition<PlanPair<'_, A>> for TransportWorks {
     }
 
     fn check_item(plans: &PlanPair<'_, A>, i: usize, search: &mut FailureSearch) {
+        plans.description.keeps_ranges();
         work_switch(
             &Period::of(plans.first),
             Item::System(i as u8),

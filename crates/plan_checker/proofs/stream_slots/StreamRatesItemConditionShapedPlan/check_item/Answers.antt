@@ -11,7 +11,8 @@ returns g c x at =
       c.steady_packets.ensures.packets,
       c.steady_time.ensures.time,
       c.own_count-count.ensures.count,
-      c.slots-slots.ensures.slots,
+      c.len.ensures,
+      c.of.ensures,
       c.bits_per_second-rate.ensures.value,
       c.rate.ensures,
     ) at c.at_most.ensures in
