@@ -8,7 +8,9 @@ use Rattle.es_moments.specs.RisingDts.{dts_are_made, rising_units}
 use Rattle.es_moments.specs.Declaration.{min_interval, max_unit_size, max_pts_after, AllowsUnits}
 use Rattle.es_units.specs.Laws.{FirstDue}
 use Rattle.es_moments.specs.Stamps.{moved, first_fault}
+use Rattle.std.specs.List.{list_any}
 use Rattle.description_parts.specs.Described.{Described, DescribedStream}
+use Rattle.description_parts.specs.Tables.{has_on_air}
 use Rattle.job_programs.specs.JobStreams.{TimedStreamView, WireStreamView}
 use Rattle.es_moments.specs.WireUnits.{CarriedUnit}
 
@@ -47,10 +49,11 @@ IsMoved made findings t = AreFound made findings t.pid t.units
 abbrev pub FitsQueue : TimedStreamView → Type 0
 FitsQueue t = length t.units ≤ 1_048_576
 
--- a description declares of a stream what these units need
+-- a description declares of a stream what these units need, and a program on air has the stream
 pub record Declares (d : Described) (s : DescribedStream) (us : List AccessUnit) : Type 0 where
   pub interval : s.interval ≤ min_interval us
   pub size : max_unit_size us ≤ s.size
   pub pts : max_pts_after us ≤ s.pts_limit
   pub lead : FirstDue s.lead us
   pub allowance : AllowsUnits s.allowance s.stream_id d.base0 us
+  pub on_air : list_any (has_on_air s) d.programs ≡ true

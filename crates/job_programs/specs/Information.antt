@@ -11,9 +11,21 @@ use Rattle.dvb_texts.specs.Texts.{decode_text}
 use Rattle.service_information.specs.StreamTime.{stream_time}
 use Rattle.job_programs.specs.Events.{event_parts, job_events, start_of}
 use Rattle.given_values.specs.GivenNames.{NetworkNameView, ServiceNameView}
+use Rattle.job_programs.specs.GivenLoops.{given_network, given_service, kept_loop}
 use Rattle.job_programs.specs.GivenNames.{name_given, original_given}
 use Rattle.job_programs.specs.JobOptions.{JobOptionsView}
 use Rattle.job_programs.specs.JobPrograms.{JobProgramView}
+
+-- a service: the texts that it has, and all of its descriptors if these do not give exactly these
+pub record NamedServiceView : Type 0 where
+  pub service_type : ℕ
+  pub provider : List ℕ
+  pub name : List ℕ
+  pub descriptors : Option (List ℕ)
+
+-- the descriptors that a description with these texts has of the service
+abbrev pub service_loop : NamedServiceView → Option (List ℕ)
+service_loop s = option_or s.descriptors (given_service s.service_type s.provider s.name)
 
 -- the moment of the first slot as its characters; whether there are a time and date table and a service description table; and of each
 -- program its service, in the order of the programs
@@ -25,7 +37,7 @@ pub record JobInformationView : Type 0 where
   pub sdt : Bool
   pub network : Option NetworkPartView
   pub events : List EventPartView
-  pub services : List FoundServiceView
+  pub services : List NamedServiceView
 
 -- 1. The service description table
 
@@ -44,15 +56,27 @@ original_of given id findings = option_or (option_or (original_given given) (net
 
 -- the network that is given
 unfoldable pub network_of : NetworkNameView → NetworkPartView
-network_of n = record { id = n.id; name = n.name; descriptors = [] }
+network_of n = record { id = n.id; name = n.name; network_descriptors = None; descriptors = [] }
 
 -- the stream's network, its name with at most 200 bytes
-unfoldable pub network_found : FoundNetworkView → NetworkPartView
-network_found n = record { id = n.id; name = decode_text 200 n.name; descriptors = n.descriptors }
+unfoldable pub network_with : FoundNetworkView → List ℕ → NetworkPartView
+network_with n name = record {
+  id = n.id;
+  name = name;
+  network_descriptors = kept_loop 700 (given_network name) n.network_descriptors;
+  descriptors = n.descriptors;
+}
+
+abbrev pub network_found : FoundNetworkView → NetworkPartView
+network_found n = network_with n (decode_text 200 n.name)
 
 unfoldable pub network_or : Option NetworkNameView → Option FoundNetworkView → Option NetworkPartView
 network_or None found = option_map network_found found
 network_or (Some n) found = Some (network_of n)
+
+-- the descriptors that a description with this name has of the network
+abbrev pub network_loop : NetworkPartView → Option (List ℕ)
+network_loop n = option_or n.network_descriptors (given_network n.name)
 
 abbrev pub network_part : JobOptionsView → ℕ → List FindingView → Option NetworkPartView
 network_part options id findings = network_or options.network (stream_network id findings)
@@ -61,25 +85,33 @@ network_part options id findings = network_or options.network (stream_network id
 
 -- the texts with at most 100 bytes each; without a service, a digital television service without a name (EN 300 468,
 -- table 87)
-unfoldable pub named_service : Option FoundServiceView → FoundServiceView
-named_service (Some s) = record { service_type = s.service_type; provider = decode_text 100 s.provider; name = decode_text 100 s.name }
-named_service None = record { service_type = 1; provider = []; name = [] }
+unfoldable pub service_by : FoundServiceView → List ℕ → List ℕ → NamedServiceView
+service_by s provider name = record {
+  service_type = s.service_type;
+  provider = provider;
+  name = name;
+  descriptors = kept_loop 1004 (given_service s.service_type provider name) s.descriptors;
+}
 
--- with the name that is given to it, and the provider if that is given too
-unfoldable pub renamed : ServiceNameView → FoundServiceView → FoundServiceView
-renamed n s = record { service_type = s.service_type; provider = unwrap_or n.provider s.provider; name = n.name }
+unfoldable pub named_service : Option FoundServiceView → NamedServiceView
+named_service (Some s) = service_by s (decode_text 100 s.provider) (decode_text 100 s.name)
+named_service None = record { service_type = 1; provider = []; name = []; descriptors = None }
 
-unfoldable pub service_with : Option ServiceNameView → FoundServiceView → FoundServiceView
+-- with the name that is given to it, and the provider if that is given too: these texts give its descriptors
+unfoldable pub renamed : ServiceNameView → NamedServiceView → NamedServiceView
+renamed n s = record { service_type = s.service_type; provider = unwrap_or n.provider s.provider; name = n.name; descriptors = None }
+
+unfoldable pub service_with : Option ServiceNameView → NamedServiceView → NamedServiceView
 service_with None s = s
 service_with (Some n) s = renamed n s
 
-abbrev pub service_of : List ServiceNameView → List FindingView → ℕ → FoundServiceView
+abbrev pub service_of : List ServiceNameView → List FindingView → ℕ → NamedServiceView
 service_of names findings number = service_with (name_given number names) (named_service (service number findings))
 
-abbrev pub service_for : List ServiceNameView → List FindingView → JobProgramView → FoundServiceView
+abbrev pub service_for : List ServiceNameView → List FindingView → JobProgramView → NamedServiceView
 service_for names findings p = service_of names findings p.number
 
-abbrev pub services_of : List ServiceNameView → List FindingView → List JobProgramView → List FoundServiceView
+abbrev pub services_of : List ServiceNameView → List FindingView → List JobProgramView → List NamedServiceView
 services_of names findings programs = map (service_for names findings) programs
 
 -- 4. All of it: where nothing says original_network_id it is one for private use (ETSI TS 101 162), and there is a time and date table if

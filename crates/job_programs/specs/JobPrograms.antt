@@ -1,21 +1,16 @@
 -- The programs of a job.
-use Rattle.std.specs.Prelude.{ℕ, ◌==◌, ◌||◌, ◌&&◌, Bool, false, is_none, if◌then◌else◌, List, [], ◌∷◌, map, filter, find, flat_map, zip, Option, Some, None}
+use Rattle.std.specs.Prelude.{ℕ, ◌==◌, Bool, if◌then◌else◌, List, [], ◌∷◌, map, filter, find, flat_map, zip, Option, Some, None}
 use Rattle.std.specs.Prelude.{length, option_map, slice_get}
 use Rattle.std.specs.List.{list_any}
-use Rattle.pid_findings.specs.Views.{FindingView}
 use Rattle.psi_tables.specs.declared.pat.programs.Program.{Program}
 use Rattle.stream_programs.specs.Programs.{FoundProgramView}
-use Rattle.ts_services.specs.Services.{FoundServiceView, service}
-use Rattle.dvb_texts.specs.Texts.{has_unread}
 use Rattle.stream_programs.specs.declared.pid_assignment.ProgramPids.{ProgramPids}
 use Rattle.job_programs.specs.declared.program_clock.ProgramClock.{ProgramClock}
 use Rattle.job_programs.specs.declared.refusal.NamedNumbers.{NamedNumbers}
 use Rattle.job_programs.specs.declared.program_clock.ProgramClock.TheVariants.{Own}
 use Rattle.job_programs.specs.declared.warning.Warning.{Warning}
-use Rattle.job_programs.specs.declared.warning.ProgramWarning.TheVariants.{NoStream, UnreadText}
+use Rattle.job_programs.specs.declared.warning.ProgramWarning.TheVariants.{NoStream}
 use Rattle.job_programs.specs.declared.warning.Warning.TheVariants as warning
-use Rattle.given_values.specs.GivenNames.{ServiceNameView}
-use Rattle.job_programs.specs.GivenNames.{name_given}
 use Rattle.job_programs.specs.JobStreams.{WireStreamView, is_stream_of}
 use Rattle.job_programs.specs.ProgramClocks.{clock_by}
 
@@ -61,19 +56,6 @@ program_warnings streams p =
 
 abbrev pub all_program_warnings : List WireStreamView → List FoundProgramView → List ProgramPids → List Warning
 all_program_warnings streams programs assigned = flat_map (program_warnings streams) (zip programs assigned)
-
--- the provider or the name of a service, if no other is given, has characters that can't be read
-unfoldable pub is_unread : Option ServiceNameView → Option FoundServiceView → Bool
-is_unread given None = false
-is_unread None (Some s) = has_unread s.provider || has_unread s.name
-is_unread (Some n) (Some s) = is_none n.provider && has_unread s.provider
-
--- the warning about the texts of a program's service
-unfoldable pub text_warning : List ServiceNameView → List FindingView → JobProgramView → List Warning
-text_warning names findings p = if is_unread (name_given p.number names) (service p.number findings) then warning.Program p.number UnreadText ∷ [] else []
-
-abbrev pub text_warnings : List ServiceNameView → List FindingView → List JobProgramView → List Warning
-text_warnings names findings programs = flat_map (text_warning names findings) programs
 
 -- the number of the program at a place in a program association table
 abbrev pub number_at : List Program → ℕ → Option ℕ

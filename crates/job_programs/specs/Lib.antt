@@ -1,5 +1,6 @@
 pub mod ClockBases
 pub mod GivenNames
+pub mod GivenLoops
 pub mod JobOptions
 pub mod Answers
 pub mod Packets

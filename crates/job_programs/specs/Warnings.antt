@@ -5,14 +5,13 @@ use Rattle.std.specs.List.{list_any}
 use Rattle.psi_tables.specs.declared.pat.programs.Program.{Program}
 use Rattle.pid_findings.specs.Views.{WhatView, IsTruncated, IsBadPacket, IsErrored, FindingView}
 use Rattle.program_tables.specs.Association.{AssociationView, association_change, is_named}
-use Rattle.ts_services.specs.NetworkInformation.{FoundNetworkView, network_surplus, stream_network}
+use Rattle.ts_services.specs.NetworkInformation.{network_surplus}
 use Rattle.stream_programs.specs.Omissions.{is_loss}
 use Rattle.program_tables.specs.ProgramMaps.{map_change}
 use Rattle.program_tables.specs.declared.program_map.MapPart.{MapPart}
 use Rattle.stream_programs.specs.Programs.{programs_of}
 use Rattle.stream_programs.specs.StrayPids.{mapped_pids, pes_count, stray_pids}
 use Rattle.stream_programs.specs.Streams.{FoundStreamView}
-use Rattle.dvb_texts.specs.Texts.{has_unread}
 use Rattle.es_units.specs.UnitWarnings.{unit_warnings}
 use Rattle.es_units.specs.Damage as units
 use Rattle.given_values.specs.GivenNames.{NetworkNameView, ServiceNameView}
@@ -25,7 +24,7 @@ use Rattle.job_programs.specs.declared.warning.Warning.TheVariants as warning
 use Rattle.job_programs.specs.declared.warning.PacketWarning.{PacketWarning}
 use Rattle.job_programs.specs.declared.warning.PacketWarning.TheVariants.{Bad, Errored, AssociationChanges, ProgramLoss, NetworkSurplus}
 use Rattle.job_programs.specs.declared.warning.ProgramWarning.{ProgramWarning}
-use Rattle.job_programs.specs.declared.warning.ProgramWarning.TheVariants.{Missing, NoStream, UnreadText}
+use Rattle.job_programs.specs.declared.warning.ProgramWarning.TheVariants.{Missing, NoStream}
 
 -- 1. Packets: findings on no PID
 
@@ -97,17 +96,13 @@ option_warnings programs without buffers names aligned a streams =
     ++ flat_map (name_warning a) names)
     ++ flat_map (pid_option_warning streams) aligned
 
--- 6. The network of the stream, if no other is given: what its tables say that is not carried, and a name that can't be read
-
-unfoldable pub unread_network : Option FoundNetworkView → List Warning
-unread_network None = []
-unread_network (Some n) = if has_unread n.name then warning.UnreadNetwork ∷ [] else []
+-- 6. The network of the stream, if no other is given: what its tables say that is not carried
 
 abbrev pub surplus_warning : ℕ → Warning
 surplus_warning packet = warning.Packet packet NetworkSurplus
 
 unfoldable pub network_warnings : Option NetworkNameView → ℕ → List FindingView → List Warning
-network_warnings None id findings = map surplus_warning (option_to_list (network_surplus id findings)) ++ unread_network (stream_network id findings)
+network_warnings None id findings = map surplus_warning (option_to_list (network_surplus id findings))
 network_warnings (Some n) id findings = []
 
 -- 7. Which warnings say that something is lost
@@ -122,7 +117,6 @@ is_packet_damage NetworkSurplus = true
 abbrev pub is_program_damage : ProgramWarning → Bool
 is_program_damage (Missing named) = true
 is_program_damage NoStream = false
-is_program_damage UnreadText = true
 
 unfoldable pub is_damage : Warning → Bool
 is_damage (warning.Packet packet what) = is_packet_damage what
@@ -135,7 +129,6 @@ is_damage (warning.NoSuchStream pid) = true
 is_damage (warning.Units pid unit) = units.is_damage unit.cause
 is_damage (warning.NoUnit program pid) = false
 is_damage (warning.StreamId stream packet id) = true
-is_damage warning.UnreadNetwork = true
 is_damage (warning.Information about) = true
 is_damage (warning.MapMoved program from to) = false
 is_damage (warning.HeaderBuffer pid said unit counted) = false

@@ -3,10 +3,13 @@
 ghost use Rattle.std.specs.Prelude.{◌≡◌, ◌++◌, IfOk, OnOk, map, option_map, string_bytes};
 ghost use Rattle.pid_findings.specs.Shown.{finding_view};
 ghost use Rattle.job_text.specs.Texts.{event_text};
+ghost use Rattle.service_information.specs.ShortEvents.{short_event, short_event_view};
 ghost use Rattle.job_programs.specs.Events as spec;
 ghost use Rattle.job_programs.specs.declared.warning.Warning.TheVariants.{Information};
-ghost use Rattle.job_programs.specs.Events.{events_text};
+ghost use Rattle.job_programs.specs.Events.{event_loop, events_text};
+ghost use Rattle.job_programs.specs.GivenLoops.{is_loop};
 
+use crate::given_loops::{given_event, is_loop_of, kept_loop};
 use crate::job_programs::JobProgram;
 use crate::named_service::copied;
 use crate::warning::Warning;
@@ -14,7 +17,8 @@ use dvb_texts::decode_text;
 use job_text::EventPart;
 use pid_findings::Finding;
 use service_information::{
-    FoundEvent, InformationWarning, civil_text, information_warnings, stream_events, stream_time,
+    FoundEvent, InformationWarning, ShortEvent, civil_text, information_warnings, short_event,
+    stream_events, stream_time,
 };
 use std::alloc::{AllocError, Global};
 use std::marker::Model;
@@ -30,6 +34,9 @@ const LONGEST_NAME: usize = 100;
 
 /// The most bytes of an event's text.
 const LONGEST_TEXT: usize = 150;
+
+/// The most bytes of an event's descriptors.
+const MOST_BYTES: usize = 4_000;
 
 // Returns the numbers of programs.
 fn numbers_of(alloc: Global, programs: &[JobProgram]) -> Result<Vec<u16>, AllocError>
@@ -91,7 +98,8 @@ pub(crate) fn start_of(
     }
 }
 
-/// An event of a description, its texts as characters.
+/// An event of a description, its texts as characters, and all of its descriptors if these texts do not give exactly
+/// these.
 #[derive(Drop)]
 pub struct JobEvent {
     pub program: u16,
@@ -101,11 +109,12 @@ pub struct JobEvent {
     pub language: String,
     pub name: String,
     pub text: String,
+    pub descriptors: Option<Vec<u8>>,
 }
 
-// A contract sees its texts as lists.
+// A contract sees its texts and its descriptors as lists.
 impl Model for JobEvent {
-    ghost use Rattle.std.specs.Prelude.{string_bytes};
+    ghost use Rattle.std.specs.Prelude.{option_map, string_bytes};
     ghost use Rattle.job_text.specs.DescriptionParts.{EventPartView};
 
     ghost Value = { EventPartView };
@@ -118,23 +127,70 @@ impl Model for JobEvent {
       language = string_bytes e.language;
       name = string_bytes e.name;
       text = string_bytes e.text;
+      descriptors = option_map (λ b. b.items) e.descriptors;
     } };
 }
 
-// Returns an event that is found.
-#[tactic(auto, unfolding(crate::specs::Events::event_part))]
-fn event_of(alloc: Global, event: &FoundEvent<'_>) -> Result<JobEvent, AllocError>
-    ensures { IfOk result (λ e. e ≡ spec.event_part event.now) }
+impl JobEvent {
+    /// Returns whether a description has these descriptors of the event.
+    pub fn has_loop(&self, descriptors: &[u8]) -> bool
+        ensures { result ≡ is_loop descriptors.now (event_loop self.now) }
+    {
+        let given = given_event(&self.language, &self.name, &self.text);
+        is_loop_of(descriptors, &self.descriptors, &given)
+    }
+}
+
+// Returns the texts of an event's first short event descriptor; empty texts without one.
+#[tactic(auto, unfolding(crate::specs::Events::texts_of))]
+fn texts_of<'f>(descriptors: &'f [u8]) -> ShortEvent<'f>
+    ensures { short_event_view result ≡ spec.texts_of (short_event descriptors.now) }
 {
+    match short_event(descriptors) {
+        Some(said) => said,
+        None => ShortEvent {
+            language: &[],
+            name: &[],
+            text: &[],
+        },
+    }
+}
+
+// Returns an event with these texts.
+#[tactic(auto, unfolding(crate::specs::Events::event_with))]
+fn event_with(
+    alloc: Global,
+    event: &FoundEvent<'_>,
+    language: String,
+    name: String,
+    text: String,
+) -> Result<JobEvent, AllocError>
+    ensures { IfOk result (λ e. e ≡ spec.event_with event.now (string_bytes language) (string_bytes name)
+        (string_bytes text)) }
+{
+    let given = given_event(&language, &name, &text);
     Ok(JobEvent {
         program: event.program,
         id: event.id,
         start: civil_text(alloc, event.start)?,
         duration: event.duration,
-        language: decode_text(alloc, event.language, LANGUAGE)?,
-        name: decode_text(alloc, event.name, LONGEST_NAME)?,
-        text: decode_text(alloc, event.text, LONGEST_TEXT)?,
+        language,
+        name,
+        text,
+        descriptors: kept_loop(alloc, MOST_BYTES, &given, event.descriptors)?,
     })
+}
+
+// Returns an event that is found.
+#[tactic(auto, unfolding(crate::specs::Events::event_by))]
+fn event_of(alloc: Global, event: &FoundEvent<'_>) -> Result<JobEvent, AllocError>
+    ensures { IfOk result (λ e. e ≡ spec.event_part event.now) }
+{
+    let said = texts_of(event.descriptors);
+    let language = decode_text(alloc, said.language, LANGUAGE)?;
+    let name = decode_text(alloc, said.name, LONGEST_NAME)?;
+    let text = decode_text(alloc, said.text, LONGEST_TEXT)?;
+    event_with(alloc, event, language, name, text)
 }
 
 // Appends the events that are found.
@@ -175,6 +231,7 @@ fn write_event(event: &JobEvent, text: &mut String) -> Result<(), AllocError>
         language: &event.language,
         name: &event.name,
         text: &event.text,
+        descriptors: event.descriptors.as_deref(),
     };
     entry.write_text(text)
 }

@@ -5,13 +5,15 @@ ghost use Rattle.pid_findings.specs.Shown.{finding_view};
 ghost use Rattle.job_text.specs.Texts.{network_if_any};
 ghost use Rattle.ts_services.specs.NetworkInformation.{found_network_view, network_surplus};
 ghost use Rattle.given_values.specs.GivenNames.{network_name_view};
+ghost use Rattle.job_programs.specs.GivenLoops.{is_loop};
 ghost use Rattle.job_programs.specs.Information as spec;
 ghost use Rattle.job_programs.specs.Warnings as spec_warnings;
 
+use crate::given_loops::{given_network, is_loop_of, kept_loop};
 use crate::given_names::original_given;
 use crate::named_service::copied;
 use crate::warning::{PacketWarning, Warning};
-use dvb_texts::{decode_text, has_unread};
+use dvb_texts::decode_text;
 use given_values::NetworkName;
 use job_text::NetworkPart;
 use pid_findings::Finding;
@@ -21,6 +23,9 @@ use ts_services::{FoundNetwork, network_surplus, original_network, stream_networ
 
 /// The most bytes of a network's name, as written in a descriptor.
 const LONGEST_NAME: usize = 200;
+
+/// The most bytes of a network's descriptors.
+const MOST_BYTES: usize = 700;
 
 // Returns original_network_id of the network found.
 fn original_found(network: Option<FoundNetwork<'_>>) -> Option<u16>
@@ -48,22 +53,43 @@ pub(crate) fn original_of(
         .or(found)
 }
 
-/// The network of a description, its name as characters.
+/// The network of a description, its name as characters, and all of its descriptors if this name does not give exactly
+/// these.
 #[derive(Drop)]
 pub struct JobNetwork {
     pub id: u16,
     pub name: String,
+    pub network_descriptors: Option<Vec<u8>>,
+    /// The descriptors of this transport stream.
     pub descriptors: Vec<u8>,
 }
 
 // A contract sees its name and its descriptors as lists.
 impl Model for JobNetwork {
-    ghost use Rattle.std.specs.Prelude.{string_bytes};
+    ghost use Rattle.std.specs.Prelude.{option_map, string_bytes};
     ghost use Rattle.job_text.specs.DescriptionParts.{NetworkPartView};
 
     ghost Value = { NetworkPartView };
 
-    ghost view = { λ n. record { id = n.id; name = string_bytes n.name; descriptors = n.descriptors.items } };
+    ghost view = { λ n. record {
+      id = n.id;
+      name = string_bytes n.name;
+      network_descriptors = option_map (λ b. b.items) n.network_descriptors;
+      descriptors = n.descriptors.items;
+    } };
+}
+
+impl JobNetwork {
+    /// Returns whether a description has these descriptors of the network.
+    pub fn has_loop(&self, descriptors: &[u8]) -> bool
+        ensures { result ≡ is_loop descriptors.now (spec.network_loop self.now) }
+    {
+        is_loop_of(
+            descriptors,
+            &self.network_descriptors,
+            &given_network(&self.name),
+        )
+    }
 }
 
 // Returns the network that is given.
@@ -74,21 +100,25 @@ fn network_of(alloc: Global, network: NetworkName<'_>) -> Result<JobNetwork, All
     Ok(JobNetwork {
         id: network.id,
         name: copied(alloc, network.name)?,
+        network_descriptors: None,
         descriptors: Vec::new(alloc),
     })
 }
 
 // Returns the network that is found.
-#[tactic(auto, unfolding(crate::specs::Information::network_found))]
+#[tactic(auto, unfolding(crate::specs::Information::network_with))]
 fn network_found(alloc: Global, network: FoundNetwork<'_>) -> Result<JobNetwork, AllocError>
     ensures { IfOk result (λ n. n ≡ spec.network_found (found_network_view network.entry)) }
 {
     let name = decode_text(alloc, network.name, LONGEST_NAME)?;
+    let given = given_network(&name);
+    let network_descriptors = kept_loop(alloc, MOST_BYTES, &given, network.network_descriptors)?;
     let mut descriptors = Vec::new(alloc);
     descriptors.extend_from_slice(network.descriptors)?;
     Ok(JobNetwork {
         id: network.id,
         name,
+        network_descriptors,
         descriptors,
     })
 }
@@ -132,6 +162,7 @@ pub fn write_network(network: &Option<JobNetwork>, text: &mut String) -> Result<
     let entry = NetworkPart {
         id: network.id,
         name: &network.name,
+        network_descriptors: network.network_descriptors.as_deref(),
         descriptors: &network.descriptors,
     };
     entry.write_text(text)
@@ -155,28 +186,9 @@ fn push_surplus(
     Ok(())
 }
 
-// Appends the warning about the name of the network.
-#[tactic(auto, unfolding(crate::specs::Warnings::unread_network))]
-fn push_unread(
-    alloc: Global,
-    found: Option<FoundNetwork<'_>>,
-    warnings: &mut Vec<Warning>,
-) -> Result<(), AllocError>
-    ensures { OnOk result (warnings.new.items ≡ warnings.old.items
-        ++ spec_warnings.unread_network (option_map found_network_view found.entry)) }
-{
-    if let Some(network) = found {
-        if has_unread(alloc, network.name)? {
-            warnings.push(Warning::UnreadNetwork)?;
-        }
-    }
-    Ok(())
-}
-
 /// Appends the warnings about the network of the stream, if no other is given.
 #[tactic(auto, unfolding(crate::specs::Warnings::network_warnings))]
 pub fn push_network_warnings(
-    alloc: Global,
     given: Option<NetworkName<'_>>,
     transport_stream_id: u16,
     findings: &[Finding<'_>],
@@ -189,10 +201,5 @@ pub fn push_network_warnings(
     if given.is_some() {
         return Ok(());
     }
-    push_surplus(transport_stream_id, findings, warnings)?;
-    push_unread(
-        alloc,
-        stream_network(transport_stream_id, findings),
-        warnings,
-    )
+    push_surplus(transport_stream_id, findings, warnings)
 }

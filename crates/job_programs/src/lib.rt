@@ -3,7 +3,7 @@
 //! `JobOptions` has the options (`specs/JobOptions`, `specs/GivenNames`). The programs that they select have clocks
 //! (`specs/JobPrograms`, `specs/ProgramClocks`, `specs/ClockBases`), `JobStream` is an elementary stream of a program
 //! (`specs/JobStreams`), and `JobInformation` describes the transport stream as a whole (`specs/Information`,
-//! `specs/Events`). `JobRefusal` says why there is no job, `Warning` what is not taken unchanged (`specs/Packets`,
+//! `specs/Events`, `specs/GivenLoops`). `JobRefusal` says why there is no job, `Warning` what is not taken unchanged (`specs/Packets`,
 //! `specs/LaterPrograms`, `specs/Warnings`). `specs/FoundUnits` says which units of a PID are found, and
 //! `specs/JobTables` which sections are carried.
 #![tactic(auto)]
@@ -29,6 +29,7 @@ pub mod job_stream;
 pub mod program_clock;
 
 // The information of a transport stream as a whole.
+mod given_loops;
 pub mod information;
 pub mod job_events;
 pub mod job_network;

@@ -1,48 +1,61 @@
 //! What the description of a job says of a program's service.
 
-ghost use Rattle.std.specs.Prelude.{◌≡◌, ◌++◌, IfOk, OnOk, is_some, map, option_map, string_bytes};
-ghost use Rattle.pid_findings.specs.Shown.{finding_view};
+ghost use Rattle.std.specs.Prelude.{◌≡◌, ◌++◌, IfOk, OnOk, Some, is_some, option_map, string_bytes};
 ghost use Rattle.ts_services.specs.Services.{service, found_service_view};
 ghost use Rattle.job_programs.specs.GivenNames.{name_given};
-ghost use Rattle.job_programs.specs.JobPrograms as spec_programs;
+ghost use Rattle.job_programs.specs.GivenLoops.{is_loop};
 ghost use Rattle.job_programs.specs.Information as spec;
 
+use crate::given_loops::{given_service, is_loop_of, kept_loop};
 use crate::given_names::name_given;
 use crate::job_programs::JobProgram;
-use crate::warning::{ProgramWarning, Warning};
-use dvb_texts::{decode_text, has_unread};
+use dvb_texts::decode_text;
 use given_values::ServiceName;
-use pid_findings::Finding;
 use std::alloc::{AllocError, Global};
 use std::marker::Model;
-use ts_services::{FoundService, FoundServices, found_services};
+use ts_services::{FoundService, FoundServices};
 
 /// The most bytes of a service's name and provider, as written in a descriptor.
 const LONGEST_NAME: usize = 100;
 
+/// The most bytes of a service's descriptors.
+const MOST_BYTES: usize = 1_004;
+
 /// The type of a service without a service description: digital television (EN 300 468, table 87).
 const TELEVISION: u8 = 1;
 
-/// A service, its texts as characters.
+/// A service, its texts as characters, and all of its descriptors if these texts do not give exactly these.
 #[derive(Drop)]
 pub struct NamedService {
     pub service_type: u8,
     pub provider: String,
     pub name: String,
+    pub descriptors: Option<Vec<u8>>,
 }
 
-// A contract sees its texts as lists.
+// A contract sees its texts and its descriptors as lists.
 impl Model for NamedService {
-    ghost use Rattle.std.specs.Prelude.{string_bytes};
-    ghost use Rattle.ts_services.specs.Services.{FoundServiceView};
+    ghost use Rattle.std.specs.Prelude.{option_map, string_bytes};
+    ghost use Rattle.job_programs.specs.Information.{NamedServiceView};
 
-    ghost Value = { FoundServiceView };
+    ghost Value = { NamedServiceView };
 
     ghost view = { λ s. record {
       service_type = s.service_type;
       provider = string_bytes s.provider;
       name = string_bytes s.name;
+      descriptors = option_map (λ b. b.items) s.descriptors;
     } };
+}
+
+impl NamedService {
+    /// Returns whether a description has these descriptors of the service.
+    pub fn has_loop(&self, descriptors: &[u8]) -> bool
+        ensures { result ≡ is_loop descriptors.now (spec.service_loop self.now) }
+    {
+        let given = given_service(self.service_type, &self.provider, &self.name);
+        is_loop_of(descriptors, &self.descriptors, &given)
+    }
 }
 
 // Returns whether the service of a program is described.
@@ -87,6 +100,23 @@ pub(crate) fn has_services(
         .any(|program| has_service(names, services, program.number))
 }
 
+// Returns a service that is found.
+#[tactic(auto, unfolding(crate::specs::Information::named_service, crate::specs::Information::service_by))]
+fn service_found(alloc: Global, service: FoundService<'_>) -> Result<NamedService, AllocError>
+    ensures { IfOk result (λ named. named
+        ≡ spec.named_service (Some (found_service_view service.entry))) }
+{
+    let provider = decode_text(alloc, service.provider, LONGEST_NAME)?;
+    let name = decode_text(alloc, service.name, LONGEST_NAME)?;
+    let given = given_service(service.service_type, &provider, &name);
+    Ok(NamedService {
+        service_type: service.service_type,
+        provider,
+        name,
+        descriptors: kept_loop(alloc, MOST_BYTES, &given, service.descriptors)?,
+    })
+}
+
 // Returns a service, or a television service without a name.
 #[tactic(auto, unfolding(crate::specs::Information::named_service))]
 fn named_service(
@@ -96,15 +126,12 @@ fn named_service(
     ensures { IfOk result (λ named. named ≡ spec.named_service (option_map found_service_view service.entry)) }
 {
     match service {
-        Some(service) => Ok(NamedService {
-            service_type: service.service_type,
-            provider: decode_text(alloc, service.provider, LONGEST_NAME)?,
-            name: decode_text(alloc, service.name, LONGEST_NAME)?,
-        }),
+        Some(service) => service_found(alloc, service),
         None => Ok(NamedService {
             service_type: TELEVISION,
             provider: String::new(alloc),
             name: String::new(alloc),
+            descriptors: None,
         }),
     }
 }
@@ -134,12 +161,17 @@ fn renamed(
             service_type: service.service_type,
             provider: copied(alloc, provider)?,
             name,
+            descriptors: None,
         }),
-        None => Ok(NamedService { name, ..service }),
+        None => Ok(NamedService {
+            name,
+            descriptors: None,
+            ..service
+        }),
     }
 }
 
-// Returns the service of a program: its type, provider and name.
+// Returns the service of a program.
 #[tactic(auto, unfolding(crate::specs::Information::service_with))]
 fn service_of(
     alloc: Global,
@@ -185,81 +217,4 @@ pub(crate) fn services_of(
     let mut named = Vec::new(alloc);
     push_services(alloc, names, programs, services, &mut named)?;
     Ok(named)
-}
-
-// Returns whether a text of a service, if no other is given, has characters that can't be read.
-#[tactic(auto, unfolding(crate::specs::JobPrograms::is_unread))]
-fn is_unread(
-    alloc: Global,
-    given: Option<&ServiceName<'_>>,
-    service: Option<FoundService<'_>>,
-) -> Result<bool, AllocError>
-    ensures { IfOk result (λ unread. unread
-        ≡ spec_programs.is_unread (option_map (λ n. n.now) given.entry) (option_map found_service_view service.entry)) }
-{
-    let Some(service) = service else {
-        return Ok(false);
-    };
-    let provider = has_unread(alloc, service.provider)?;
-    match given {
-        None => {
-            let name = has_unread(alloc, service.name)?;
-            Ok(provider || name)
-        }
-        Some(given) => Ok(given.provider.is_none() && provider),
-    }
-}
-
-// Appends the warning about the texts of a program's service.
-#[tactic(auto, unfolding(crate::specs::JobPrograms::text_warning))]
-fn push_text_warning(
-    alloc: Global,
-    names: &[ServiceName<'_>],
-    program: &JobProgram,
-    services: &FoundServices<'_, '_>,
-    warnings: &mut Vec<Warning>,
-) -> Result<(), AllocError>
-    ensures { OnOk result (warnings.new.items ≡ warnings.old.items
-        ++ spec_programs.text_warning names.now services.now program.now) }
-{
-    let number = program.number;
-    if is_unread(alloc, name_given(number, names), services.of(number))? {
-        warnings.push(Warning::Program {
-            program: number,
-            what: ProgramWarning::UnreadText,
-        })?;
-    }
-    Ok(())
-}
-
-// Appends the warnings about the texts of services.
-fn push_each_text_warning(
-    alloc: Global,
-    names: &[ServiceName<'_>],
-    programs: &[JobProgram],
-    services: &FoundServices<'_, '_>,
-    warnings: &mut Vec<Warning>,
-) -> Result<(), AllocError>
-    ensures { OnOk result (warnings.new.items ≡ warnings.old.items
-        ++ spec_programs.text_warnings names.now services.now programs.now) }
-{
-    for program in programs {
-        push_text_warning(alloc, names, program, services, warnings)?;
-    }
-    Ok(())
-}
-
-/// Appends the warnings about the texts of services.
-pub fn push_text_warnings(
-    alloc: Global,
-    names: &[ServiceName<'_>],
-    programs: &[JobProgram],
-    findings: &[Finding<'_>],
-    warnings: &mut Vec<Warning>,
-) -> Result<(), AllocError>
-    ensures { OnOk result (warnings.new.items ≡ warnings.old.items
-        ++ spec_programs.text_warnings names.now (map finding_view findings.now) programs.now) }
-{
-    let services = found_services(alloc, findings)?;
-    push_each_text_warning(alloc, names, programs, &services, warnings)
 }

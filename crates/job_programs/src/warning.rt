@@ -23,7 +23,7 @@ pub enum PacketWarning {
     /// read.
     ProgramLoss,
     /// A NIT section (actual network) that is not carried unchanged: not in force, not readable, of another network, or
-    /// with other or more descriptors or transport streams than `[network]` has.
+    /// with other descriptors or more transport streams than `[network]` has.
     NetworkSurplus,
 }
 
@@ -34,8 +34,6 @@ pub enum ProgramWarning {
     Missing(NamedNumbers),
     /// No stream of it has a unit.
     NoStream,
-    /// The name or the provider of its service has characters that can't be read.
-    UnreadText,
 }
 
 /// A warning: a part of a stream that is not taken unchanged.
@@ -88,8 +86,6 @@ pub enum Warning {
         packet: u64,
         id: u8,
     },
-    /// The name of the network has characters that can't be read.
-    UnreadNetwork,
     /// Service information is not taken unchanged.
     Information(InformationWarning),
     /// The program map table of this program is on another PID.
@@ -158,7 +154,7 @@ impl ProgramWarning {
         ensures { result ≡ spec.is_program_damage self }
     {
         match self {
-            ProgramWarning::Missing(_) | ProgramWarning::UnreadText => true,
+            ProgramWarning::Missing(_) => true,
             ProgramWarning::NoStream => false,
         }
     }
@@ -182,7 +178,6 @@ impl Warning {
             Warning::Units { warning, .. } => warning.cause.is_damage(),
             Warning::NoUnit { .. } => false,
             Warning::StreamId { .. } => true,
-            Warning::UnreadNetwork => true,
             Warning::Information(_) => true,
             Warning::MapMoved { .. } => false,
             Warning::HeaderBuffer { .. } => false,
