@@ -9,8 +9,9 @@ use Rattle.stream_programs.specs.declared.pid_assignment.ProgramPids.{ProgramPid
 use Rattle.job_programs.specs.declared.refusal.JobError.{JobError}
 use Rattle.job_programs.specs.declared.refusal.JobRefusal.{JobRefusal}
 use Rattle.job_programs.specs.declared.warning.Warning.{Warning}
+use Rattle.job_programs.specs.Events.{programs_information}
 use Rattle.job_programs.specs.JobPrograms.{JobProgramView, job_programs, all_program_warnings}
-use Rattle.job_inputs.specs.JobInput.{JobInputView, service_warnings, table_warnings, stream_warnings, job_warnings, tables_of, with_pids, with_found}
+use Rattle.job_inputs.specs.JobInput.{JobInputView, table_warnings, stream_warnings, job_warnings, tables_of, with_pids, with_found}
 use Rattle.job_inputs.specs.JobInput.{with_streams}
 use Rattle.job_programs.specs.Warnings.{pid_warnings}
 use Rattle.job_units.specs.WireStreams.{wire_streams, all_left_out_warnings}
@@ -27,7 +28,7 @@ pub all_warnings : (options : JobOptionsView) (count : ℕ) (findings : List Fin
     empties ≡ tables ++ all_left_out_warnings options count findings found.streams →
     programs ≡ empties ++ all_program_warnings streams found.programs assigned →
     units ≡ programs ++ flat_map (λ s. pid_warnings count findings s.pid) streams →
-    all ≡ units ++ service_warnings options.names findings (job_programs streams found.programs assigned) →
+    all ≡ units ++ programs_information findings (job_programs streams found.programs assigned) →
     all ≡ job_warnings options count findings a named found assigned streams
 unfolding stream_warnings job_warnings
 all_warnings options count findings a named found assigned streams tables empties programs units all one two three four five =

@@ -18,9 +18,8 @@ use Rattle.job_programs.specs.ClockBases.{base0_of}
 use Rattle.job_units.specs.declared.declarations.StreamChoice.{StreamChoice}
 use Rattle.job_units.specs.Declarations.{UnitCountsView, too_many, too_long, all_measured, all_unit_counts, choices}
 use Rattle.job_units.specs.BufferWarnings.{buffer_warnings}
-use Rattle.job_programs.specs.JobPrograms.{JobProgramView, job_programs, all_program_warnings, numbers_named, text_warnings}
+use Rattle.job_programs.specs.JobPrograms.{JobProgramView, job_programs, all_program_warnings, numbers_named}
 use Rattle.job_programs.specs.ProgramClocks.{is_clock_on}
-use Rattle.given_values.specs.GivenNames.{ServiceNameView}
 use Rattle.job_programs.specs.Events.{programs_information}
 use Rattle.job_programs.specs.Information.{JobInformationView, information_of}
 use Rattle.job_units.specs.Moments.{earliest, first_base, moved_streams}
@@ -84,17 +83,13 @@ unfoldable pub stream_warnings : JobOptionsView → ℕ → List FindingView →
 stream_warnings options count findings a named found =
     table_warnings options a named findings found ++ all_left_out_warnings options count findings found.streams
 
--- about the texts of services, and about service information
-unfoldable pub service_warnings : List ServiceNameView → List FindingView → List JobProgramView → List Warning
-service_warnings names findings programs = text_warnings names findings programs ++ programs_information findings programs
-
--- these warnings, and warnings about programs, findings of streams that are in no unit, and services
+-- these warnings, and warnings about programs, findings of streams that are in no unit, and service information
 unfoldable pub job_warnings : JobOptionsView → ℕ → List FindingView → AssociationView → List Program → FoundProgramsView → List ProgramPids →
     List WireStreamView → List Warning
 job_warnings options count findings a named found assigned streams =
     ((stream_warnings options count findings a named found ++ all_program_warnings streams found.programs assigned)
     ++ flat_map (λ s. pid_warnings count findings s.pid) streams)
-    ++ service_warnings options.names findings (job_programs streams found.programs assigned)
+    ++ programs_information findings (job_programs streams found.programs assigned)
 
 -- 2. What it is made of, step by step
 

@@ -70,9 +70,16 @@ joined a b = record {
 abbrev pub note : ℕ → NoteCause → InputNote
 note input cause = record { input = input; cause = cause }
 
+-- two descriptor loops are one, or both networks have their names alone
+unfoldable pub is_same_loop : Option (List ℕ) → Option (List ℕ) → Bool
+is_same_loop None None = true
+is_same_loop (Some a) (Some b) = bytes_eq a b
+is_same_loop _ _ = false
+
 -- two networks are one
 unfoldable pub is_same_network : NetworkPartView → NetworkPartView → Bool
-is_same_network a b = a.id == b.id && (bytes_eq a.name b.name && bytes_eq a.descriptors b.descriptors)
+is_same_network a b =
+    a.id == b.id && (bytes_eq a.name b.name && (is_same_loop a.network_descriptors b.network_descriptors && bytes_eq a.descriptors b.descriptors))
 
 -- whether the network of an input differs from the job's network
 unfoldable pub is_other_network : Option NetworkPartView → Option NetworkPartView → Bool

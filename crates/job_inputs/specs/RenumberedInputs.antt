@@ -83,6 +83,7 @@ event_with r e = record {
   language = e.language;
   name = e.name;
   text = e.text;
+  descriptors = e.descriptors;
 }
 
 unfoldable pub information_with : RenumberingView → JobInformationView → JobInformationView

@@ -14,7 +14,6 @@ use crate::earliest::earliest_of;
 use crate::job_tables::{JobTable, job_tables, reported};
 use crate::lacking_programs::stream_refusal;
 use es_units::PidLinks;
-use given_values::ServiceName;
 use job_programs::clock_base::base0_of;
 use job_programs::information::information_of;
 use job_programs::job_events::push_information_warnings;
@@ -22,7 +21,6 @@ use job_programs::job_network::push_network_warnings;
 use job_programs::job_options::is_selected_program;
 use job_programs::job_programs::job_programs;
 use job_programs::named_numbers::numbers_named;
-use job_programs::named_service::push_text_warnings;
 use job_programs::option_warnings::push_option_warnings;
 use job_programs::packets::no_packets;
 use job_programs::warnings::{
@@ -132,7 +130,7 @@ fn table_warnings(
         &mut warnings,
     )?;
     let id = association.transport_stream_id;
-    push_network_warnings(alloc, options.network, id, findings, &mut warnings)?;
+    push_network_warnings(options.network, id, findings, &mut warnings)?;
     Ok(warnings)
 }
 
@@ -185,22 +183,6 @@ fn with_streams(
     })
 }
 
-// Appends the warnings about the texts of services, and about service information.
-#[tactic(auto, unfolding(crate::specs::JobInput::service_warnings))]
-fn push_service_warnings(
-    alloc: Global,
-    names: &[ServiceName<'_>],
-    programs: &[JobProgram],
-    findings: &[Finding<'_>],
-    warnings: &mut Vec<Warning>,
-) -> Result<(), AllocError>
-    ensures { OnOk result (warnings.new.items ≡ warnings.old.items
-        ++ spec.service_warnings names.now (map finding_view findings.now) programs.now) }
-{
-    push_text_warnings(alloc, names, programs, findings, warnings)?;
-    push_information_warnings(alloc, programs, findings, warnings)
-}
-
 // Adds the streams of programs that have PIDs.
 #[tactic(auto, unfolding(crate::specs::JobInput::with_pids, crate::specs::JobInput::with_found, crate::specs::JobInput::job_warnings, crate::specs::JobInput::stream_warnings, job_programs::specs::Answers::Leads, job_programs::specs::Answers::Refuses))]
 fn with_pids(
@@ -231,7 +213,7 @@ fn with_pids(
     )?;
     let programs = job_programs(alloc, &streams, found.programs, assigned, &mut warnings)?;
     push_stream_warnings(alloc, count, &streams, findings, &links, &mut warnings)?;
-    push_service_warnings(alloc, options.names, &programs, findings, &mut warnings)?;
+    push_information_warnings(alloc, &programs, findings, &mut warnings)?;
     let tables = job_tables(
         alloc,
         options.without,

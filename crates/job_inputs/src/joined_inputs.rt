@@ -1,6 +1,6 @@
 //! The inputs of a job as one: their programs and streams one after another.
 
-ghost use Rattle.std.specs.Prelude.{◌≡◌, ◌≤◌, ◌++◌, ◌∷◌, Bool, IfErr, IfOk, List, Ok, OnOk, length, map, take, ℕ};
+ghost use Rattle.std.specs.Prelude.{◌≡◌, ◌≤◌, ◌++◌, ◌∷◌, Bool, IfErr, IfOk, List, Ok, OnOk, length, map, option_map, take, ℕ};
 ghost use Rattle.std.specs.List.{AllZip};
 ghost use Rattle.pid_findings.specs.Views.{FindingView};
 ghost use Rattle.job_programs.specs.Answers.{Answers, Refuses};
@@ -133,6 +133,18 @@ fn joined(one: JobInput, other: JobInput) -> Result<JobInput, AllocError>
     })
 }
 
+// Returns whether two descriptor loops are one, or both networks have their names alone.
+#[tactic(auto, unfolding(crate::specs::JoinedInputs::is_same_loop))]
+fn is_same_loop(one: &Option<Vec<u8>>, other: &Option<Vec<u8>>) -> bool
+    ensures { result ≡ spec.is_same_loop (option_map (λ b. b.items) one.now) (option_map (λ b. b.items) other.now) }
+{
+    match (one, other) {
+        (None, None) => true,
+        (Some(one), Some(other)) => one.as_slice() == other.as_slice(),
+        _ => false,
+    }
+}
+
 // Returns whether two networks are one.
 #[tactic(auto, unfolding(crate::specs::JoinedInputs::is_same_network))]
 fn is_same_network(one: &JobNetwork, other: &JobNetwork) -> bool
@@ -140,6 +152,7 @@ fn is_same_network(one: &JobNetwork, other: &JobNetwork) -> bool
 {
     one.id == other.id
         && one.name.as_str() == other.name.as_str()
+        && is_same_loop(&one.network_descriptors, &other.network_descriptors)
         && one.descriptors.as_slice() == other.descriptors.as_slice()
 }
 

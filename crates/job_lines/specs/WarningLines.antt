@@ -14,7 +14,7 @@ use Rattle.job_programs.specs.Warnings.{is_damage}
 use Rattle.job_programs.specs.declared.warning.PacketWarning.{PacketWarning}
 use Rattle.job_programs.specs.declared.warning.PacketWarning.TheVariants.{Bad, Errored, AssociationChanges, ProgramLoss, NetworkSurplus}
 use Rattle.job_programs.specs.declared.warning.ProgramWarning.{ProgramWarning}
-use Rattle.job_programs.specs.declared.warning.ProgramWarning.TheVariants.{Missing, NoStream, UnreadText}
+use Rattle.job_programs.specs.declared.warning.ProgramWarning.TheVariants.{Missing, NoStream}
 use Rattle.job_programs.specs.declared.warning.Warning.{Warning}
 use Rattle.job_programs.specs.declared.warning.Warning.TheVariants as warning
 use Rattle.job_programs.specs.declared.refusal.JobRefusal.{JobRefusal}
@@ -99,7 +99,6 @@ missing_line program named = missing_front program ++ named_text named
 unfoldable pub program_line : ℕ → ProgramWarning → List ℕ
 program_line program (Missing named) = missing_line program named
 program_line program NoStream = codes "program " ++ decimal program ++ codes " has no stream with units: left out\n"
-program_line program UnreadText = codes "name of program " ++ decimal program ++ codes " has characters that cannot be read\n"
 
 -- the buffer that a stream says
 unfoldable pub header_line : ℕ → ℕ → ℕ → ℕ → List ℕ
@@ -145,7 +144,6 @@ warning_line falling (warning.NoSuchStream pid) = codes "pid " ++ decimal pid ++
 warning_line falling (warning.Units pid left_out) = unit_line pid left_out
 warning_line falling (warning.NoUnit program pid) = codes "pid " ++ decimal pid ++ codes " of program " ++ decimal program ++ codes " has no unit: left out\n"
 warning_line falling (warning.StreamId stream packet id) = id_line stream.program stream.pid packet id
-warning_line falling warning.UnreadNetwork = codes "name of the network has characters that cannot be read\n"
 warning_line falling (warning.Information about) = information_line about
 warning_line falling (warning.MapMoved program from to) = codes "PMT of program " ++ decimal program ++ codes " moved from pid " ++ decimal from ++ codes " to "
     ++ decimal to ++ codes "\n"

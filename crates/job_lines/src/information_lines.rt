@@ -18,10 +18,7 @@ pub(crate) fn write_information(
     match warning {
         InformationWarning::EventSurplus { packet } => write!(
             text,
-            "packet {packet} EIT says more than names, texts and times of events: left out\n"
-        ),
-        InformationWarning::EventTexts => text.push_str(
-            "text of an event is too long, or has characters that cannot be read\n",
+            "packet {packet} EIT has an event that cannot be carried: left out\n"
         ),
         InformationWarning::TimeSurplus { packet } => {
             write!(text, "packet {packet} TDT says no time: left out\n")

@@ -211,10 +211,6 @@ fn write_program(program: u16, what: ProgramWarning, text: &mut String) -> Resul
             text,
             "program {program} has no stream with units: left out\n"
         ),
-        ProgramWarning::UnreadText => write!(
-            text,
-            "name of program {program} has characters that cannot be read\n"
-        ),
     }
 }
 
@@ -343,9 +339,6 @@ fn write_warning(falling: &[u16], warning: Warning, text: &mut String) -> Result
         ),
         Warning::StreamId { stream, packet, id } => {
             write_id(stream.program, stream.pid, packet, id, text)
-        }
-        Warning::UnreadNetwork => {
-            text.push_str("name of the network has characters that cannot be read\n")
         }
         Warning::Information(about) => write_information(about, text),
         Warning::MapMoved { program, from, to } => write!(

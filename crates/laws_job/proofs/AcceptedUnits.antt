@@ -1,6 +1,7 @@
 -- No unit of a job is refused.
 use Rattle.std.proofs.Common.{◌≡◌, ◌≤◌, ◌<◌, ℕ, zero, suc, ◌+◌, ◌==◌, ◌&&◌, Bool, true, false, if◌then◌else◌, List, [], ◌∷◌, ◌++◌, length, map, Option, Some}
 use Rattle.std.proofs.Common.{None, slice_get, All, refl, sym, ap, ◌∙◌, subst, arith, append_assoc}
+use Rattle.std.specs.List.{list_any}
 use Rattle.std.proofs.lemmas.List.{length-append}
 use Rattle.std.proofs.lemmas.List.Elements.{All-nil, All-cons, All-head, All-tail}
 use Rattle.std.proofs.lemmas.Option.{slice_get_within}
@@ -8,12 +9,13 @@ use Rattle.pes_packet.specs.AccessUnits.{AccessUnit}
 use Rattle.pes_packet.specs.Units.{units_of}
 use Rattle.description_parts.specs.Described.{Described, DescribedStream}
 use Rattle.description_parts.specs.Ranges.{IsInRange}
+use Rattle.description_parts.specs.Tables.{has_on_air}
 use Rattle.pid_findings.specs.Views.{FindingView}
 use Rattle.unit_queue.specs.Queues.{Kept}
 use Rattle.unit_queue.specs.declared.refusal.FeedError.{FeedError}
 use Rattle.mux_core.specs.Scheduled.{Scheduled}
 use Rattle.mux_core.specs.Histories.{owned_stream}
-use Rattle.mux_core.specs.MuxStates.{feed_cause}
+use Rattle.mux_core.specs.MuxStates.{feed_cause, if_on_air}
 use Rattle.mux_core.specs.Headline.{UnitsKept}
 use Rattle.mux_core.specs.WholeJobs.{or_cause, unit_refused, cause_after, first_refused}
 use Rattle.mux_core.specs.declared.multiplexing.MuxError.{MuxError}
@@ -131,22 +133,23 @@ all_kept_in law made line inputs origins units ranges are = record {
 
 -- 3. All units in turn
 
--- The streams of a line have rules in their ranges, and few units, which keep their declarations
+-- The streams of a line are on air, with rules in their ranges, and few units, which keep their declarations
 record AllFit (line : Scheduled) (all : List (ℕ × AccessUnit)) : Type 0 where
   kept : UnitsKept line (λ k. units_of k all)
   few : (k : ℕ) (s : DescribedStream) → slice_get line.description.streams k ≡ Some s → length (units_of k all) ≤ 1048576
+  on_air : (k : ℕ) (s : DescribedStream) → slice_get line.description.streams k ≡ Some s → list_any (has_on_air s) line.description.programs ≡ true
 
 one_taken : TakenOneByOne → (line : Scheduled) (fed rest : List (ℕ × AccessUnit)) (entry : ℕ × AccessUnit) (s : DescribedStream) →
     AllFit line (fed ++ (entry ∷ rest)) →
     slice_get line.description.streams entry.0 ≡ Some s → cause_after line 1048576 fed entry ≡ None
-unfolding feed_cause
+unfolding feed_cause if_on_air
 one_taken law line fed rest entry s fit is =
     let parts : units_of entry.0 (fed ++ (entry ∷ rest)) ≡ units_of entry.0 fed ++ (entry.1 ∷ units_of entry.0 rest) =
     units_append entry.0 fed (entry ∷ rest) ∙ ap (λ (us : List AccessUnit). units_of entry.0 fed ++ us) (own_units entry.0 entry rest refl) in
     let size : length (units_of entry.0 (fed ++ (entry ∷ rest))) ≡ length (units_of entry.0 fed) + suc (length (units_of entry.0 rest)) =
     ap (length {A = AccessUnit}) parts ∙ length-append (units_of entry.0 fed) (entry.1 ∷ units_of entry.0 rest) in
     let kept = subst (λ (us : List AccessUnit). Kept (owned_stream line entry.0 s) us) parts (fit.kept.kept entry.0 s is) in
-    rw is (law (owned_stream line entry.0 s) 1048576 (units_of entry.0 fed) entry.1 (units_of entry.0 rest) (fit.kept.parameters entry.0 s is).rows kept
+    rw (is, fit.on_air entry.0 s is) (law (owned_stream line entry.0 s) 1048576 (units_of entry.0 fed) entry.1 (units_of entry.0 rest) (fit.kept.parameters entry.0 s is).rows kept
     (omega (arith, size, fit.few entry.0 s is)))
 
 none_then : (index : ℕ) (cause : Option FeedError) (next : Option MuxError) → cause ≡ None → next ≡ None → or_cause (unit_refused index cause) next ≡ None
@@ -168,7 +171,12 @@ all_taken law line fed (entry ∷ rest) fit below =
 pub none_refused : UnitsAreKept → TakenOneByOne → (made : Bool) (line : Scheduled) (findings : List FindingView) (units : List (ℕ × AccessUnit)) →
     IsInRange line.description → AreUnits made findings line.description units → first_refused line 1048576 [] units ≡ None
 none_refused keeping taking made line findings units ranges are =
-    all_taken taking line [] units (record { kept = all_kept keeping made line findings units ranges are; few = λ k s is. (are.streams k s is).fits })
+    all_taken taking line [] units
+    (record {
+      kept = all_kept keeping made line findings units ranges are;
+      few = λ k s is. (are.streams k s is).fits;
+      on_air = λ k s is. (are.streams k s is).declares.on_air;
+    })
     are.numbered
 
 pub none_refused_in : UnitsAreKept → TakenOneByOne → (made : Bool) (line : Scheduled) (inputs : List (List FindingView)) (origins : List Origin)
@@ -179,5 +187,6 @@ none_refused_in keeping taking made line inputs origins units ranges are =
     (record {
       kept = all_kept_in keeping made line inputs origins units ranges are;
       few = λ k s is. (somewhere made inputs origins line.description units are k s is).is.fits;
+      on_air = λ k s is. (somewhere made inputs origins line.description units are k s is).is.declares.on_air;
     })
     are.numbered

@@ -28,6 +28,7 @@ use Rattle.job_programs.specs.declared.refusal.JobRefusal.{JobRefusal}
 use Rattle.job_programs.specs.declared.refusal.JobRefusal.TheVariants as refusals
 use Rattle.job_programs.specs.declared.warning.Warning.{Warning}
 use Rattle.job_programs.specs.declared.warning.Warning.TheVariants as warnings
+use Rattle.job_programs.specs.Events.{programs_information}
 use Rattle.job_programs.proofs.Steps.{granted, comes, same_value}
 use Rattle.job_units.specs.declared.declarations.StreamChoice.{StreamChoice}
 use Rattle.job_units.specs.BufferWarnings.{buffer_warnings}
@@ -39,7 +40,7 @@ use Rattle.job_units.specs.WireStreams.{selected, wire_streams, carried_stream, 
 use Rattle.job_units.specs.WireStreams.{is_written, made_for, makes_dts, makes_itself, stream_of, with_units, with_stamps, common_id, no_unit_warning}
 use Rattle.job_units.specs.WireStreams.{why_not_carried, left_out_for, warnings_by, left_out_warnings, all_left_out_warnings, why_no_unit, without_unit}
 use Rattle.job_inputs.specs.JobInput.{JobInputView, job_input, with_association, with_programs, with_pids, with_found, with_streams, with_moved}
-use Rattle.job_inputs.specs.JobInput.{with_unit_counts, change_warnings, table_warnings, stream_warnings, service_warnings, job_warnings}
+use Rattle.job_inputs.specs.JobInput.{with_unit_counts, change_warnings, table_warnings, stream_warnings, job_warnings}
 use Rattle.job_inputs.specs.JobInput.{named_of, tables_of}
 use Rattle.job_inputs.specs.LackingPrograms.{stream_refusal}
 use Rattle.laws_job.specs.JobLines.{is_about, IsNamed, pids_of, JobLinesLaw}
@@ -302,7 +303,7 @@ unfolding job_warnings
 units_in options count findings a named found assigned streams w at =
     let before = stream_warnings options count findings a named found ++ all_program_warnings streams found.programs assigned in
     let units = flat_map (λ s. pid_warnings count findings s.pid) streams in
-    Contains-append_left (before ++ units) (service_warnings options.names findings (job_programs streams found.programs assigned)) w
+    Contains-append_left (before ++ units) (programs_information findings (job_programs streams found.programs assigned)) w
     (Contains-append_right before units w at)
 
 unit_line : (pid count : ℕ) (findings : List FindingView) (streams : List WireStreamView) (w : UnitWarning) → Contains (map (λ s. s.pid) streams) pid →

@@ -19,19 +19,19 @@ use Rattle.es_units.specs.CarriedUnits.{is_part, is_split, is_unstamped as carri
 use Rattle.es_units.specs.CarriedUnits.{units_from, units_in}
 use Rattle.es_units.specs.UnitWarnings.{cause_of, cause_of_what, current_after, first_cause, id_of as unit_warnings_id_of, pes_cause, unstamped_cause}
 use Rattle.es_units.specs.UnitWarnings.{warning_list, warnings_from}
-use Rattle.job_inputs.specs.JobInput.{change_warnings, job_input, job_warnings, service_warnings, stream_warnings}
+use Rattle.job_inputs.specs.JobInput.{change_warnings, job_input, job_warnings, stream_warnings}
 use Rattle.job_inputs.specs.LackingPrograms.{first_lacking, first_why, nothing_carried, stream_refusal}
 use Rattle.job_inputs.specs.JobInput.{table_warnings, tables_of, with_association, with_found, with_moved, with_pids}
 use Rattle.job_inputs.specs.JobInput.{with_programs as job_input_with_programs, with_streams as job_input_with_streams, with_unit_counts}
 use Rattle.job_programs.specs.Answers.{and_then, each, unless}
 use Rattle.job_programs.specs.ClockBases.{base0_of, lasts}
-use Rattle.job_programs.specs.Events.{event_part, first_start, job_events, start_found, start_of}
+use Rattle.job_programs.specs.Events.{first_start, job_events, start_found, start_of}
 use Rattle.job_programs.specs.GivenNames.{name_given, original_given}
-use Rattle.job_programs.specs.Information.{has_service, has_services, information_of, named_service, network_found as information_network_found, network_of}
+use Rattle.job_programs.specs.Information.{has_service, has_services, information_of, named_service, network_of}
 use Rattle.job_programs.specs.Information.{network_or, original_of, renamed, service_with}
 use Rattle.job_programs.specs.JobOptions.{is_among as job_options_is_among, is_selected_program, is_selected_stream}
-use Rattle.job_programs.specs.JobPrograms.{clock_if, clock_in, has_stream as job_programs_has_stream, is_unread, numbers_named, program_warnings}
-use Rattle.job_programs.specs.JobPrograms.{program_with_pids, text_warning}
+use Rattle.job_programs.specs.JobPrograms.{clock_if, clock_in, has_stream as job_programs_has_stream, numbers_named, program_warnings}
+use Rattle.job_programs.specs.JobPrograms.{program_with_pids}
 use Rattle.job_programs.specs.JobStreams.{is_stream_of as job_streams_is_stream_of}
 use Rattle.job_programs.specs.JobTables.{can_take, has_table, is_left_out, is_reported, job_tables, packet_at, packet_span, span_if, table_if, table_of}
 use Rattle.job_programs.specs.JobTables.{tables_on}
@@ -39,7 +39,7 @@ use Rattle.job_programs.specs.LaterPrograms.{has_lost, is_kept, is_read, loses, 
 use Rattle.job_programs.specs.Packets.{is_bad as packets_is_bad, no_packets}
 use Rattle.job_programs.specs.ProgramClocks.{clock_by, is_same_clock}
 use Rattle.job_programs.specs.Warnings.{buffer_warning, map_warnings, name_warning, network_warnings, option_warnings, packet_warning, packet_warning_of}
-use Rattle.job_programs.specs.Warnings.{pid_option_warning, pid_warnings, selection_warning, stray_warning, stray_warnings, unread_network}
+use Rattle.job_programs.specs.Warnings.{pid_option_warning, pid_warnings, selection_warning, stray_warning, stray_warnings}
 use Rattle.job_units.specs.BufferWarnings.{asked_rate, crossing_warning, frame_warning, frame_warnings_of, header_warning, leak_warning, leak_warnings_of}
 use Rattle.job_units.specs.BufferWarnings.{unkept_frames, unkept_leak, whole_warning}
 use Rattle.job_units.specs.CrossingFrames.{begin_later, crosses, crosses_into, do_cross, has_cut, is_cut as crossing_frames_is_cut}
@@ -80,17 +80,15 @@ use Rattle.service_information.specs.CivilTimes.{civil_text, clock_text, date_te
 use Rattle.service_information.specs.CodedTimes.{below_sixty, decimal_in, moment_in, moment_on, seconds_in, sixtieths_in}
 use Rattle.service_information.specs.EventSections.{event_section_found, event_section_in, if_in_force, in_force as event_sections_in_force}
 use Rattle.service_information.specs.EventSections.{of_section as event_sections_of_section}
-use Rattle.service_information.specs.EventSurplus.{event_surplus, has_whole_texts, have_whole_texts, is_said as event_surplus_is_said}
+use Rattle.service_information.specs.EventSurplus.{event_surplus, is_said as event_surplus_is_said}
 use Rattle.service_information.specs.EventSurplus.{is_same as event_surplus_is_same, is_surplus as event_surplus_is_surplus}
-use Rattle.service_information.specs.EventSurplus.{is_taken as event_surplus_is_taken, is_whole_text, says_more}
+use Rattle.service_information.specs.EventSurplus.{is_taken as event_surplus_is_taken, says_more}
 use Rattle.service_information.specs.Events.{can_be_said as events_can_be_said, event_in, if_said, is_among as events_is_among, is_free, overlaps, place_of}
 use Rattle.service_information.specs.Events.{stream_events, timed_event, with_entries, with_event, with_findings, with_if_said, with_section}
 use Rattle.service_information.specs.FirstFindings.{first_packet as first_findings_first_packet, has_table_id}
-use Rattle.service_information.specs.ShortEvents.{in_descriptors as short_events_in_descriptors, is_alone, of_descriptor as short_events_of_descriptor}
-use Rattle.service_information.specs.ShortEvents.{short_event_in, with_name}
 use Rattle.service_information.specs.StreamTime.{is_surplus as stream_time_is_surplus, of_section as stream_time_of_section, of_table, stream_time}
 use Rattle.service_information.specs.StreamTime.{time_found, time_in}
-use Rattle.service_information.specs.Warnings.{information_warnings, is_bad as warnings_is_bad, is_bad_on, text_warnings}
+use Rattle.service_information.specs.Warnings.{information_warnings, is_bad as warnings_is_bad, is_bad_on}
 use Rattle.sound_frames.specs.FrameHeaders.{aac_frequency, ac3_frame, ac3_frequency, ac3_rate, ac3_size, adts_frame, enhanced_ac3, enhanced_blocks}
 use Rattle.sound_frames.specs.FrameHeaders.{enhanced_frequency, first_layer_rate, frame_header, frame_kind, layer_frame, layer_frequency, layer_header}
 use Rattle.sound_frames.specs.FrameHeaders.{layer_rate, layer_samples, layer_size, loas_config, loas_frame, low_first_layer_rate, low_layer_rate, plain_ac3}
@@ -113,7 +111,7 @@ use Rattle.stream_programs.specs.StrayPids.{is_pes, omitted_pid, pes_count, pes_
 use Rattle.stream_programs.specs.Streams.{has_no_pes, holder, is_alike, is_reserved, is_shared_with, is_stream_of as streams_is_stream_of, omission_of}
 use Rattle.stream_programs.specs.Streams.{shared_by}
 use Rattle.ts_services.specs.NetworkInformation.{can_be_said as network_information_can_be_said, coded_name, entry_of, first_network}
-use Rattle.ts_services.specs.NetworkInformation.{is_entry as network_information_is_entry, is_name_alone, is_network_section, is_one, is_original}
+use Rattle.ts_services.specs.NetworkInformation.{is_entry as network_information_is_entry, is_network_section, is_one, is_original}
 use Rattle.ts_services.specs.NetworkInformation.{is_said as network_information_is_said, is_same as network_information_is_same}
 use Rattle.ts_services.specs.NetworkInformation.{is_surplus as network_information_is_surplus, known_stream, network_in, network_said, network_surplus}
 use Rattle.ts_services.specs.NetworkInformation.{network_with, nit_found, nit_in, nit_in_force, nit_of_section, says_no_more, says_only, stream_network}
@@ -134,14 +132,14 @@ unfolding descriptors_from descriptors_in first_descriptor has_ca has_of_multipl
     greatest_over steps_after unit_runs continuation continued_by end_of first_id carried_units_first_packet is_access_point is_cut is_part is_split
     carried_units_is_unstamped more_bytes pes_role role_of role_of_what start_id units_from units_in cause_of cause_of_what current_after first_cause
     unit_warnings_id_of pes_cause unstamped_cause warning_list warnings_from change_warnings first_lacking first_why job_input job_warnings nothing_carried
-    service_warnings stream_refusal stream_warnings table_warnings tables_of with_association with_found with_moved with_pids job_input_with_programs
-    job_input_with_streams with_unit_counts and_then each unless base0_of lasts event_part first_start job_events start_found start_of name_given
-    original_given has_service has_services information_of named_service information_network_found network_of network_or original_of renamed
-    service_with job_options_is_among is_selected_program is_selected_stream clock_if clock_in job_programs_has_stream is_unread numbers_named
-    program_warnings program_with_pids text_warning job_streams_is_stream_of can_take has_table is_left_out is_reported job_tables packet_at
+    stream_refusal stream_warnings table_warnings tables_of with_association with_found with_moved with_pids job_input_with_programs
+    job_input_with_streams with_unit_counts and_then each unless base0_of lasts first_start job_events start_found start_of name_given
+    original_given has_service has_services information_of named_service network_of network_or original_of renamed
+    service_with job_options_is_among is_selected_program is_selected_stream clock_if clock_in job_programs_has_stream numbers_named
+    program_warnings program_with_pids job_streams_is_stream_of can_take has_table is_left_out is_reported job_tables packet_at
     packet_span span_if table_if table_of tables_on packets_is_bad no_packets clock_by is_same_clock buffer_warning map_warnings name_warning
     network_warnings option_warnings packet_warning packet_warning_of pid_option_warning pid_warnings selection_warning stray_warning stray_warnings
-    unread_network asked_rate crossing_warning frame_warning frame_warnings_of header_warning leak_warning leak_warnings_of unkept_frames unkept_leak
+    asked_rate crossing_warning frame_warning frame_warnings_of header_warning leak_warning leak_warnings_of unkept_frames unkept_leak
     whole_warning crosses has_cut crossing_frames_is_cut buffers_for buffers_refusal choices chosen coding_for crossing_for first_bytes first_kept
     framing_for framing_of groups_of header_of is_countable is_declared is_too_long length_refusal max_group_packets measured most_header
     asked_shares with_frames multiplexing_for needs_of packets_of_group prompt_lead share_of shares_of size_refusal too_long too_many unit_counts units_refusal way_out
@@ -160,11 +158,11 @@ unfolding descriptors_from descriptors_in first_descriptor has_ca has_of_multipl
     descriptors_length entry_after entry_at loop_at loop_from pat_at program_of programs_in pmt_after pmt_at program_map_stream_of streams_at
     streams_in is_bad_length long_header_of long_section section_at section_start_at short_section sized_at whole_at form_at table_header_at
     civil_text clock_text date_text two_digits below_sixty decimal_in moment_in moment_on seconds_in sixtieths_in event_section_found event_section_in
-    if_in_force event_sections_in_force event_sections_of_section event_surplus has_whole_texts have_whole_texts event_surplus_is_said
-    event_surplus_is_same event_surplus_is_surplus event_surplus_is_taken is_whole_text says_more events_can_be_said event_in if_said events_is_among
+    if_in_force event_sections_in_force event_sections_of_section event_surplus event_surplus_is_said
+    event_surplus_is_same event_surplus_is_surplus event_surplus_is_taken says_more events_can_be_said event_in if_said events_is_among
     is_free overlaps place_of stream_events timed_event with_entries with_event with_findings with_if_said with_section first_findings_first_packet
-    has_table_id short_events_in_descriptors is_alone short_events_of_descriptor short_event_in with_name stream_time_is_surplus
-    stream_time_of_section of_table stream_time time_found time_in information_warnings warnings_is_bad is_bad_on text_warnings aac_frequency
+    has_table_id stream_time_is_surplus
+    stream_time_of_section of_table stream_time time_found time_in information_warnings warnings_is_bad is_bad_on aac_frequency
     ac3_frame ac3_frequency ac3_rate ac3_size adts_frame enhanced_ac3 enhanced_blocks enhanced_frequency first_layer_rate frame_header frame_kind
     layer_frame layer_frequency layer_header layer_rate layer_samples layer_size loas_config loas_frame low_first_layer_rate low_layer_rate plain_ac3
     second_layer_rate sounding third_layer_rate by_header count_by count_passed header_read headed parts_from passed passed_by walked_from all_frames
@@ -174,7 +172,7 @@ unfolding descriptors_from descriptors_in first_descriptor has_ca has_of_multipl
     programs_of shares with_access with_map with_multiplex with_program_by with_program_if programs_with_programs with_shared with_stream
     with_stream_if programs_with_streams with_table is_pes omitted_pid pes_count pes_number stray_pid stray_pids unknown_pid has_no_pes holder
     is_alike is_reserved is_shared_with streams_is_stream_of omission_of shared_by network_information_can_be_said coded_name entry_of first_network
-    network_information_is_entry is_name_alone is_network_section is_one is_original network_information_is_said network_information_is_same
+    network_information_is_entry is_network_section is_one is_original network_information_is_said network_information_is_same
     network_information_is_surplus known_stream network_in network_said network_surplus network_with nit_found nit_in nit_in_force nit_of_section
     says_no_more says_only stream_network surplus_from network networks_network_found service_descriptions_in_force sdt_found sdt_in sdt_of_section
     services_in_descriptors in_entries length_prefixed services_of_descriptor of_entry service service_found service_in with_provider all_later

@@ -89,7 +89,7 @@ worked_information = record {
   sdt = false;
   network = None;
   events = [];
-  services = record { service_type = 1; provider = []; name = [] } ∷ [];
+  services = record { service_type = 1; provider = []; name = []; descriptors = None } ∷ [];
 }
 
 -- program 1, its map and its clock references on the PIDs that they have in the stream

@@ -13,18 +13,19 @@ use Rattle.pid_findings.specs.Views.{FindingView}
 use Rattle.job_text.specs.DescriptionParts.{EventPartView, FramingPartView, HeadingView, NetworkPartView, ProgramPartView, StreamPartView, TablePartView}
 use Rattle.job_text.specs.Fields.{burst_numbers, drain_numbers, frame_numbers, rest_numbers, group_numbers, last_numbers, leak_numbers}
 use Rattle.job_text.specs.Fields.{pace_numbers, place_numbers, program_numbers, size_numbers, table_numbers, time_numbers}
-use Rattle.job_text.specs.KeyLines.{digits_of, header, hex_line, items_of, items_text, key_line, list_line, noted_line, number_if_any, number_line, number_lines, set_line, table_header}
+use Rattle.job_text.specs.KeyLines.{digits_of, header, hex_line, items_of, items_text, key_line, list_line, named_line, noted_line, number_if_any, number_line, number_lines, set_line, table_header}
 use Rattle.job_text.specs.KeyLines.{value_text}
-use Rattle.job_text.specs.Notes.{is_shown, note_of, type_note}
+use Rattle.job_text.specs.Notes.{is_shown, name_note, note_of, type_note}
 use Rattle.job_text.proofs.NoteLines.{notes_are_shown}
-use Rattle.job_text.specs.Texts.{event_back, event_names, event_numbers, event_text, framing_if_any, framing_text, heading_back, heading_numbers, heading_text}
-use Rattle.job_text.specs.Texts.{network_if_any, program_clock, program_front, program_service, program_text}
+use Rattle.job_text.specs.Texts.{event_lines, event_names, event_numbers, event_place, event_text, framing_if_any, framing_text, heading_back, heading_numbers}
+use Rattle.job_text.specs.Texts.{heading_text, network_if_any, network_names, program_back, program_clock, program_front, program_service, program_text}
 use Rattle.job_text.specs.Texts.{stream_end, stream_front, stream_place, stream_text, stream_times, table_back, table_front, table_text, type_line}
 use Rattle.ts_services.specs.NetworkInformation.{stream_network}
-use Rattle.ts_services.specs.Services.{FoundServiceView, service}
+use Rattle.ts_services.specs.Services.{service}
 use Rattle.service_information.specs.Events.{FoundEventView}
-use Rattle.job_programs.specs.Events.{event_part, job_events, events_text}
-use Rattle.job_programs.specs.Information.{JobInformationView, information_of, service_for}
+use Rattle.service_information.specs.ShortEvents.{ShortEventView, short_event}
+use Rattle.job_programs.specs.Events.{event_by, event_part, event_with, job_events, events_text, texts_of}
+use Rattle.job_programs.specs.Information.{JobInformationView, NamedServiceView, information_of, service_for}
 use Rattle.job_inputs.specs.JobInput.{JobInputView}
 use Rattle.job_programs.specs.JobOptions.{JobOptionsView}
 use Rattle.job_programs.specs.JobPrograms.{JobProgramView}
@@ -50,12 +51,12 @@ note_flat key value = flat_if is_shown (note_of key value) refl (notes_are_shown
 type_flat : (s : StreamPartView) → is_flat (type_note s.stream_type s.said) ≡ true
 type_flat s = flat_if is_shown (type_note s.stream_type s.said) refl (notes_are_shown.1 s.stream_type s.said)
 
-key_passes : (key : List ℕ) (value : Data) → IsOther key → is_flat key ≡ true → is_flat (value_text value) ≡ true → Passes (key_line key value)
-unfolding key_line
-key_passes key value other plain flat =
-    let note = note_of key value in
+noted_passes : (key : List ℕ) (value : Data) (note : List ℕ) → IsOther key → is_flat key ≡ true → is_flat (value_text value) ≡ true → is_flat note ≡ true →
+    Passes (noted_line key value note)
+unfolding noted_line
+noted_passes key value note other plain flat noted =
     let said = value_text value ++ note in
-    let both = flat_both (value_text value) note flat (note_flat key value) in
+    let both = flat_both (value_text value) note flat noted in
     let line : (key ++ (codes " = " ++ said)) ++ 10 ∷ [] ≡ key ++ (codes " = " ++ (value_text value ++ (note ++ codes "\n"))) =
     append_assoc key (codes " = " ++ said) (10 ∷ [])
     ∙ ap (λ (t : List ℕ). key ++ t)
@@ -66,20 +67,24 @@ key_passes key value other plain flat =
     (λ rest. ap (λ (t : List ℕ). starts_with nat_eq t first_plan_line) (append_assoc key (codes " = " ++ said) (10 ∷ rest))
     ∙ other ((codes " = " ++ said) ++ 10 ∷ rest)))
 
+key_passes : (key : List ℕ) (value : Data) → IsOther key → is_flat key ≡ true → is_flat (value_text value) ≡ true → Passes (key_line key value)
+unfolding key_line noted_line
+key_passes key value other plain flat = noted_passes key value (note_of key value) other plain flat (note_flat key value)
+
+-- The line of descriptors passes, with the name beside them.
+named_passes : (key bytes name : List ℕ) → IsOther key → is_flat key ≡ true → Passes (named_line key bytes name)
+named_passes key bytes name other plain =
+    noted_passes key (string (encode_lower bytes)) (name_note name) other plain (string_flat (encode_lower bytes) (hex_flat bytes))
+    (flat_if is_shown (name_note name) refl (notes_are_shown.2 name))
+
 -- The line of a number passes.
 number_passes : (key : List ℕ) (n : ℕ) → IsOther key → is_flat key ≡ true → Passes (number_line (key, n))
 number_passes key n other plain = key_passes key (integer (pos n)) other plain (decimal_flat n)
 
 -- The line of a stream_type passes.
 type_passes : (s : StreamPartView) → Passes (type_line s)
-unfolding noted_line
 type_passes s =
-    let note = type_note s.stream_type s.said in
-    let said = decimal s.stream_type ++ note in
-    let both = flat_both (decimal s.stream_type) note (decimal_flat s.stream_type) (type_flat s) in
-    let line : (codes "type = " ++ said) ++ 10 ∷ [] ≡ codes "type = " ++ (decimal s.stream_type ++ (note ++ codes "\n")) =
-    append_assoc (codes "type = ") said (10 ∷ []) ∙ ap (λ (t : List ℕ). codes "type = " ++ t) (append_assoc (decimal s.stream_type) note (10 ∷ [])) in
-    subst Passes line (line_passes (codes "type = " ++ said) (flat_both (codes "type = ") said refl both) (λ rest. refl))
+    noted_passes (codes "type") (integer (pos s.stream_type)) (type_note s.stream_type s.said) (λ rest. refl) refl (decimal_flat s.stream_type) (type_flat s)
 
 abbrev AreOther : List (List ℕ × ℕ) → Type 0
 AreOther [] = Unit {0}
@@ -168,11 +173,16 @@ network_header : Passes (table_header (codes "network"))
 unfolding table_header
 network_header = both_pass (codes "\n") (codes "[network]\n") empty_line (line_passes (codes "[network]") refl (λ rest. refl))
 
+names_pass : (o : Option (List ℕ)) (n : NetworkPartView) → is_flat n.name ≡ true → Passes (network_names o n)
+names_pass None n plain = text_passes (codes "name") n.name (λ rest. refl) refl plain
+names_pass (Some bytes) n plain = named_passes (codes "network_descriptors") bytes n.name (λ rest. refl) refl
+
 network_passes : (n : Option NetworkPartView) → PlainPart n → Passes (network_if_any n)
 network_passes None plain = none_passes
 network_passes (Some n) plain =
-    let name = text_passes (codes "name") n.name (λ rest. refl) refl plain in
-    let id = both_pass (number_line (codes "id", n.id)) (key_line (codes "name") (string n.name)) (number_passes (codes "id") n.id (λ rest. refl) refl) name in
+    let names = network_names n.network_descriptors n in
+    let id = both_pass (number_line (codes "id", n.id)) names (number_passes (codes "id") n.id (λ rest. refl) refl)
+    (names_pass n.network_descriptors n plain) in
     let keys = both_pass (hex_line (codes "descriptors") n.descriptors) _ (bytes_pass n.descriptors) id in
     both_pass (table_header (codes "network")) _ network_header keys
 
@@ -180,19 +190,30 @@ program_header : Passes (header (codes "program"))
 unfolding header
 program_header = both_pass (codes "\n") (codes "[[program]]\n") empty_line (line_passes (codes "[[program]]") refl (λ rest. refl))
 
-program_passes : (p : ProgramPartView) → is_flat p.name ≡ true → is_flat p.provider ≡ true → Passes (program_text p)
-program_passes p name provider =
-    let head = both_pass (header (codes "program")) (hex_line (codes "descriptors") p.descriptors) program_header (bytes_pass p.descriptors) in
-    let front = both_pass _ (key_line (codes "name") (string p.name)) head (text_passes (codes "name") p.name (λ rest. refl) refl name) in
+clock_passes : (p : ProgramPartView) → Passes (program_clock p)
+clock_passes p =
+    let numbers = numbers_pass (program_numbers p) ((λ rest. refl), (refl, ((λ rest. refl), (refl, tt)))) in
+    both_pass (number_lines (program_numbers p)) (number_lines (number_if_any (codes "pcr_pid") p.pcr_pid)) numbers
+    (any_passes (codes "pcr_pid") p.pcr_pid (λ rest. refl) refl)
+
+back_passes : (o : Option (List ℕ)) (p : ProgramPartView) → is_flat p.name ≡ true → is_flat p.provider ≡ true → Passes (program_back o p)
+back_passes (Some bytes) p name provider =
+    let last = both_pass (number_line (codes "pmt_pid", p.pmt_pid)) (named_line (codes "service_descriptors") bytes p.name)
+    (number_passes (codes "pmt_pid") p.pmt_pid (λ rest. refl) refl) (named_passes (codes "service_descriptors") bytes p.name (λ rest. refl) refl) in
+    both_pass (program_clock p) _ (clock_passes p) last
+back_passes None p name provider =
     let kind = number_passes (codes "service_type") p.service_type (λ rest. refl) refl in
     let texts =
     both_pass (key_line (codes "provider") (string p.provider)) (number_line (codes "service_type", p.service_type))
     (text_passes (codes "provider") p.provider (λ rest. refl) refl provider) kind in
     let services = both_pass (number_line (codes "pmt_pid", p.pmt_pid)) _ (number_passes (codes "pmt_pid") p.pmt_pid (λ rest. refl) refl) texts in
-    let numbers = numbers_pass (program_numbers p) ((λ rest. refl), (refl, ((λ rest. refl), (refl, tt)))) in
-    let clock = both_pass (number_lines (program_numbers p)) (number_lines (number_if_any (codes "pcr_pid") p.pcr_pid)) numbers
-    (any_passes (codes "pcr_pid") p.pcr_pid (λ rest. refl) refl) in
-    both_pass (program_front p) (program_clock p ++ program_service p) front (both_pass (program_clock p) (program_service p) clock services)
+    both_pass (key_line (codes "name") (string p.name)) (program_clock p ++ program_service p) (text_passes (codes "name") p.name (λ rest. refl) refl name)
+    (both_pass (program_clock p) (program_service p) (clock_passes p) services)
+
+program_passes : (p : ProgramPartView) → is_flat p.name ≡ true → is_flat p.provider ≡ true → Passes (program_text p)
+program_passes p name provider =
+    let front = both_pass (header (codes "program")) (hex_line (codes "descriptors") p.descriptors) program_header (bytes_pass p.descriptors) in
+    both_pass (program_front p) (program_back p.service_descriptors p) front (back_passes p.service_descriptors p name provider)
 
 event_header : Passes (header (codes "event"))
 unfolding header
@@ -205,18 +226,28 @@ pub record PlainEvent (e : EventPartView) : Type 0 where
   pub name : is_flat e.name ≡ true
   pub text : is_flat e.text ≡ true
 
-event_passes : (e : EventPartView) → PlainEvent e → Passes (event_text e)
-event_passes e plain =
+numbers_of_event : (e : EventPartView) → Passes (number_lines (event_numbers e))
+numbers_of_event e = numbers_pass (event_numbers e) ((λ rest. refl), (refl, ((λ rest. refl), (refl, tt))))
+
+place_passes : (e : EventPartView) → PlainEvent e → Passes (event_place e)
+place_passes e plain =
+    both_pass (number_line (codes "program", e.program)) (key_line (codes "start") (string e.start))
+    (number_passes (codes "program") e.program (λ rest. refl) refl) (text_passes (codes "start") e.start (λ rest. refl) refl plain.start)
+
+lines_pass : (o : Option (List ℕ)) (e : EventPartView) → PlainEvent e → Passes (event_lines o e)
+lines_pass (Some bytes) e plain =
+    both_pass (named_line (codes "descriptors") bytes e.name) _ (named_passes (codes "descriptors") bytes e.name (λ rest. refl) refl)
+    (both_pass (number_lines (event_numbers e)) (event_place e) (numbers_of_event e) (place_passes e plain))
+lines_pass None e plain =
     let text = text_passes (codes "text") e.text (λ rest. refl) refl plain.text in
-    let start = both_pass (key_line (codes "start") (string e.start)) (key_line (codes "text") (string e.text))
-    (text_passes (codes "start") e.start (λ rest. refl) refl plain.start) text in
-    let back = both_pass (number_line (codes "program", e.program)) _ (number_passes (codes "program") e.program (λ rest. refl) refl) start in
+    let back = both_pass (event_place e) (key_line (codes "text") (string e.text)) (place_passes e plain) text in
     let name = text_passes (codes "name") e.name (λ rest. refl) refl plain.name in
     let names = both_pass (key_line (codes "language") (string e.language)) (key_line (codes "name") (string e.name))
     (text_passes (codes "language") e.language (λ rest. refl) refl plain.language) name in
-    let numbers = numbers_pass (event_numbers e) ((λ rest. refl), (refl, ((λ rest. refl), (refl, tt)))) in
-    both_pass (header (codes "event")) (number_lines (event_numbers e) ++ (event_names e ++ event_back e)) event_header
-    (both_pass (number_lines (event_numbers e)) (event_names e ++ event_back e) numbers (both_pass (event_names e) (event_back e) names back))
+    both_pass (number_lines (event_numbers e)) _ (numbers_of_event e) (both_pass (event_names e) _ names back)
+
+event_passes : (e : EventPartView) → PlainEvent e → Passes (event_text e)
+event_passes e plain = both_pass (header (codes "event")) (event_lines e.descriptors e) event_header (lines_pass e.descriptors e plain)
 
 stream_header : Passes (header (codes "stream"))
 unfolding header
@@ -312,14 +343,17 @@ pub record PlainInformation (i : JobInformationView) : Type 0 where
   pub events : Each PlainEvent i.events
   pub services : Each PlainService i.services
 
-one_event : (e : FoundEventView) → PlainEvent (event_part e)
-unfolding event_part
-one_event e = record {
+event_by_texts : (e : FoundEventView) (said : ShortEventView) → PlainEvent (event_by e said)
+unfolding event_by event_with
+event_by_texts e said = record {
   start = moment_flat e.start;
-  language = decoded_flat 3 e.language;
-  name = decoded_flat 100 e.name;
-  text = decoded_flat 150 e.text;
+  language = decoded_flat 3 said.language;
+  name = decoded_flat 100 said.name;
+  text = decoded_flat 150 said.text;
 }
+
+one_event : (e : FoundEventView) → PlainEvent (event_part e)
+one_event e = event_by_texts e (texts_of (short_event e.descriptors))
 
 pub information_plain : (w : JobOptionsView) (id : ℕ) (findings : List FindingView) (programs : List JobProgramView) → PlainOptions w →
     PlainInformation (information_of w id findings programs)
@@ -339,11 +373,11 @@ events_pass : (events : List EventPartView) → Each PlainEvent events → Passe
 events_pass [] plain = none_passes
 events_pass (e ∷ es) plain = both_pass (event_text e) (events_text es) (event_passes e plain.0) (events_pass es plain.1)
 
-one_program : (limit : ℕ) (pids : List ℕ) (p : JobProgramView) (s : FoundServiceView) → PlainService s → Passes (program_lines limit pids (p, s))
+one_program : (limit : ℕ) (pids : List ℕ) (p : JobProgramView) (s : NamedServiceView) → PlainService s → Passes (program_lines limit pids (p, s))
 unfolding program_with
 one_program limit pids p s plain = program_passes (program_part limit pids (p, s)) plain.name plain.provider
 
-programs_pass : (limit : ℕ) (pids : List ℕ) (programs : List JobProgramView) (services : List FoundServiceView) → Each PlainService services →
+programs_pass : (limit : ℕ) (pids : List ℕ) (programs : List JobProgramView) (services : List NamedServiceView) → Each PlainService services →
     Passes (programs_text limit pids programs services)
 programs_pass limit pids [] services plain = none_passes
 programs_pass limit pids (p ∷ ps) [] plain = none_passes

@@ -23,7 +23,7 @@ use Rattle.job_programs.specs.Events.{first_start, start_found, start_of as begi
 use Rattle.given_values.specs.GivenNames.{NetworkNameView, ServiceNameView}
 use Rattle.job_programs.specs.GivenNames.{name_given}
 use Rattle.job_programs.specs.JobOptions.{JobOptionsView}
-use Rattle.job_programs.specs.Information.{named_service, network_found, network_of, network_or, renamed, service_with}
+use Rattle.job_programs.specs.Information.{NamedServiceView, named_service, network_of, network_or, network_with as network_part_with, renamed, service_by, service_with}
 use Rattle.word_faults.specs.GivenOptions.{given_options}
 use Rattle.tsjob_cli.specs.FileMark.{has_mark}
 use Rattle.job_run.specs.JobArguments.{JobArgumentsView}
@@ -258,12 +258,12 @@ begin_flat (Some text) events findings h = h
 
 -- 5. The names of a description
 
-pub record PlainService (s : FoundServiceView) : Type 0 where
+pub record PlainService (s : NamedServiceView) : Type 0 where
   pub name : is_flat s.name ≡ true
   pub provider : is_flat s.provider ≡ true
 
 found_service : (o : Option FoundServiceView) → PlainService (named_service o)
-unfolding named_service
+unfolding named_service service_by
 found_service None = record { name = refl; provider = refl }
 found_service (Some s) = record { name = decoded_flat 100 s.name; provider = decoded_flat 100 s.provider }
 
@@ -280,7 +280,7 @@ found_name p [] h = tt
 found_name p (n ∷ ns) h =
     cond_both (p n) (Some n) (find p ns) PlainGiven (λ _. All-head PlainName n ns h) (λ _. found_name p ns (All-tail PlainName n ns h))
 
-with_name : (o : Option ServiceNameView) (s : FoundServiceView) → PlainGiven o → PlainService s → PlainService (service_with o s)
+with_name : (o : Option ServiceNameView) (s : NamedServiceView) → PlainGiven o → PlainService s → PlainService (service_with o s)
 unfolding service_with renamed
 with_name None s h plain = plain
 with_name (Some n) s h plain = record { name = h.0; provider = or_flat n.provider s.provider h.1 plain.provider }
@@ -295,7 +295,7 @@ PlainPart None = Unit {0}
 PlainPart (Some n) = is_flat n.name ≡ true
 
 pub part_plain : (given : Option NetworkNameView) (found : Option FoundNetworkView) → PlainNetwork given → PlainPart (network_or given found)
-unfolding network_or network_found network_of
+unfolding network_or network_part_with network_of
 part_plain None None h = tt
 part_plain None (Some n) h = decoded_flat 200 n.name
 part_plain (Some n) found h = h

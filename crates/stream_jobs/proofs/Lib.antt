@@ -1,4 +1,4 @@
-mod Agreement
+pub mod Agreement
 mod TableAgreement
 mod WholeAgreement
 pub mod JobUnits

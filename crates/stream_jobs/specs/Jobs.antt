@@ -1,12 +1,14 @@
 -- What a job is of what a demultiplexer finds.
 use Rattle.std.specs.Prelude.{◌≡◌, ◌≤◌, ◌<◌, ⊤, ℕ, nat_le, ◌==◌, ◌&&◌, Bool, true, false, if◌then◌else◌, List, [], ◌∷◌, length, map, slice_get, Option, Some}
 use Rattle.std.specs.Prelude.{None, All}
+use Rattle.std.specs.List.{list_any}
 use Rattle.std.specs.Option.{option_or}
 use Rattle.std.specs.Str.{bytes_eq}
 use Rattle.pes_packet.specs.AccessUnits.{AccessUnit}
 use Rattle.pes_packet.specs.Units.{units_of}
 use Rattle.pid_findings.specs.Views.{FindingView}
 use Rattle.description_parts.specs.Described.{Described, DescribedEntry, DescribedProgram, DescribedStream, DescribedTable}
+use Rattle.description_parts.specs.Tables.{has_on_air}
 use Rattle.unit_timing.specs.declared.allowance.Allowance.{Allowance}
 use Rattle.unit_timing.specs.declared.allowance.Allowance.TheVariants.{Groups, Pace}
 use Rattle.es_moments.specs.Declaration.{min_interval, max_unit_size, max_pts_after, group_packets, burst_packets}
@@ -134,7 +136,8 @@ keeps d s us =
     && (nat_le (max_unit_size us) s.size
     && (nat_le (max_pts_after us) s.pts_limit
     && (first_due s.lead us
-    && allows_units s.allowance s.stream_id d.base0 us)))
+    && (list_any (has_on_air s) d.programs
+    && allows_units s.allowance s.stream_id d.base0 us))))
 
 -- the PID of the clock references of the first program that is not the declared one in its place
 unfoldable pub first_other_program : List ℕ → List DescribedProgram → List JobProgramView → Option ℕ

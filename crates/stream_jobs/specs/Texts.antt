@@ -2,7 +2,7 @@
 use Rattle.std.specs.Prelude.{ℕ, ◌-◌, ◌^◌, min, List, ◌++◌, flat_map, length, take, zip, option_map}
 use Rattle.job_text.specs.DescriptionParts.{FramingPartView, HeadingView, ProgramPartView, StreamPartView}
 use Rattle.job_text.specs.Texts.{heading_text, network_if_any, program_text, stream_text}
-use Rattle.ts_services.specs.Services.{FoundServiceView}
+use Rattle.job_programs.specs.Information.{NamedServiceView}
 use Rattle.stream_choice.specs.declared.frame_counts.FrameCounts.{FrameCounts}
 use Rattle.job_units.specs.declared.declarations.StreamChoice.{StreamChoice}
 use Rattle.job_units.specs.Declarations.{UnitCountsView, said_profile}
@@ -33,7 +33,7 @@ heading_of pids input rate = record {
 
 -- 2. Programs, each with its service
 
-unfoldable pub program_with : ℕ → List ℕ → JobProgramView → FoundServiceView → ProgramPartView
+unfoldable pub program_with : ℕ → List ℕ → JobProgramView → NamedServiceView → ProgramPartView
 program_with pcr_limit pids p s = record {
   number = p.number;
   pmt_pid = p.map_pid;
@@ -43,10 +43,11 @@ program_with pcr_limit pids p s = record {
   service_type = s.service_type;
   provider = s.provider;
   name = s.name;
+  service_descriptors = s.descriptors;
 }
 
 -- beside its service
-abbrev pub program_part : ℕ → List ℕ → JobProgramView × FoundServiceView → ProgramPartView
+abbrev pub program_part : ℕ → List ℕ → JobProgramView × NamedServiceView → ProgramPartView
 program_part pcr_limit pids p = program_with pcr_limit pids p.0 p.1
 
 -- 3. Streams
@@ -80,10 +81,10 @@ stream_part s = record {
 
 -- 4. The whole: the lines of private tables (`JobTables` of `job_programs`) come last
 
-abbrev pub program_lines : ℕ → List ℕ → JobProgramView × FoundServiceView → List ℕ
+abbrev pub program_lines : ℕ → List ℕ → JobProgramView × NamedServiceView → List ℕ
 program_lines pcr_limit pids p = program_text (program_part pcr_limit pids p)
 
-abbrev pub programs_text : ℕ → List ℕ → List JobProgramView → List FoundServiceView → List ℕ
+abbrev pub programs_text : ℕ → List ℕ → List JobProgramView → List NamedServiceView → List ℕ
 programs_text pcr_limit pids programs services = flat_map (program_lines pcr_limit pids) (zip programs services)
 
 abbrev pub stream_lines : TimedStreamView × (UnitCountsView × StreamChoice) → List ℕ

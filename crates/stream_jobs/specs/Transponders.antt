@@ -1,15 +1,18 @@
 -- Which jobs need the numbers of a whole transponder: more than a description has without the key `transponder`.
-use Rattle.std.specs.Prelude.{ℕ, ◌+◌, ◌||◌, ◌&&◌, nat_lt, Bool, List, length, sum_by}
+use Rattle.std.specs.Prelude.{ℕ, ◌+◌, ◌||◌, ◌&&◌, nat_lt, Bool, List, length, sum_by, Option, None, Some}
 use Rattle.std.specs.List.{list_any}
 use Rattle.dvb_tables.specs.CharacterCoding.{text_bytes}
-use Rattle.ts_services.specs.Services.{FoundServiceView}
-use Rattle.job_programs.specs.Information.{JobInformationView}
+use Rattle.job_programs.specs.Information.{JobInformationView, NamedServiceView}
 use Rattle.job_programs.specs.JobStreams.{TimedStreamView}
 use Rattle.job_inputs.specs.JobInput.{JobInputView}
 
 -- the bytes of a service in a service description section (EN 300 468, 5.2.3 and 6.2.34)
-abbrev pub service_size : FoundServiceView → ℕ
-service_size s = 10 + (length (text_bytes s.provider) + length (text_bytes s.name))
+unfoldable pub loop_size : Option (List ℕ) → NamedServiceView → ℕ
+loop_size None s = 5 + (length (text_bytes s.provider) + length (text_bytes s.name))
+loop_size (Some descriptors) s = length descriptors
+
+abbrev pub service_size : NamedServiceView → ℕ
+service_size s = 5 + loop_size s.descriptors s
 
 -- one service description section has room for 1,009 bytes of services
 unfoldable pub has_many_services : JobInformationView → Bool

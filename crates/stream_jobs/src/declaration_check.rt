@@ -10,6 +10,7 @@ ghost use Rattle.job_programs.specs.FoundUnits.{Declares};
 use crate::shared_clock::{own_clock, shared_clock, sharing};
 use crate::table_check::first_other_table;
 use description::Description;
+use description_parts::table_kind::has_one_on_air;
 use description_parts::{ProgramDescription, StreamDescription};
 use es_moments::{CountedPackets, UnitRuns, max_pts_after, max_unit_size, min_interval};
 use given_values::ClockSharing;
@@ -61,7 +62,7 @@ fn packets_fit(
     }
 }
 
-// Returns whether a description declares what units need.
+// Returns whether a description declares what units need, and has the stream in a program on air.
 #[tactic(auto, unfolding(crate::specs::Jobs::keeps))]
 fn declares(
     alloc: Global,
@@ -76,7 +77,8 @@ fn declares(
     let interval = declared.interval <= min_interval(units);
     let pts = max_pts_after(units) <= u64::from(declared.pts_limit);
     let lead = first_due(u64::from(declared.lead), units);
-    if !(interval && size && pts && lead) {
+    let on_air = has_one_on_air(declared, description.programs());
+    if !(interval && size && pts && lead && on_air) {
         return Ok(false);
     }
     packets_fit(alloc, description.base0(), declared, units)
@@ -213,8 +215,9 @@ fn are_counted(pids: &[u16], description: &Description, input: &JobInput) -> boo
 }
 
 /// Returns a PID where a description disagrees with the input it was made of, `None` if all agree. In this order: 0 if
-/// the number of any items, the PID of the shared clock or the first value of the clock differs; the PCR_PID of a program; the PID of a private
-/// table; the PID of a stream, also if its units need more than it declares.
+/// the number of any items, the PID of the shared clock or the first value of the clock differs; the PCR_PID of a
+/// program; the PID of a private table; the PID of a stream, also if its units need more than it declares, or no program
+/// on air has it.
 #[tactic(auto, using(crate::proofs::WholeAgreement::in_turn), unfolding(crate::specs::Jobs::disagreeing))]
 pub(crate) fn disagreeing(
     alloc: Global,

@@ -106,6 +106,7 @@ fn write_program(
         service_type: service.service_type,
         provider: &service.provider,
         name: &service.name,
+        service_descriptors: service.descriptors.as_deref(),
     };
     entry.write_text(text)
 }

@@ -37,11 +37,23 @@ fn text_size(text: &str) -> u128
     }
 }
 
+// Returns the number of bytes of the descriptors of a service.
+#[tactic(auto, unfolding(crate::specs::Transponders::loop_size))]
+fn loop_size(service: &NamedService) -> u128
+    ensures value { result ≡ spec.loop_size service.now.descriptors service.now }
+    ensures bound { result ≤ 2 ^ 66 }
+{
+    match &service.descriptors {
+        None => 5 + (text_size(&service.provider) + text_size(&service.name)),
+        Some(descriptors) => descriptors.len() as u128,
+    }
+}
+
 // Returns the number of bytes of a service in a service description section.
 fn service_size(service: &NamedService) -> u128
     ensures { result ≡ spec.service_size service.now }
 {
-    10 + (text_size(&service.provider) + text_size(&service.name))
+    5 + loop_size(service)
 }
 
 // Returns whether these services take at most `room` bytes.

@@ -1,13 +1,13 @@
-use Rattle.std.proofs.Common.{map, ◌≡◌, ◌++◌, ◌∙◌, ap, ap₂, List, rules}
+use Rattle.std.proofs.Common.{map, ◌≡◌, ◌++◌, ◌∙◌, ap, List, rules}
 use Rattle.std.specs.Prelude.{flat_map}
 use Rattle.pid_findings.specs.Shown.{finding_view}
 use Rattle.job_inputs.specs.InputDrafts.{finished}
 use Rattle.program_tables.specs.Association.{AssociationView}
 use Rattle.stream_programs.specs.Programs.{FoundProgramsView}
-use Rattle.given_values.specs.GivenNames.{ServiceNameView}
+use Rattle.job_programs.specs.Events.{programs_information}
 use Rattle.job_programs.specs.JobOptions.{JobOptionsView}
 use Rattle.job_programs.specs.JobPrograms.{JobProgramView, job_programs, all_program_warnings}
-use Rattle.job_inputs.specs.JobInput.{service_warnings, with_streams}
+use Rattle.job_inputs.specs.JobInput.{with_streams}
 use Rattle.job_programs.specs.Warnings.{pid_warnings}
 use Rattle.job_units.specs.WireStreams.{wire_streams, all_left_out_warnings}
 use Rattle.job_programs.specs.JobTables.{job_tables, reported}
@@ -34,16 +34,13 @@ returns-clause-value c =
     let named = ap (λ (f : FoundProgramsView). f.programs) c.found.view_is in
     let made : c.in_ok-programs.programs.items ≡ job_programs streams c.args.found.programs c.args.assigned.items =
     search (rules, c.in_ok-programs.ensures.programs, c.deref.ensures.value, named) in
-    let names = ap (λ (o : JobOptionsView). o.names) c.options.view_is in
-    let pushed : c.push_service_warnings.new.warnings.items ≡ c.push_stream_warnings.new.warnings.items
-    ++ service_warnings c.options.inside.names.now findings c.deref-3.result.now = c.in_ok-push_service_warnings.ensures in
-    let texts : c.push_service_warnings.new.warnings.items ≡ c.push_stream_warnings.new.warnings.items
-    ++ service_warnings options.names findings (job_programs streams c.args.found.programs c.args.assigned.items) =
-    pushed ∙ ap₂ (λ (ns : List ServiceNameView) (ps : List JobProgramView). c.push_stream_warnings.new.warnings.items ++ service_warnings ns findings ps) names
-    (c.deref-3.ensures.value ∙ made) in
+    let texts : c.push_information_warnings.new.warnings.items ≡ c.push_stream_warnings.new.warnings.items
+    ++ programs_information findings (job_programs streams c.args.found.programs c.args.assigned.items) =
+    c.in_ok-push_information_warnings.ensures
+    ∙ ap (λ (ps : List JobProgramView). c.push_stream_warnings.new.warnings.items ++ programs_information findings ps) (c.deref-3.ensures.value ∙ made) in
     let tables : c.in_ok-tables.tables.items ≡ job_tables options.without c.args.count findings c.in_ok-programs.programs.items streams c.args.found.tables =
     search (rules, c.in_ok-tables.ensures) in
-    let left : c.reported-reported.result.items ≡ reported c.in_ok-tables.tables.items c.push_service_warnings.new.warnings.items =
+    let left : c.reported-reported.result.items ≡ reported c.in_ok-tables.tables.items c.push_information_warnings.new.warnings.items =
     search (rules, c.reported-reported.ensures) in
     let id = ap (λ (a : AssociationView). a.transport_stream_id) c.association.view_is in
     let value : Leads
@@ -52,10 +49,10 @@ returns-clause-value c =
     search (rules, c.with_streams.ensures.value, id) in
     let warnings = all_warnings options c.args.count findings c.args.association.now c.args.named.now c.args.found c.args.assigned.items streams
     c.in_ok-warnings.warnings.items c.wire_streams.new.warnings.items c.job_programs.new.warnings.items c.push_stream_warnings.new.warnings.items
-    c.push_service_warnings.new.warnings.items
+    c.push_information_warnings.new.warnings.items
     c.in_ok-warnings.ensures empties programs pids texts in
     in_pids options c.args.count findings c.args.association.now c.args.named.now c.args.found c.args.assigned.items streams
-    c.in_ok-programs.programs.items c.in_ok-tables.tables.items c.push_service_warnings.new.warnings.items c.reported-reported.result.items
+    c.in_ok-programs.programs.items c.in_ok-tables.tables.items c.push_information_warnings.new.warnings.items c.reported-reported.result.items
     (finished options findings)
     c.with_streams.result
     are made tables warnings left value
