@@ -304,13 +304,13 @@ def program_maps(stream, number, pid):
 
 
 def service(stream, number):
-    """service_type, provider and name of the last description of a program."""
+    """service_type, provider and name of the last description of a program, and all of its descriptors."""
     last = None
     for _, s in stream.sections(0x11, 0x42):
         for head, inner in loops(s[11:-4], 5) or []:
             if head[0] << 8 | head[1] == number:
                 texts = [t for t in (texts_of(body) for tag, body in descriptors(inner) if tag == 0x48) if t]
-                last = texts[0] if texts else last
+                last = (*texts[0], inner) if texts else last
                 if texts:
                     break
     return last
@@ -332,17 +332,14 @@ def network_table(s):
 
 
 def network(stream, ts_id):
-    """What the first network information section in force says that has this stream: network_id, original_network_id, the coded name and the
-    stream's descriptors. And the packet in which the first section ends that says anything else."""
+    """What the first network information section in force says that has this stream: network_id, original_network_id, the network's descriptors and
+    the stream's. And the packet in which the first section ends that says anything else."""
     known, first = original(stream), None
-    whole = lambda d: len(d) <= 700 and sum(2 + len(body) for _, body in descriptors(d)) == len(d)
-    alone = lambda d: not d or d[0] == 0x40 and len(d) > 1 and d[1] == len(d) - 2
 
     def said(s):
         table = network_table(s)
         entry = next(((o, d) for t, o, d in table[2] if t == ts_id and known in (None, o)), None) if table else None
-        name = next((body for tag, body in descriptors(table[1]) if tag == 0x40), b"") if table else b""
-        return ((table[0], entry[0], name, entry[1]), alone(table[1]) and len(table[2]) == 1) if entry and whole(entry[1]) else (None, False)
+        return ((table[0], entry[0], table[1], entry[1]), is_whole(table[1], 700) and len(table[2]) == 1) if entry and is_whole(entry[1], 700) else (None, False)
 
     tables = [(packet, said(s)) for packet, s in stream.sections(0x10, 0x40)]
     found = next((network for _, (network, _) in tables if network), None)
@@ -384,22 +381,19 @@ def time(stream):
 
 
 def short_event(loop):
-    """Language, name and text of the first short event descriptor, and whether it is alone."""
+    """Language, name and text of the first short event descriptor."""
     for tag, body in descriptors(loop):
         name = body[4: 4 + body[3]] if len(body) > 3 else b""
         rest = body[4 + len(name):]
         if tag == 0x4D and len(body) > 3 and len(name) == body[3] and rest and len(rest) > rest[0]:
-            return (body[:3], name, rest[1: 1 + rest[0]]), len(loop) == 2 + loop[1]
-    return None, False
+            return body[:3], name, rest[1: 1 + rest[0]]
+    return b"", b"", b""
 
 
 def event(number, head, loop):
-    """(start, program, event_id, duration, language, name, text) where a description can say it, and whether that is all."""
-    said, alone = short_event(loop)
+    """(start, program, event_id, duration, descriptors) where a description can say it."""
     start, duration = moment(head[2:7]), seconds(head[7:10])
-    if said is None or start is None or not duration or not (said[0].isalpha() and said[0].isascii()):
-        return None, False
-    return (start, number, head[0] << 8 | head[1], duration, *said), alone
+    return None if start is None or not duration or not is_whole(loop, 4000) else (start, number, head[0] << 8 | head[1], duration, loop)
 
 
 def events(stream, numbers):
@@ -414,12 +408,12 @@ def events(stream, numbers):
                 number = s[3] << 8 | s[4] if entries is not None else None
                 sections.append((packet, number, None if entries is None else [event(number, *e) for e in entries]))
     for packet, number, said in sorted(sections, key=lambda one: one[0]):
-        for one, _ in said or [] if number in numbers else []:
+        for one in said or [] if number in numbers else []:
             clash = one and any(o[1] == number and one[0] < o[0] + o[3] and o[0] < one[0] + one[3] for o in taken)
-            if one and not clash and len(taken) < 256:
+            if one and not clash and len(taken) < 1024:
                 taken.insert(sum(o[0] < one[0] for o in taken), one)
     for packet, number, said in sections:
-        if said is None or number in numbers and not all(alone and one in taken for one, alone in said):
+        if said is None or number in numbers and not all(one in taken for one in said):
             surplus.append(packet)
     return taken, min(surplus, default=None)
 
@@ -429,7 +423,34 @@ def texts_of(body):
         return None
     name = 3 + body[1]
     provider, name = body[2: name - 1], body[name: name + body[name - 1]]
-    return body[0], readable(provider), readable(name), any(texts.UNREAD in texts.characters(text) for text in (provider, name))
+    return body[0], readable(provider), readable(name)
+
+
+def is_whole(loop, most):
+    """Whether bytes are whole descriptors, and at most so many."""
+    return len(loop) <= most and sum(2 + len(body) for _, body in descriptors(loop)) == len(loop)
+
+
+def written(text):
+    """A text as a descriptor has it (EN 300 468, annex A): ASCII letters, digits and spaces as they are, any other text after 0x15 in UTF-8."""
+    return text.encode() if all(c == " " or c.isascii() and c.isalnum() for c in text) else b"\x15" + text.encode()
+
+
+def service_loop(kind, provider, name):
+    """The service descriptor of these texts (EN 300 468, 6.2.33)."""
+    body = bytes([kind]) + b"".join(bytes([len(text)]) + text for text in map(written, (provider, name)))
+    return bytes([0x48, len(body)]) + body
+
+
+def event_loop(language, name, text):
+    """The short event descriptor of these texts (EN 300 468, 6.2.37), if the language has three letters."""
+    body = language.encode() + b"".join(bytes([len(text)]) + text for text in map(written, (name, text)))
+    return bytes([0x4D, len(body)]) + body if len(language) == 3 and language.isascii() and language.isalpha() else None
+
+
+def network_loop(name):
+    """The network name descriptor of a text (EN 300 468, 6.2.27)."""
+    return bytes([0x40, len(written(name))]) + written(name)
 
 
 def readable(data, most=100):
