@@ -14,7 +14,7 @@ use Rattle.es_buffers.specs.declared.buffers.PidBuffers.{PidBuffers}
 -- input; whether a program is written without a picture or sound that can't be carried; the system clock at the begin of the run; which
 -- programs share a clock; the network and the names of services that replace the stream's; the programs to take, none for all; PIDs to
 -- leave out; buffers that replace the buffers by coding; whether units at which a decoder may begin are marked; PIDs whose units are
--- aligned; and whether the parts of a joined recording come one after another
+-- aligned; whether the parts of a joined recording come one after another; and the most frames of sound of a PES packet
 pub record JobOptionsView : Type 0 where
   pub rate : Option ℕ
   pub start : Option (List ℕ)
@@ -34,6 +34,7 @@ pub record JobOptionsView : Type 0 where
   pub mark_access : Bool
   pub aligned : List ℕ
   pub joined : Bool
+  pub frames : Option ℕ
 
 unfoldable pub is_among : ℕ → List ℕ → Bool
 is_among number numbers = list_any (λ other. other == number) numbers

@@ -48,6 +48,8 @@ pub struct JobOptions<'a> {
     pub aligned: &'a [u16],
     /// Whether the parts of a recording that was joined from several come one after another.
     pub joined: bool,
+    /// The most frames of sound of a PES packet, 1 to 64; without it the packets are the stream's.
+    pub frames: Option<u8>,
 }
 
 // A contract sees its texts and lists.
@@ -77,6 +79,7 @@ impl<'a> Model for JobOptions<'a> {
       mark_access = o.mark_access;
       aligned = o.aligned.now;
       joined = o.joined;
+      frames = o.frames;
     } };
 }
 

@@ -65,6 +65,8 @@ pub struct JobArguments<'a> {
     pub aligned: Vec<u16>,
     /// Whether the parts of a recording that was joined from several come one after another.
     pub joined: bool,
+    /// The most frames of sound of a PES packet, 1 to 64; without it the packets are the stream's.
+    pub frames: Option<u8>,
 }
 
 // A contract sees its lists and its text.
@@ -98,6 +100,7 @@ impl<'a> Model for JobArguments<'a> {
         mark_access = a.mark_access;
         aligned = a.aligned.items;
         joined = a.joined;
+        frames = a.frames;
       };
     } };
 }
@@ -133,6 +136,7 @@ impl JobArguments<'_> {
             mark_access: self.mark_access,
             aligned: &self.aligned,
             joined: self.joined,
+            frames: self.frames,
         }
     }
 }

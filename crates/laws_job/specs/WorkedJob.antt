@@ -77,6 +77,7 @@ worked_options = record {
   mark_access = false;
   aligned = [];
   joined = false;
+  frames = None;
 }
 
 -- no table of EN 300 468: a moment by default, an original_network_id for private use, and a service of digital television without a name

@@ -86,6 +86,7 @@ plain subcommand stream reporting rate start pcr_limit lead declare_by make_dts 
     mark_access = mark_access;
     aligned = [];
     joined = joined;
+    frames = None;
   };
 }
 

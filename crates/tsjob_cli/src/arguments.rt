@@ -169,6 +169,7 @@ fn values_of<'a>(alloc: Global, matches: &ArgMatches<'a>) -> Option<JobArguments
         mark_access: is_given(text_of(matches, "mark-access")),
         aligned: Vec::new(alloc),
         joined: is_given(text_of(matches, "joined")),
+        frames: None,
     })
 }
 
