@@ -117,7 +117,7 @@ by_packets main = codes ": main of " ++ decimal main ++ codes " bytes holds whol
 -- the bytes that wait then, if they are more than the main buffer
 unfoldable pub waiting_text : ℕ → ℕ → List ℕ
 waiting_text main bytes =
-    if nat_lt main bytes then codes " (up to " ++ decimal bytes ++ codes " bytes wait); fewer frames a PES packet would fit\n" else codes "\n"
+    if nat_lt main bytes then codes " (up to " ++ decimal bytes ++ codes " bytes wait); fewer frames a PES packet (--frames) would fit\n" else codes "\n"
 
 -- frames of sound that a main buffer is not known to hold one by one
 unfoldable pub frames_line : ℕ → ℕ → ℕ → ℕ → List ℕ

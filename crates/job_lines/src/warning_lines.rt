@@ -261,7 +261,7 @@ fn write_waiting(main: u32, bytes: u64, text: &mut String) -> Result<(), AllocEr
     if u64::from(main) < bytes {
         write!(
             text,
-            " (up to {bytes} bytes wait); fewer frames a PES packet would fit\n"
+            " (up to {bytes} bytes wait); fewer frames a PES packet (--frames) would fit\n"
         )
     } else {
         text.push_str("\n")

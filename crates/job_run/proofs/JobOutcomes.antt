@@ -209,14 +209,14 @@ without_input arguments notes count findings error o a t = refused arguments not
 pub carried_lead : (arguments : JobArgumentsView) (bytes : List ℕ) (notes said : PacketNotesView) (references : List FoundPcr) (size : ℕ)
     (at_times marked findings found : List FindingView) (w : JobOptionsView) (o : Outcome) →
     IsOfStream bytes notes references found size → findings ≡ found → w ≡ arguments.options → marked ≡ as_asked w findings →
-    said ≡ notes_by w.joined references marked notes → at_times ≡ findings_by w.joined references marked → FindingsLead arguments said (size / 188) at_times o →
+    said ≡ notes_by w.joined references marked notes → at_times ≡ findings_by w references marked → FindingsLead arguments said (size / 188) at_times o →
     BytesLead arguments bytes None o
 carried_lead arguments bytes notes said references size at_times marked findings found w o t f asked marks reports times l =
     let asked_are : marked ≡ asked_findings arguments.options bytes =
     marks ∙ ap (λ (x : JobOptionsView). as_asked x findings) asked ∙ ap (λ (x : List FindingView). as_asked arguments.options x) (f ∙ t.found_is) in
     let all : at_times ≡ findings_for arguments.options bytes =
-    times ∙ ap (λ (x : JobOptionsView). findings_by x.joined references marked) asked
-    ∙ ap₂ (λ (r : List FoundPcr) (x : List FindingView). findings_by arguments.options.joined r x) t.references_are asked_are in
+    times ∙ ap (λ (x : JobOptionsView). findings_by x references marked) asked
+    ∙ ap₂ (λ (r : List FoundPcr) (x : List FindingView). findings_by arguments.options r x) t.references_are asked_are in
     let notes_are : said ≡ notes_for arguments.options bytes =
     reports ∙ ap (λ (x : JobOptionsView). notes_by x.joined references marked notes) asked
     ∙ ap₂ (λ (r : List FoundPcr) (x : List FindingView). notes_by arguments.options.joined r x notes) t.references_are asked_are

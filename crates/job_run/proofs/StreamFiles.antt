@@ -102,14 +102,14 @@ of_bytes a bytes (Err o) none is = record {
 pub carried_is_input : (a : JobArgumentsView) (bytes : List ℕ) (notes said : PacketNotesView) (references : List FoundPcr) (size : ℕ)
     (at_times marked findings found : List FindingView) (w : JobOptionsView) (r : Result TakenView Outcome) →
     IsOfStream bytes notes references found size → findings ≡ found → no_stream bytes ≡ None → w ≡ a.options → marked ≡ as_asked w findings →
-    said ≡ notes_by w.joined references marked notes → at_times ≡ findings_by w.joined references marked → IsInputOf a said (size / 188) at_times r →
+    said ≡ notes_by w.joined references marked notes → at_times ≡ findings_by w references marked → IsInputOf a said (size / 188) at_times r →
     IsInput a bytes r
 carried_is_input a bytes notes said references size at_times marked findings found w r of same none asked marks outcome_is times is =
     let asked_are : marked ≡ asked_findings a.options bytes =
     marks ∙ ap (λ (x : JobOptionsView). as_asked x findings) asked ∙ ap (λ (x : List FindingView). as_asked a.options x) (same ∙ of.found_is) in
     let all : at_times ≡ findings_for a.options bytes =
-    times ∙ ap (λ (x : JobOptionsView). findings_by x.joined references marked) asked
-    ∙ ap₂ (λ (r : List FoundPcr) (x : List FindingView). findings_by a.options.joined r x) of.references_are asked_are in
+    times ∙ ap (λ (x : JobOptionsView). findings_by x references marked) asked
+    ∙ ap₂ (λ (r : List FoundPcr) (x : List FindingView). findings_by a.options r x) of.references_are asked_are in
     let notes_are : said ≡ notes_for a.options bytes =
     outcome_is ∙ ap (λ (x : JobOptionsView). notes_by x.joined references marked notes) asked
     ∙ ap₂ (λ (r : List FoundPcr) (x : List FindingView). notes_by a.options.joined r x notes) of.references_are asked_are

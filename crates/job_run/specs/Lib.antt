@@ -1,4 +1,5 @@
 pub mod JobArguments
+pub mod FramePackets
 pub mod Streams
 pub mod RecodingLines
 pub mod GapLines

@@ -31,6 +31,7 @@ use Rattle.packet_sync.specs.declared.packet_sizes.OtherPackets.{OtherPackets}
 use Rattle.packet_sync.specs.declared.slip.Slip.{Slip}
 use Rattle.job_inputs.specs.AskedMarks.{as_asked}
 use Rattle.job_programs.specs.JobOptions.{JobOptionsView}
+use Rattle.job_run.specs.FramePackets.{framed_by}
 
 -- 1. A whole stream
 
@@ -61,13 +62,17 @@ unfoldable pub falling_by : Bool → List FoundPcr → List FindingView → List
 falling_by false references findings = falling_pids references findings
 falling_by true references findings = []
 
--- the findings from which a job is made: with the moments of teletext that has no stamps; a PES packet whose stamps are alone out of order is a damaged one
-abbrev pub findings_by : Bool → List FoundPcr → List FindingView → List FindingView
-findings_by joined references findings =
+-- the findings with the moments of teletext that has no stamps; a PES packet whose stamps are alone out of order is a damaged one
+abbrev pub mended_by : Bool → List FoundPcr → List FindingView → List FindingView
+mended_by joined references findings =
     lone_damaged (falling_by joined references findings) (timed (references_by joined references findings) (parts_by joined references findings))
 
+-- the findings from which a job is made: its PES packets of sound have no more frames than asked for
+abbrev pub findings_by : JobOptionsView → List FoundPcr → List FindingView → List FindingView
+findings_by options references findings = framed_by options.frames (mended_by options.joined references findings)
+
 abbrev pub findings_for : JobOptionsView → List ℕ → List FindingView
-findings_for options bytes = findings_by options.joined (references_in (in_step bytes)) (asked_findings options bytes)
+findings_for options bytes = findings_by options (references_in (in_step bytes)) (asked_findings options bytes)
 
 -- notes on the packets of a stream: its slips, the fields that are not written again, the changes of codings in a joined recording, the gaps of its clocks,
 -- and if it is no joined recording the PIDs of streams whose clocks go back

@@ -1,5 +1,6 @@
 //! What a job is made of in a stream that was read. The parts of a joined recording follow one another, and each
-//! teletext PES packet without a PTS has a moment. A PES packet whose stamps are alone out of order is damaged.
+//! teletext PES packet without a PTS has a moment. A PES packet whose stamps are alone out of order is damaged. PES
+//! packets of sound have as few frames as asked for.
 
 ghost use Rattle.std.specs.Prelude.{◌≡◌, IfOk, filter, map};
 ghost use Rattle.stamp_repair.specs.DataTimes as text;
@@ -9,6 +10,7 @@ ghost use Rattle.joined_parts.specs.ClockGaps.{clock_gaps as all_gaps};
 ghost use Rattle.job_run.specs.Streams as spec;
 
 use crate::carried_stream::PacketNotes;
+use crate::frame_packets::frame_packets;
 use job_programs::JobOptions;
 use joined_parts::{ClockGap, Recoding, clock_gaps, falling_pids, one_recording, recodings_in};
 use packet_pcr::FoundPcr;
@@ -162,10 +164,33 @@ fn timed_stream(
     Ok((notes, damaged))
 }
 
+// Returns the notes about a stream's packets, and its findings: with `joined`, the parts of the recording follow one
+// another; each teletext PES packet without a PTS has a moment; a PES packet whose stamps are alone out of order is
+// damaged.
+#[tactic(auto, using(crate::proofs::JobFindings::made_findings))]
+fn mended_stream(
+    alloc: Global,
+    options: &JobOptions<'_>,
+    references: Vec<FoundPcr>,
+    notes: PacketNotes,
+    findings: Vec<Finding<'static>>,
+) -> Result<(PacketNotes, Vec<Finding<'static>>), AllocError>
+    ensures notes { IfOk result (λ made. made.0 ≡ spec.notes_by options.now.joined references.items
+        (map finding_view findings.entry.items) notes) }
+    ensures findings { IfOk result (λ made. map finding_view made.1.items
+        ≡ spec.mended_by options.now.joined references.items (map finding_view findings.entry.items)) }
+{
+    let recodings = stream_recodings(alloc, options, &findings)?;
+    let (gaps, falling) = clock_notes(alloc, options, &references, &findings)?;
+    let (references, parts) = joined_stream(alloc, options, references, findings)?;
+    let (notes, damaged) = timed_stream(alloc, references, recodings, gaps, falling, notes, parts)?;
+    Ok((notes, damaged))
+}
+
 /// Returns the notes about a stream's packets, and the findings for its job: with `joined`, the parts of the recording
 /// follow one another; each teletext PES packet without a PTS has a moment; a PES packet whose stamps are alone out of
-/// order is damaged.
-#[tactic(auto, using(crate::proofs::JobFindings::made_findings))]
+/// order is damaged; with `frames`, each PES packet of sound has at most as many frames.
+#[tactic(auto, using(crate::proofs::JobFindings::framed_findings))]
 pub(crate) fn job_findings(
     alloc: Global,
     options: &JobOptions<'_>,
@@ -176,11 +201,9 @@ pub(crate) fn job_findings(
     ensures notes { IfOk result (λ made. made.0 ≡ spec.notes_by options.now.joined references.items
         (map finding_view findings.entry.items) notes) }
     ensures findings { IfOk result (λ made. map finding_view made.1.items
-        ≡ spec.findings_by options.now.joined references.items (map finding_view findings.entry.items)) }
+        ≡ spec.findings_by options.now references.items (map finding_view findings.entry.items)) }
 {
-    let recodings = stream_recodings(alloc, options, &findings)?;
-    let (gaps, falling) = clock_notes(alloc, options, &references, &findings)?;
-    let (references, parts) = joined_stream(alloc, options, references, findings)?;
-    let (notes, damaged) = timed_stream(alloc, references, recodings, gaps, falling, notes, parts)?;
-    Ok((notes, damaged))
+    let (notes, mended) = mended_stream(alloc, options, references, notes, findings)?;
+    let framed = frame_packets(alloc, options.frames, mended)?;
+    Ok((notes, framed))
 }

@@ -44,6 +44,7 @@ use Rattle.job_run.specs.declared.job_arguments.Subcommand.TheVariants.{Units}
 use Rattle.job_run.specs.JobArguments.{JobArgumentsView}
 use Rattle.job_run.specs.Outcomes.{Gives, GivesUnits}
 use Rattle.packet_sync.specs.PacketBytes.{packets_in}
+use Rattle.job_run.specs.FramePackets.{framed_by}
 use Rattle.job_run.specs.Streams.{asked_findings, findings_for, findings_of, in_step, parts_by, references_by}
 use Rattle.tsjob_cli.specs.StreamedUnits.{GoesBy, earliest, feed_of, maps_of, marking_by, pids_of, streams_from}
 use Rattle.laws_pipe.specs.StreamedUnits.{AreAlike, AreLaterByOne, AreMarkedAlike, TheSameUnits, lone_found, timed_findings}
@@ -226,18 +227,18 @@ ordered_of : (a : JobArgumentsView) (w : JobOptionsView) (d : Described) (bytes 
     slice_get input.streams k ≡ Some t → list_any (is_on t.pid) (lone_found a bytes) ≡ false
 ordered_of a w d bytes input k t alike at = at_place (λ t. list_any (is_on t.pid) (lone_found a bytes) ≡ false) input.streams k t alike.ordered at
 
--- If the parts of a recording are not joined, the job takes the requested findings, timed by the clock references; PES packets with stamps that are alone
--- out of order are damaged.
-as_found : (a : JobArgumentsView) (bytes : List ℕ) → a.options.joined ≡ false →
+-- If the parts of a recording are not joined and no PES packet is cut, the job takes the requested findings, timed by the clock references; PES packets with
+-- stamps that are alone out of order are damaged.
+as_found : (a : JobArgumentsView) (bytes : List ℕ) → a.options.joined ≡ false → a.options.frames ≡ None →
     findings_for a.options bytes ≡ map (damaged (lone_found a bytes)) (timed_findings a bytes)
-unfolding references_by parts_by lone_damaged
-as_found a bytes unjoined = rw unjoined refl
+unfolding framed_by references_by parts_by lone_damaged
+as_found a bytes unjoined uncut = rw (unjoined, uncut) refl
 
 same_wire : (a : JobArgumentsView) (w : JobOptionsView) (d : Described) (bytes : List ℕ) (input : JobInputView) (k : ℕ) (t : TimedStreamView) →
     AreAlike a w d bytes input →
     slice_get input.streams k ≡ Some t → apart_wire_units t.pid (findings_for a.options bytes) ≡ apart_wire_units t.pid (streamed_findings w d bytes)
 same_wire a w d bytes input k t alike at =
-    ap (λ (fs : List FindingView). apart_wire_units t.pid fs) (as_found a bytes alike.unjoined)
+    ap (λ (fs : List FindingView). apart_wire_units t.pid fs) (as_found a bytes alike.unjoined alike.uncut)
     ∙ wire_ordered (lone_found a bytes) t.pid (timed_findings a bytes) (ordered_of a w d bytes input k t alike at)
     ∙ wire_timed (references_in (in_step bytes)) t.pid (asked_findings a.options bytes) (stamps_of a w d bytes input k t alike at)
     ∙ wire_alike (whole_marking a bytes) (marking_by w d) t.pid (findings_of (in_step bytes)) (marks_of a w d bytes input k t alike at)
@@ -249,7 +250,7 @@ same_alone a w d bytes input k t alike at =
     sym (alone_alike (whole_marking a bytes) (marking_by w d) t.pid (findings_of (in_step bytes)) (marks_of a w d bytes input k t alike at))
     ∙ sym (alone_timed (references_in (in_step bytes)) t.pid (asked_findings a.options bytes) (stamps_of a w d bytes input k t alike at))
     ∙ sym (alone_ordered (lone_found a bytes) t.pid (timed_findings a bytes) (ordered_of a w d bytes input k t alike at))
-    ∙ sym (ap (λ (fs : List FindingView). one_by_one t.pid fs) (as_found a bytes alike.unjoined))
+    ∙ sym (ap (λ (fs : List FindingView). one_by_one t.pid fs) (as_found a bytes alike.unjoined alike.uncut))
     ∙ at_place (λ t. one_by_one t.pid (findings_for a.options bytes) ≡ true) input.streams k t alike.alone at
 
 -- 5. The constant of its clock moves each unit

@@ -1,5 +1,5 @@
 -- The output of `tsjob units --stream` for a stream while it comes, compared with the output of `tsjob units` for the whole stream.
-use Rattle.std.specs.Prelude.{◌≡◌, ◌≤◌, ◌<◌, ℕ, ◌+◌, ◌/◌, true, false, List, [], length, map, slice_get, Some, Ok, All}
+use Rattle.std.specs.Prelude.{◌≡◌, ◌≤◌, ◌<◌, ℕ, ◌+◌, ◌/◌, true, false, List, [], length, map, slice_get, Some, None, Ok, All}
 use Rattle.std.specs.List.{list_any}
 use Rattle.clap.specs.Words.{Text}
 use Rattle.pes_packet.specs.AccessUnits.{AccessUnit}
@@ -76,6 +76,8 @@ pub record AreAlike (a : JobArgumentsView) (w : JobOptionsView) (d : Described) 
   pub keep : All (λ t. KeepDts t.pid (findings_for a.options bytes)) input.streams
   -- no parts are joined
   pub unjoined : a.options.joined ≡ false
+  -- no PES packet is cut
+  pub uncut : a.options.frames ≡ None
   -- the programs of the streams are on one clock
   pub clock : ProgramClock
   pub one_clock : All (λ t. clock_of input.programs t ≡ clock) input.streams

@@ -41,6 +41,9 @@ limit_in rows = number_of options (codes "pcr") rows
 unfoldable pub lead_in : List Row → Option ℕ
 lead_in rows = number_of options (codes "lead") rows
 
+unfoldable pub frames_in : List Row → Option (Option ℕ)
+frames_in rows = number_if options (codes "frames") rows
+
 unfoldable pub programs_in : List Row → Option (List ℕ)
 programs_in rows = numbers_of options (codes "program") rows
 
@@ -62,8 +65,8 @@ reporting_in rows = record {
 
 -- arguments with empty lists
 abbrev pub plain : Subcommand → Option Text → Reporting → Option ℕ → Option Text → ℕ → ℕ → DeclareBy → Bool → Bool → Bool → Bool → Bool → ClockSharing →
-    ClockBase → JobArgumentsView
-plain subcommand stream reporting rate start pcr_limit lead declare_by make_dts mark_access joined strict lenient clock base = record {
+    ClockBase → Option ℕ → JobArgumentsView
+plain subcommand stream reporting rate start pcr_limit lead declare_by make_dts mark_access joined strict lenient clock base frames = record {
   subcommand = subcommand;
   stream = stream;
   reporting = reporting;
@@ -86,7 +89,7 @@ plain subcommand stream reporting rate start pcr_limit lead declare_by make_dts 
     mark_access = mark_access;
     aligned = [];
     joined = joined;
-    frames = None;
+    frames = frames;
   };
 }
 
@@ -99,13 +102,14 @@ values_of rows =
     given (start_of (first_of (codes "start") rows)) (λ start.
     given (limit_in rows) (λ pcr_limit.
     given (lead_in rows) (λ lead.
+    given (frames_in rows) (λ frames.
     given (declare_by_of (first_of (codes "declare") rows)) (λ declare_by.
     given (clock_sharing_of (first_of (codes "clock") rows)) (λ clock.
     given (base_of (first_of (codes "base") rows)) (λ base.
     Some (plain subcommand stream (reporting_in rows) rate start pcr_limit lead declare_by (is_given (first_of (codes "make-dts") rows))
     (is_given (first_of (codes "mark-access") rows))
     (is_given (first_of (codes "joined") rows))
-    (is_given (first_of (codes "strict") rows)) (is_given (first_of (codes "lenient") rows)) clock base))))))))))
+    (is_given (first_of (codes "strict") rows)) (is_given (first_of (codes "lenient") rows)) clock base frames)))))))))))
 
 -- arguments with lists
 abbrev pub with_lists : List ℕ → List ℕ → List PidBuffers → Option NetworkNameView → List ServiceNameView → List ℕ → JobArgumentsView → JobArgumentsView

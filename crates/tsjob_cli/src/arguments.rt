@@ -1,6 +1,6 @@
 //! What the command line asks for.
 
-ghost use Rattle.std.specs.Prelude.{◌≡◌, IfOk, map, option_map};
+ghost use Rattle.std.specs.Prelude.{◌≡◌, ◌≤◌, IfOk, IfSome, map, option_map};
 ghost use Rattle.clap.specs.Words.{found_of, rows_of};
 ghost use Rattle.word_faults.specs.NameLists.{network_if_given};
 ghost use Rattle.given_values.specs.GivenNames.{network_name_view};
@@ -94,6 +94,27 @@ fn lead_in(matches: &ArgMatches<'_>) -> Option<u32>
     Some(lead)
 }
 
+// Returns a number of frames, if there is one.
+fn frames_of(given: Option<u64>) -> Option<u8>
+    requires { IfSome given (λ frames. frames ≤ 64) }
+    ensures { result ≡ given }
+{
+    match given {
+        None => None,
+        Some(frames) => Some(frames as u8),
+    }
+}
+
+// Returns the most frames of sound of a PES packet; `None` if its text is no number of its range.
+#[tactic(auto, unfolding(crate::specs::Arguments::frames_in))]
+fn frames_in(matches: &ArgMatches<'_>) -> Option<Option<u8>>
+    ensures { result ≡ spec.frames_in (rows_of (found_of matches.now)) }
+{
+    let given = number_if(&OPTIONS, matches, "frames")?;
+    let frames = frames_of(given);
+    Some(frames)
+}
+
 // Returns the programs that are taken.
 #[tactic(auto, unfolding(crate::specs::Arguments::programs_in))]
 fn programs_in(alloc: Global, matches: &ArgMatches<'_>) -> Result<Option<Vec<u16>>, AllocError>
@@ -144,6 +165,7 @@ fn values_of<'a>(alloc: Global, matches: &ArgMatches<'a>) -> Option<JobArguments
     let start = start_of(text_of(matches, "start"))?;
     let pcr_limit = limit_in(matches)?;
     let lead = lead_in(matches)?;
+    let frames = frames_in(matches)?;
     let declare_by = declare_by_of(text_of(matches, "declare"))?;
     let clock = clock_sharing_of(text_of(matches, "clock"))?;
     let base = base_of(text_of(matches, "base"))?;
@@ -169,7 +191,7 @@ fn values_of<'a>(alloc: Global, matches: &ArgMatches<'a>) -> Option<JobArguments
         mark_access: is_given(text_of(matches, "mark-access")),
         aligned: Vec::new(alloc),
         joined: is_given(text_of(matches, "joined")),
-        frames: None,
+        frames,
     })
 }
 

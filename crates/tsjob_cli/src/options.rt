@@ -6,15 +6,15 @@ ghost use Rattle.word_faults.specs.KnownWords.{known_of};
 use crate::arguments::subcommand_of;
 use crate::file_mark::has_mark;
 use crate::rows::{
-    ALIGNED, BASE, BUFFERS, CLOCK, DECLARE, HELP, JOINED, LEAD, LENIENT, MAKE_DTS, MARK_ACCESS,
-    NAME, NETWORK, OUTPUT, PCR, PROGRAM, PROGRESS, QUIET, RATE, START, STRICT, VERBOSE, VERSION,
-    WITHOUT,
+    ALIGNED, BASE, BUFFERS, CLOCK, DECLARE, FRAMES, HELP, JOINED, LEAD, LENIENT, MAKE_DTS,
+    MARK_ACCESS, NAME, NETWORK, OUTPUT, PCR, PROGRAM, PROGRESS, QUIET, RATE, START, STRICT,
+    VERBOSE, VERSION, WITHOUT,
 };
 use job_run::Subcommand;
 use word_faults::{KnownWords, OptionRow, ValueKind, word_beside};
 
 /// The options and the subcommand. The reader, the first faulty word and the usage follow these rows.
-pub(crate) const OPTIONS: [OptionRow; 27] = [
+pub(crate) const OPTIONS: [OptionRow; 28] = [
     OptionRow {
         name: "subcommand",
         value: ValueKind::Word,
@@ -28,6 +28,7 @@ pub(crate) const OPTIONS: [OptionRow; 27] = [
     WITHOUT,
     BUFFERS,
     LEAD,
+    FRAMES,
     DECLARE,
     PCR,
     CLOCK,
@@ -79,6 +80,7 @@ const USAGE: &str = "usage: tsjob [describe|units|why] [OPTIONS] [FILE..|-] [-o 
   --without PID,..               PIDs that are left out
   --buffers PID:RX:MAIN,..       buffers of a PID, in bits a second and bytes
   --lead 1..90000                the greatest lead of a unit, in units of 90 kHz
+  --frames 1..64                 the most frames of sound of a PES packet; else the packets stay as they are
   --declare groups|time          by what packets are declared; else by groups if they ask for little more
   --pcr 1..100                   the greatest time between clock references, in ms
   --clock each|one               which programs share a clock: none or all; else those without video

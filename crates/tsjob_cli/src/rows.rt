@@ -62,6 +62,20 @@ pub const LEAD: OptionRow = OptionRow {
     help: "the greatest lead of a unit, in units of 90 kHz",
 };
 
+/// The most frames of sound of a PES packet.
+pub const FRAMES: OptionRow = OptionRow {
+    name: "frames",
+    value: ValueKind::Number {
+        least: 1,
+        greatest: 64,
+        default: None,
+    },
+    form: "",
+    unit: "",
+    apart: "",
+    help: "the most frames of sound of a PES packet; else the packets stay as they are",
+};
+
 /// By what packets are declared.
 pub const DECLARE: OptionRow = OptionRow {
     name: "declare",

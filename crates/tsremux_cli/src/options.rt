@@ -4,9 +4,9 @@ ghost use Rattle.tsremux_cli.specs.Options as spec;
 ghost use Rattle.word_faults.specs.KnownWords.{known_of};
 
 use tsjob_cli::rows::{
-    ALIGNED, BASE, BUFFERS, CLOCK, DECLARE, HELP, JOINED, LEAD, LENIENT, MAKE_DTS, MARK_ACCESS,
-    NAME, NETWORK, OUTPUT, PCR, PROGRAM, PROGRESS, QUIET, RATE, START, STRICT, VERBOSE, VERSION,
-    WITHOUT,
+    ALIGNED, BASE, BUFFERS, CLOCK, DECLARE, FRAMES, HELP, JOINED, LEAD, LENIENT, MAKE_DTS,
+    MARK_ACCESS, NAME, NETWORK, OUTPUT, PCR, PROGRAM, PROGRESS, QUIET, RATE, START, STRICT,
+    VERBOSE, VERSION, WITHOUT,
 };
 use word_faults::{KnownWords, OptionRow, ValueKind};
 
@@ -41,12 +41,13 @@ const RECORDS: OptionRow = OptionRow {
 };
 
 /// The options. Which word is a fault, and the usage, follow these rows.
-pub(crate) const OPTIONS: [OptionRow; 27] = [
+pub(crate) const OPTIONS: [OptionRow; 28] = [
     RATE,
     PROGRAM,
     WITHOUT,
     BUFFERS,
     LEAD,
+    FRAMES,
     DECLARE,
     PCR,
     CLOCK,
@@ -93,6 +94,7 @@ const USAGE: &str = "usage: tsremux [OPTIONS] [FILE..|-] -o OUT
   --without PID,..               PIDs that are left out
   --buffers PID:RX:MAIN,..       buffers of a PID, in bits a second and bytes
   --lead 1..90000                the greatest lead of a unit, in units of 90 kHz
+  --frames 1..64                 the most frames of sound of a PES packet; else the packets stay as they are
   --declare groups|time          by what packets are declared; else by groups if they ask for little more
   --pcr 1..100                   the greatest time between clock references, in ms
   --clock each|one               which programs share a clock: none or all; else those without video
