@@ -7,7 +7,6 @@ ghost use Rattle.mux_core.specs.TextChanges.{sub_table_there};
 ghost use Rattle.mux_core.specs.SlotSteps.{texts_in, marked, number_there, still_at, sent_still};
 
 use arrayvec::ArrayVec;
-use description_parts::table_kind::has_one_on_air;
 use slot_plan::Description;
 
 /// The texts after the last change, none before the first, and for each sub-table, by its number, whether a section of it
@@ -33,7 +32,7 @@ impl TextsInForce {
     pub fn stream_on_air(&self, first: &Description, stream: u8) -> bool
         ensures { result ≡ stream_on_air (texts_in self.now.changed first.now) stream }
     {
-        stream_on_air(self.texts(first), stream as usize)
+        self.texts(first).stream_on_air(stream as usize)
     }
 
     // Returns the number of the sub-table of a section.
@@ -96,15 +95,5 @@ fn sent_still(sent: &[bool; 131], changed: &[bool; 131]) -> [bool; 131]
     match still.into_inner() {
         Ok(still) => still,
         Err(_) => unreachable!(),
-    }
-}
-
-// Returns whether a program on air has the stream of a number.
-fn stream_on_air(description: &Description, stream: usize) -> bool
-    ensures { result ≡ stream_on_air description.now stream }
-{
-    match description.streams().get(stream) {
-        None => false,
-        Some(stream) => has_one_on_air(stream, description.programs()),
     }
 }
