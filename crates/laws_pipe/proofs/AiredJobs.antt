@@ -34,7 +34,8 @@ use Rattle.checked_jobs.specs.MuxJobs.{MuxJobView, default_slots, mux_job_of, se
 use Rattle.checked_jobs.specs.Multiplexing.{cause_of, packets_of, range_cause, schedule_of, slots_of}
 use Rattle.tsair_cli.specs.declared.arguments.AirOptions.{AirOptions}
 use Rattle.tsair_cli.specs.AirRuns.{Begins, EndsRun, GoesOnAir, run_of}
-use Rattle.tsair_cli.specs.Endings.{end_outcome, slots_outcome, why_outcome}
+use Rattle.tsair_cli.specs.Endings.{end_outcome, lost_status, slots_outcome, why_outcome}
+use Rattle.tsair_cli.specs.States.{Saving}
 use Rattle.tsair_cli.specs.Fronts.{front_outcome}
 use Rattle.tsair_cli.specs.declared.front.FrontError.{FrontError}
 use Rattle.tsair_cli.specs.declared.front.FrontError.TheVariants.{Fault, Stopped}
@@ -180,13 +181,19 @@ record HeardWhole (run : Run) (rest : List ℕ) (n : ℕ) : Type 0 where
 status_0 : (status : ℕ) → status ≡ 1 → status ≡ 0 → ⊥
 status_0 status a b = cc
 
-heard_of : (o : AirOptions) (run : Run) (input output faults : Device) (rest : List ℕ) (e : EndsRun o run input output faults 0) → o.terms.slots ≡ None →
+-- A status 0 is that of a run whose versions are not lost.
+not_lost : (lost : Bool) (status : ℕ) → 0 ≡ lost_status lost status → 0 ≡ status
+not_lost false status e = e
+not_lost true status e = absurd (let no : 0 ≡ 3 = e in cc)
+
+heard_of : (saving : Saving) (o : AirOptions) (run : Run) (input output faults : Device) (rest : List ℕ) (e : EndsRun saving o run input output faults 0) → o.terms.slots ≡ None →
     input.before.bytes ≡ Some rest →
     HeardWhole run rest e.airs.heard_is.count
 unfolding end_outcome
-heard_of o run input output faults rest e slots bytes =
+heard_of saving o run input output faults rest e slots bytes =
     let reported = e.airs.heard_is.heard_is.known rest bytes in
-    let by_none = rw slots at e.status_is in
+    let by_none = rw slots at
+    (not_lost e.end.has_lost (why_outcome o.terms.slots e.airs.came.records e.end.has_refused e.end.why).status e.status_is) in
     let stopped : e.end.why ≡ None → e.end.has_refused ≡ true = λ w. e.refused ∙ ((rw w at e.ends).1).0 in
     let f = finished e.airs.came.records e.end.has_refused e.end.why stopped (sym by_none) in
     let last = rw f.is at e.ends in
@@ -195,15 +202,15 @@ heard_of o run input output faults rest e slots bytes =
       none_left = (last (after_records e.airs.heard_is.count rest) reported.1).0;
     }
 
-ended_output : (m : MuxOptions) (o : AirOptions) (bytes : List ℕ) (j : MuxJobView) (input output faults : Device) → AskTheSame m o → TakesJob m bytes j →
+ended_output : (m : MuxOptions) (saving : Saving) (o : AirOptions) (bytes : List ℕ) (j : MuxJobView) (input output faults : Device) → AskTheSame m o → TakesJob m bytes j →
     input.before.bytes ≡ Some bytes →
-    (air : GoesOnAir o input output faults 0) → EndsRun o (run_of o air.job) (between air.left input.after) output faults 0 → Takes output (packets_of m j)
-ended_output m o bytes j input output faults same takes known air e =
+    (air : GoesOnAir saving o input output faults 0) → EndsRun saving o (run_of o air.job) (between air.left input.after) output faults 0 → Takes output (packets_of m j)
+ended_output m saving o bytes j input output faults same takes known air e =
     let run = run_of o air.job in
     let l = left_of input.before.bytes air.left.bytes bytes air.begins.front known air.begins.read in
     let n = e.airs.heard_is.count in
     let of = is_of m o bytes j input.before air.left air.job air.begins same.periods takes.job l in
-    let whole = heard_of o (run_of o air.job) (between air.left input.after) output faults l.rest e same.all_slots l.left_is in
+    let whole = heard_of saving o (run_of o air.job) (between air.left input.after) output faults l.rest e same.all_slots l.left_is in
     let units : records_of e.airs.heard_is.count l.rest ≡ j.units = all_records l.rest j.units e.airs.heard_is.count of.units whole.none_left in
     let none = none_of_job m o air.job j same of.is takes.taken in
     let none_here : first_refused (run_of o air.job).scheduled (capacity_for j.units) [] (records_of e.airs.heard_is.count l.rest) ≡ None =
@@ -225,13 +232,13 @@ front_status (Stopped halt.Write) e = cc
 front_status (Stopped halt.Memory) e = cc
 
 pub airs_what_mux_writes : AirsWhatMuxWrites
-airs_what_mux_writes m o bytes j input output faults same takes known (inl air) = elim air.records [
-  | inl e ↦ ended_output m o bytes j input output faults same takes known air e
+airs_what_mux_writes m saving o bytes j input output faults same takes known (inl air) = elim air.records [
+  | inl e ↦ ended_output m saving o bytes j input output faults same takes known air e
   | inr f ↦ absurd (let no : 0 ≡ 3 = f.status_is in cc)
 ]
-airs_what_mux_writes m o bytes j input output faults same takes known (inr (inl front)) = absurd (front_status front.error (sym front.status_is))
-airs_what_mux_writes m o bytes j input output faults same takes known (inr (inr (inl periods))) = absurd (let no : 0 ≡ 1 = periods.status_is in cc)
-airs_what_mux_writes m o bytes j input output faults same takes known (inr (inr (inr memory))) = absurd (let no : 0 ≡ 3 = memory.status_is in cc)
+airs_what_mux_writes m saving o bytes j input output faults same takes known (inr (inl front)) = absurd (front_status front.error (sym front.status_is))
+airs_what_mux_writes m saving o bytes j input output faults same takes known (inr (inr (inl periods))) = absurd (let no : 0 ≡ 1 = periods.status_is in cc)
+airs_what_mux_writes m saving o bytes j input output faults same takes known (inr (inr (inr memory))) = absurd (let no : 0 ≡ 3 = memory.status_is in cc)
 
 -- Records in order
 
@@ -246,7 +253,7 @@ first_in_order run units more order before after entry is =
     order before (after ++ more) entry (ap (λ (l : List (ℕ × AccessUnit)). l ++ more) is ∙ append_assoc before (entry ∷ after) more)
 
 pub refuses_none : RefusesNone
-refuses_none m o bytes j input output faults status same takes known air order e =
+refuses_none m saving o bytes j input output faults status same takes known air order e =
     let l = left_of input.before.bytes air.left.bytes bytes air.begins.front known air.begins.read in
     let of = is_of m o bytes j input.before air.left air.job air.begins same.periods takes.job l in
     let n = e.airs.heard_is.count in

@@ -8,6 +8,7 @@ use Rattle.checked_jobs.specs.MuxJobs.{MuxJobView, mux_job_of}
 use Rattle.checked_jobs.specs.Multiplexing.{cause_of, packets_of}
 use Rattle.tsair_cli.specs.declared.arguments.AirOptions.{AirOptions}
 use Rattle.tsair_cli.specs.AirRuns.{AirsJob, EndsRun, GoesOnAir, run_of}
+use Rattle.tsair_cli.specs.States.{Saving}
 
 -- both command lines ask for the same output of a whole job: lines of digits or bytes, all slots, the periods of a first plan
 pub record AskTheSame (m : MuxOptions) (o : AirOptions) : Type 0 where
@@ -23,8 +24,8 @@ pub record TakesJob (m : MuxOptions) (bytes : List ℕ) (j : MuxJobView) : Type 
 
 -- a run that ends with status 0 wrote the bytes that `mux` writes
 abbrev pub AirsWhatMuxWrites : Type 0
-AirsWhatMuxWrites = (m : MuxOptions) (o : AirOptions) (bytes : List ℕ) (j : MuxJobView) (input output faults : Device) → AskTheSame m o → TakesJob m bytes j →
-    input.before.bytes ≡ Some bytes → AirsJob o input output faults 0 → Takes output (packets_of m j)
+AirsWhatMuxWrites = (m : MuxOptions) (saving : Saving) (o : AirOptions) (bytes : List ℕ) (j : MuxJobView) (input output faults : Device) → AskTheSame m o → TakesJob m bytes j →
+    input.before.bytes ≡ Some bytes → AirsJob saving o input output faults 0 → Takes output (packets_of m j)
 
 -- a job without the ticks among its records
 abbrev pub units_alone : MuxJobView → MuxJobView
@@ -43,7 +44,7 @@ pub record AreInOrder (run : Run) (j : MuxJobView) : Type 0 where
 
 -- a run over such a job that came to its end refused no record, neither a unit nor a tick
 abbrev pub RefusesNone : Type 0
-RefusesNone = (m : MuxOptions) (o : AirOptions) (bytes : List ℕ) (j : MuxJobView) (input output faults : Device) (status : ℕ) → AskTheSame m o →
+RefusesNone = (m : MuxOptions) (saving : Saving) (o : AirOptions) (bytes : List ℕ) (j : MuxJobView) (input output faults : Device) (status : ℕ) → AskTheSame m o →
     TakesUnits m bytes j →
-    input.before.bytes ≡ Some bytes → (air : GoesOnAir o input output faults status) → AreInOrder (run_of o air.job) j →
-    (ends : EndsRun o (run_of o air.job) (between air.left input.after) output faults status) → ends.end.has_refused ≡ false
+    input.before.bytes ≡ Some bytes → (air : GoesOnAir saving o input output faults status) → AreInOrder (run_of o air.job) j →
+    (ends : EndsRun saving o (run_of o air.job) (between air.left input.after) output faults status) → ends.end.has_refused ≡ false

@@ -1,10 +1,10 @@
 //! `tsair`: a constant-rate MPEG-2 transport stream multiplexer without end (ISO/IEC 13818-1, EN 300 468, TR 101 290).
 //!
-//! The program is `tsair_cli::run` over any reader and two writers; `devices::run_program` runs it over the real ones.
+//! The program is `tsair_cli::run` over any files, a reader and two writers; `devices::run_program` runs it over the real ones.
 #![tactic(auto)]
 
 use counted_io::Sink;
-use devices::{NamedFiles, Program, run_program};
+use devices::{NamedFiles, OutputFiles, Program, run_program};
 use held_input::HeldInput;
 use std::alloc::Global;
 use std::process::ExitCode;
@@ -13,15 +13,15 @@ use tsair_cli::{report_usage, run, writes_bytes};
 struct Tsair;
 
 impl Program for Tsair {
-    fn run<F: NamedFiles, R: HeldInput, W: Sink, E: Sink>(
+    fn run<F: NamedFiles + OutputFiles, R: HeldInput, W: Sink, E: Sink>(
         alloc: Global,
         words: &[&str],
-        _files: &F,
+        files: &F,
         input: &mut R,
         output: &mut W,
         faults: &mut E,
     ) -> u8 {
-        run(alloc, words, input, output, faults)
+        run(alloc, words, files, input, output, faults)
     }
 
     fn report_usage<E: Sink>(faults: &mut E) -> u8 {

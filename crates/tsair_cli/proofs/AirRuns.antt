@@ -26,6 +26,8 @@ use Rattle.tsair_cli.specs.AirRuns.{AirsJob, AirsRecords, Begins, begin_cause, b
 use Rattle.tsair_cli.specs.Endings.{end_outcome}
 use Rattle.tsair_cli.specs.Fronts.{ReadsPlans}
 use Rattle.tsair_cli.specs.HeardRecords.{EndsRecords, FailsRecords, limits_in}
+use Rattle.devices.specs.declared.files.FileFault.{FileFault}
+use Rattle.tsair_cli.specs.States.{Saving, saving_of}
 use Rattle.tsair_cli.proofs.HeardRecords.{stopped_at_most}
 
 -- If no packet waits, all packets are written.
@@ -34,10 +36,10 @@ whole_output : (start now : Option (List ℕ)) (packets : Buffered) (all : List 
 whole_output start now packets all none o =
     subst (λ (bytes : List ℕ). Appends start now bytes) (sym (o.is ∙ ap (λ (l : List ℕ). o.written ++ l) none ∙ append-nil o.written)) o.taken
 
-pub records_failed : (o : AirOptions) (run : Run) (input output : Device) (before so_far after : Port) (sent status : ℕ) →
-    FailsRecords run o.stop output.before.bytes input output (between before so_far) sent → Reports (between so_far after) (halt_line Write) → status ≡ 3 →
-    AirsRecords o run input output (between before after) status
-records_failed o run input output before so_far after sent status f r s = inr (record {
+pub records_failed : (saving : Saving) (o : AirOptions) (run : Run) (input output : Device) (before so_far after : Port) (sent status : ℕ) →
+    FailsRecords saving run o.stop output.before.bytes input output (between before so_far) sent → Reports (between so_far after) (halt_line Write) → status ≡ 3 →
+    AirsRecords saving o run input output (between before after) status
+records_failed saving o run input output before so_far after sent status f r s = inr (record {
   rest = input.after.bytes;
   so_far = so_far;
   airs = f.airs;
@@ -51,14 +53,14 @@ records_failed o run input output before so_far after sent status f r s = inr (r
   status_is = s;
 })
 
-pub run_ended : (o : AirOptions) (run : Run) (input : Device) (begin mid end before so_far after : Port) (why : RecordsEnd) (s t : AirState)
+pub run_ended : (saving : Saving) (o : AirOptions) (run : Run) (input : Device) (begin mid end before so_far after : Port) (why : RecordsEnd) (s t : AirState)
     (records status : ℕ)
-    (e : EndsRecords run o.stop begin.bytes input (between begin mid) (between before so_far) why s) →
+    (e : EndsRecords saving run o.stop begin.bytes input (between begin mid) (between before so_far) why s) →
     IsOnAir run (ended run e.airs.came) begin.bytes end.bytes t → waiting_of t.packets ≡ [] → end.failed ≡ mid.failed →
     records ≡ t.records → Reports (between so_far after) (end_outcome o.terms.slots records why).report →
     status ≡ (end_outcome o.terms.slots records why).status →
-    AirsRecords o run input (between begin end) (between before after) status
-run_ended o run input begin mid end before so_far after why s t records status e h none clean n r st =
+    AirsRecords saving o run input (between begin end) (between before after) status
+run_ended saving o run input begin mid end before so_far after why s t records status e h none clean n r st =
     let count : records ≡ e.airs.came.records = n ∙ h.records in
     inl (record {
       rest = e.rest;
@@ -69,6 +71,7 @@ run_ended o run input begin mid end before so_far after why s t records status e
       stops = e.stops;
       changed = e.changed;
       refused = e.refused;
+      lost = e.lost;
       reader = e.reader;
       written = whole_output begin.bytes end.bytes t.packets (air_output run (ended run e.airs.came)) none h.output;
       clean = clean ∙ e.clean;
@@ -77,11 +80,11 @@ run_ended o run input begin mid end before so_far after why s t records status e
       status_is = st ∙ ap (λ (m : ℕ). (end_outcome o.terms.slots m why).status) count;
     })
 
-pub end_failed : (o : AirOptions) (run : Run) (input : Device) (begin mid end before so_far after : Port) (why : RecordsEnd) (s : AirState) (sent status : ℕ)
-    (e : EndsRecords run o.stop begin.bytes input (between begin mid) (between before so_far) why s) →
+pub end_failed : (saving : Saving) (o : AirOptions) (run : Run) (input : Device) (begin mid end before so_far after : Port) (why : RecordsEnd) (s : AirState) (sent status : ℕ)
+    (e : EndsRecords saving run o.stop begin.bytes input (between begin mid) (between before so_far) why s) →
     Fails run (ended run e.airs.came) begin.bytes end.bytes sent → Failed mid.failed end.failed →
-    Reports (between so_far after) (halt_line Write) → status ≡ 3 → AirsRecords o run input (between begin end) (between before after) status
-end_failed o run input begin mid end before so_far after why s sent status e f failed r st = inr (record {
+    Reports (between so_far after) (halt_line Write) → status ≡ 3 → AirsRecords saving o run input (between begin end) (between before after) status
+end_failed saving o run input begin mid end before so_far after why s sent status e f failed r st = inr (record {
   rest = e.rest;
   so_far = so_far;
   airs = e.airs;
@@ -117,9 +120,9 @@ limits_of_plans o (One c) streams is = is
 limits_of_plans o (Two c) streams is = is
 
 -- A front was read, and there is no memory for what its streams declare.
-pub no_limits : (o : AirOptions) (input output faults : Device) (status : ℕ) (plans : JobPlans) (switch : Bool) → ReadsPlans switch input plans →
-    IsUntouched output → Reports faults (halt_line NoMemory) → status ≡ 3 → AirsJob o input output faults status
-no_limits o input output faults status plans switch r u t s =
+pub no_limits : (saving : Saving) (o : AirOptions) (input output faults : Device) (status : ℕ) (plans : JobPlans) (switch : Bool) → ReadsPlans switch input plans →
+    IsUntouched output → Reports faults (halt_line NoMemory) → status ≡ 3 → AirsJob saving o input output faults status
+no_limits saving o input output faults status plans switch r u t s =
     inr (inr (inr (record { clean = r.has_read.clean; unwritten = u; reports = t; status_is = s })))
 
 -- If the answer is `Periods`, the cause is too many periods.
@@ -132,10 +135,21 @@ periods_judged None j = absurd (not_memory j)
 periods_judged (Some cause) j = sym j
 
 -- No run began, and the report gives the cause.
-pub not_begun : (o : AirOptions) (input output faults : Device) (status : ℕ) (job : JobView) (cause : NewError) → Begins o input.before input.after job →
+pub not_begun : (saving : Saving) (o : AirOptions) (input output faults : Device) (status : ℕ) (job : JobView) (cause : NewError) → Begins o input.before input.after job →
     Judges (begin_cause o job) (Some cause) → IsUntouched output → Reports faults (begin_outcome cause).report → status ≡ (begin_outcome cause).status →
-    AirsJob o input output faults status
-not_begun o input output faults status job Periods b j u r s =
+    AirsJob saving o input output faults status
+not_begun saving o input output faults status job Periods b j u r s =
     inr (inr (inl (record { job = job; begins = b; cause = periods_judged (begin_cause o job) j; unwritten = u; reports = r; status_is = s })))
-not_begun o input output faults status job Capacity b j u r s = inr (inr (inr (record { clean = b.clean; unwritten = u; reports = r; status_is = s })))
-not_begun o input output faults status job NoRoom b j u r s = inr (inr (inr (record { clean = b.clean; unwritten = u; reports = r; status_is = s })))
+not_begun saving o input output faults status job Capacity b j u r s = inr (inr (inr (record { clean = b.clean; unwritten = u; reports = r; status_is = s })))
+not_begun saving o input output faults status job NoRoom b j u r s = inr (inr (inr (record { clean = b.clean; unwritten = u; reports = r; status_is = s })))
+
+-- The run is that of the options that the words give, with the file that they name.
+same_options : (x y : AirOptions) → ◌≡◌ {A = Option AirOptions} (Some x) (Some y) → x ≡ y
+same_options x y e = cc
+
+pub aired : (creates : List ℕ → Option (Option FileFault)) (keeps : List ℕ → Option Bool) (shown name : Option (List ℕ)) (options o : AirOptions)
+    (wanted : Option AirOptions) (input output faults : Device) (status : ℕ) → shown ≡ name → Some options ≡ wanted → wanted ≡ Some o →
+    AirsJob (saving_of creates keeps shown) options input output faults status → AirsJob (saving_of creates keeps name) o input output faults status
+aired creates keeps shown name options o wanted input output faults status named is given airs =
+    subst (λ (n : Option (List ℕ)). AirsJob (saving_of creates keeps n) o input output faults status) named
+    (subst (λ (x : AirOptions). AirsJob (saving_of creates keeps shown) x input output faults status) (same_options options o (is ∙ given)) airs)

@@ -1,5 +1,5 @@
 -- A front that grows by bytes of the input
-use Rattle.std.proofs.Common.{◌≡◌, ◌≤◌, ◌<◌, ◌+◌, ℕ, suc, min, Bool, true, List, [], ◌∷◌, ◌++◌, length, take, drop, Option, Some, None, Result, Ok, Err, inl}
+use Rattle.std.proofs.Common.{◌≡◌, ◌⊎◌, ◌≤◌, ◌<◌, ◌+◌, ℕ, suc, min, Bool, List, [], ◌∷◌, ◌++◌, length, take, drop, Option, Some, None, Result, Ok, Err, inl}
 use Rattle.std.proofs.Common.{inr, refl, sym, ap, ◌∙◌, subst, arith, append-nil, append_assoc, length-append}
 use Rattle.std.specs.Prelude.{slice_index}
 use Rattle.std.specs.Io.KnownBytes.{Consumes, IsAtEnd}
@@ -9,7 +9,7 @@ use Rattle.counted_io.specs.Device.{ReadsPart}
 use Rattle.devices.specs.Devices.{Port, between}
 use Rattle.devices.specs.declared.halt.Halt.TheVariants.{Read, Write, Memory}
 use Rattle.checked_jobs.specs.declared.jobs.JobPlans.{JobPlans}
-use Rattle.tsair_cli.specs.Fronts.{Grows, HasRead, IsFrontOf, IsSpent, ReadsFront, plans_end}
+use Rattle.tsair_cli.specs.Fronts.{EndsInZero, Grows, HasRead, IsFrontOf, IsSpent, IsWhole, ReadsFront}
 use Rattle.tsair_cli.specs.declared.front.FrontError.{FrontError}
 use Rattle.tsair_cli.specs.declared.front.FrontError.TheVariants.{Fault, Stopped}
 use Rattle.tsair_cli.specs.declared.front.FrontFault.TheVariants.{Job, Unended}
@@ -67,6 +67,10 @@ longer before mid old now new x g is =
     let more : length (now ++ (x ∷ [])) ≡ length now + 1 = length-append now (x ∷ []) in
     omega (arith, grown, first, size, more)
 
+-- A byte 0 is the last.
+pub zero_last : (now new : List ℕ) (x : ℕ) → new ≡ now ++ (x ∷ []) → x ≡ 0 → EndsInZero new
+zero_last now new x is zero = (now, is ∙ ap (λ (n : ℕ). now ++ (n ∷ [])) zero)
+
 one : (part : List ℕ) → length part ≡ 1 → take 1 part ≡ slice_index part 0 ∷ []
 one [] e = absurd (omega (arith, e))
 one (x ∷ []) e = refl
@@ -95,11 +99,11 @@ pub byte_on : (before mid after : Port) (old now new part : List ℕ) (n : ℕ) 
 byte_on before mid after old now new part n size upper some g known clean is =
     grown_more before mid after old now new (slice_index part 0 ∷ []) g (byte_read mid.bytes after.bytes part n size upper some known) clean is
 
--- If the last line of each plan has arrived, the front is read as its job.
+-- If no more bytes are read, the front is read as its job.
 pub front_read : (switch : Bool) (before after : Port) (text got : List ℕ) (r : Result JobPlans FrontError) → Grows (between before after) [] text →
-    plans_end switch text ≡ true →
+    IsWhole switch text (between before after) →
     got ≡ text → IsFrontOf switch got r → ReadsFront switch (between before after) r
-front_read switch before after text got r g ends same is =
+front_read switch before after text got r g whole same is =
     by r (subst (λ (l : List ℕ). IsFrontOf switch l r) same is)
   where
     has : HasRead (between before after) text
@@ -107,8 +111,14 @@ front_read switch before after text got r g ends same is =
 
     by : (r : Result JobPlans FrontError) → IsFrontOf switch text r → ReadsFront switch (between before after) r
     by (Ok plans) h = record { front = text; has_read = has; plans_are = h }
-    by (Err (Fault (Job line))) h = record { front = text; has_read = has; is = (h, inl ends) }
+    by (Err (Fault (Job line))) h = record { front = text; has_read = has; is = (h, whole) }
     by (Err (Fault Unended)) h = record { front = text; has_read = has; is = inr h }
     by (Err (Stopped Read)) h = absurd cc
     by (Err (Stopped Write)) h = absurd cc
     by (Err (Stopped Memory)) h = g.clean
+
+-- The front ends: no byte is left, or the last byte is 0.
+pub front_ended : (before mid after : Port) (old now new : List ℕ) → Grows (between before mid) old now → IsSpent (between mid after) ⊎ EndsInZero new →
+    IsSpent (between before after) ⊎ EndsInZero new
+front_ended before mid after old now new g (inl spent) = inl (spent_on before mid after old now g spent)
+front_ended before mid after old now new g (inr zero) = inr zero

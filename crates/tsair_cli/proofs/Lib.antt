@@ -7,3 +7,4 @@ pub mod HalfRecords
 pub mod Writers
 pub mod Steps
 pub mod Unframing
+pub mod States

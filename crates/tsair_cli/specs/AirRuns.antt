@@ -22,7 +22,8 @@ use Rattle.tsair_cli.specs.declared.arguments.AirOptions.{AirOptions}
 use Rattle.tsair_cli.specs.declared.front.FrontError.{FrontError}
 use Rattle.tsair_cli.specs.declared.hearing.RecordsEnd.{RecordsEnd}
 use Rattle.tsair_cli.specs.Fronts.{ReadsFront, front_outcome}
-use Rattle.tsair_cli.specs.HeardRecords.{Airs, EndsBy, NamesReader, StopsAtFirst, change_slots, changed_among, has_refused}
+use Rattle.tsair_cli.specs.HeardRecords.{Airs, EndsBy, NamesReader, StopsAtFirst, changes_of, changed_among, has_refused, lost_among}
+use Rattle.tsair_cli.specs.States.{Saving}
 use Rattle.tsair_cli.specs.Endings.{end_outcome}
 
 -- 1. The run that a job asks for
@@ -52,16 +53,18 @@ begin_outcome NoRoom = halted Memory
 
 -- 2. Its records
 
--- the run ended: the writer took the output of all its slots, every promise holds for them, and the last report is why it ended
-pub record EndsRun (o : AirOptions) (run : Run) (input output faults : Device) (status : ℕ) : Type 0 where
+-- the run ended: the writer took the output of all its slots, every promise holds for them, and the last report is why it ended; the versions of its texts are in
+-- the file that is asked for, or the status is 3
+pub record EndsRun (saving : Saving) (o : AirOptions) (run : Run) (input output faults : Device) (status : ℕ) : Type 0 where
   pub rest : Option (List ℕ)
   pub so_far : Port
-  pub airs : Airs run input.before.bytes rest (between faults.before so_far)
+  pub airs : Airs saving run input.before.bytes rest (between faults.before so_far)
   pub end : RecordsEnd
   pub ends : EndsBy run airs.came o.stop rest input.after.bytes end.why
   pub stops : o.stop ≡ true → StopsAtFirst airs.came end.why
-  pub changed : changed_among airs.reported ≡ change_slots airs.came
+  pub changed : changed_among airs.reported ≡ changes_of airs.came
   pub refused : end.has_refused ≡ has_refused airs.came
+  pub lost : end.has_lost ≡ lost_among airs.begun_lost airs.reported
   pub reader : NamesReader input end.why
   pub written : Appends output.before.bytes output.after.bytes (air_output run (ended run airs.came))
   pub clean : IsClean output
@@ -71,10 +74,10 @@ pub record EndsRun (o : AirOptions) (run : Run) (input output faults : Device) (
 
 -- the writer failed: it took exactly the first bytes of the output that the records so far settle, or of all slots of the run, and every promise holds for
 -- these slots
-pub record FailsToAir (o : AirOptions) (run : Run) (input output faults : Device) (status : ℕ) : Type 0 where
+pub record FailsToAir (saving : Saving) (o : AirOptions) (run : Run) (input output faults : Device) (status : ℕ) : Type 0 where
   pub rest : Option (List ℕ)
   pub so_far : Port
-  pub airs : Airs run input.before.bytes rest (between faults.before so_far)
+  pub airs : Airs saving run input.before.bytes rest (between faults.before so_far)
   pub stops : o.stop ≡ true → length airs.came.refused ≤ 1
   pub air : Air
   pub air_is : (air ≡ airs.came) ⊎ (air ≡ ended run airs.came)
@@ -84,8 +87,9 @@ pub record FailsToAir (o : AirOptions) (run : Run) (input output faults : Device
   pub reports : Reports (between so_far faults.after) (halt_line Write)
   pub status_is : status ≡ 3
 
-abbrev pub AirsRecords : AirOptions → Run → Device → Device → Device → ℕ → Type 0
-AirsRecords o run input output faults status = EndsRun o run input output faults status ⊎ FailsToAir o run input output faults status
+abbrev pub AirsRecords : Saving → AirOptions → Run → Device → Device → Device → ℕ → Type 0
+AirsRecords saving o run input output faults status =
+    EndsRun saving o run input output faults status ⊎ FailsToAir saving o run input output faults status
 
 -- 3. The whole
 
@@ -115,14 +119,14 @@ pub record HasBadPeriods (o : AirOptions) (input output faults : Device) (status
   pub status_is : status ≡ 1
 
 -- it went on air, over plans that promise what the checker asks of them
-pub record GoesOnAir (o : AirOptions) (input output faults : Device) (status : ℕ) : Type 0 where
+pub record GoesOnAir (saving : Saving) (o : AirOptions) (input output faults : Device) (status : ℕ) : Type 0 where
   pub left : Port
   pub job : JobView
   pub begins : Begins o input.before left job
   pub promises : Promises (run_of o job).scheduled
-  pub records : AirsRecords o (run_of o job) (between left input.after) output faults status
+  pub records : AirsRecords saving o (run_of o job) (between left input.after) output faults status
 
-abbrev pub AirsJob : AirOptions → Device → Device → Device → ℕ → Type 0
-AirsJob o input output faults status =
-    GoesOnAir o input output faults status ⊎ (ReadsNoFront o input output faults status
+abbrev pub AirsJob : Saving → AirOptions → Device → Device → Device → ℕ → Type 0
+AirsJob saving o input output faults status =
+    GoesOnAir saving o input output faults status ⊎ (ReadsNoFront o input output faults status
     ⊎ (HasBadPeriods o input output faults status ⊎ LacksMemory input output faults status))

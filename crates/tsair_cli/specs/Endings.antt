@@ -25,6 +25,12 @@ why_outcome slots records refused (Some Slots) = slots_outcome slots refused
 why_outcome slots records refused (Some Records) = reported (line_text (codes "records") [])
 why_outcome slots records refused (Some TextsMemory) = record_outcome records Memory
 
+-- if versions of texts are lost, the status is that of a device that failed
+abbrev pub lost_status : Bool → ℕ → ℕ
+lost_status lost status = if lost then 3 else status
+
 -- by the slots that were asked for, and the number of records heard
 unfoldable pub end_outcome : Option ℕ → ℕ → RecordsEnd → Outcome
-end_outcome slots records end = why_outcome slots records end.has_refused end.why
+end_outcome slots records end =
+    let why = why_outcome slots records end.has_refused end.why in
+    record { output = why.output; report = why.report; status = lost_status end.has_lost why.status }

@@ -69,14 +69,18 @@ pub record Grows (input : Device) (old new : List ℕ) : Type 0 where
 abbrev pub IsSpent : Device → Type 0
 IsSpent input = (xs : List ℕ) → input.before.bytes ≡ Some xs → IsAtEnd input.after.bytes
 
+-- its last byte is 0, which neither a description nor a plan has
+abbrev pub EndsInZero : List ℕ → Type 0
+EndsInZero text = (front : List ℕ) × (text ≡ front ++ (0 ∷ []))
+
 -- its last line is whole, or it is longer than a front may be
 abbrev pub IsLined : List ℕ → Type 0
 IsLined text = (max_front < length text) ⊎ (ends_a_line true text ≡ true)
 
--- it grew by a line, as far as a front may; if the answer is that the input has ended, no byte is left
+-- it grew by a line, as far as a front may; if the answer is that the front has ended, no byte is left, or the last byte is 0
 abbrev pub ReadsLine : Device → List ℕ → List ℕ → Result Bool Halt → Type 0
 ReadsLine input old new (Ok true) = Grows input old new × (length old ≤ max_front → length old < length new) × IsLined new
-ReadsLine input old new (Ok false) = Grows input old new × IsSpent input
+ReadsLine input old new (Ok false) = Grows input old new × (IsSpent input ⊎ EndsInZero new)
 ReadsLine input old new (Err Read) = HasFailed input
 ReadsLine input old new (Err Write) = ⊥
 ReadsLine input old new (Err Memory) = IsClean input
@@ -94,9 +98,9 @@ IsFrontOf switch front (Err (Fault (Job line))) = IsRefusedAs switch front (stri
 IsFrontOf switch front (Err (Fault Unended)) = (j : JobView) × (Ok j ≡ job_of switch front) × (0 < length j.rest)
 IsFrontOf switch front (Err (Stopped halt)) = halt ≡ Memory
 
--- why no more bytes were read: the last line of each plan has come, or no byte is left
+-- why no more bytes were read: the last line of each plan has come, or no byte is left, or the last byte is 0
 abbrev pub IsWhole : Bool → List ℕ → Device → Type 0
-IsWhole switch front input = (plans_end switch front ≡ true) ⊎ IsSpent input
+IsWhole switch front input = (plans_end switch front ≡ true) ⊎ (IsSpent input ⊎ EndsInZero front)
 
 -- these bytes of the input were read
 pub record HasRead (input : Device) (front : List ℕ) : Type 0 where
@@ -113,7 +117,7 @@ pub record ReadsFault (switch : Bool) (input : Device) (Is : List ℕ → Type 0
   pub has_read : HasRead input front
   pub is : Is front
 
--- the plans of a front; or the line of its fault, if the last line of each plan has arrived or the input has ended; or it is too long
+-- the plans of a front; or the line of its fault, if the last line of each plan, the end of the input or a byte 0 has come; or it is too long
 abbrev pub ReadsFront : Bool → Device → Result JobPlans FrontError → Type 0
 ReadsFront switch input (Ok plans) = ReadsPlans switch input plans
 ReadsFront switch input (Err (Fault (Job line))) =

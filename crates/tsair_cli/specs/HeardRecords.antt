@@ -1,5 +1,5 @@
 -- The records of a run, taken one after another, and a line for each refused record and each change of the texts.
-use Rattle.std.specs.Prelude.{◌≡◌, ◌⊎◌, ◌≤◌, ◌<◌, ℕ, Bool, true, nat_lt, List, [], ◌∷◌, ◌++◌, fold, length, map, Option, Some, None, Result, Ok, Err, codes}
+use Rattle.std.specs.Prelude.{◌≡◌, ◌⊎◌, ◌≤◌, ◌<◌, ◌||◌, ℕ, Bool, true, nat_lt, List, [], ◌∷◌, ◌++◌, fold, length, map, Option, Some, None, Result, Ok, Err, codes}
 use Rattle.devices.specs.Devices.{Device, Port, HasFailed, IsClean, between}
 use Rattle.devices.specs.Lines.{Reports, line_text}
 use Rattle.mux_core.specs.declared.output.OutputFault.{OutputFault}
@@ -7,16 +7,16 @@ use Rattle.unit_records.specs.declared.reading.UnitFileError.TheVariants.{Cut, S
 use Rattle.on_air.specs.declared.refusals.AirRefusal.{AirRefusal}
 use Rattle.on_air.specs.declared.refusals.AirRefusal.TheVariants.{Feed, Ahead, Followed, Texts}
 use Rattle.unit_queue.specs.Codes.{feed_code}
-use Rattle.on_air.specs.declared.answers.Heard.{Heard}
-use Rattle.on_air.specs.declared.answers.Heard.TheVariants.{Taken, Refused, Changed, Ended}
 use Rattle.on_air.specs.declared.answers.Ending.{Ending}
 use Rattle.on_air.specs.declared.answers.Ending.TheVariants.{Input, Unread, Slots, Records, TextsMemory}
-use Rattle.on_air.specs.Airing.{Run, Air}
+use Rattle.on_air.specs.Airing.{Run, Air, silence, texts_now}
 use Rattle.on_air.specs.AirStates.{AirState, IsOnAir}
 use Rattle.on_air.specs.Hearing.{EndsAt, Fails, HeardOn}
 use Rattle.explained_jobs.specs.UnitWords.{air_line, limits_of}
 use Rattle.explained_jobs.specs.declared.unit_limits.UnitLimits.{UnitLimits}
+use Rattle.description_parts.specs.Described.{Described}
 use Rattle.tsair_cli.specs.declared.hearing.RecordsEnd.{RecordsEnd}
+use Rattle.tsair_cli.specs.States.{Saving, KeepsState}
 
 -- 1. The lines of records that are refused
 
@@ -43,53 +43,69 @@ ReportsRefusal streams refused faults = Reports faults (air_line streams refused
 abbrev pub change_line : ℕ → ℕ → List ℕ
 change_line index slot = line_text (codes "switch") (index ∷ slot ∷ [])
 
--- a refused record or a change of the texts was reported
-abbrev pub ReportsRecord : List UnitLimits → Heard → Device → Type 0
-ReportsRecord streams (Refused index cause) faults = ReportsRefusal streams (index, cause) faults
-ReportsRecord streams (Changed index slot) faults = Reports faults (change_line index slot)
-ReportsRecord streams Taken faults = ⊥
-ReportsRecord streams (Ended why) faults = ⊥
+-- a change of the texts was reported, and the versions of the texts are written to the file that is asked for, or lost
+pub record ReportsChange (saving : Saving) (index slot : ℕ) (texts : Described) (faults : Device) (lost : Bool) : Type 0 where
+  pub mid : Port
+  pub line : Reports (between faults.before mid) (change_line index slot)
+  pub state : KeepsState saving texts (between mid faults.after) lost
+
+-- what is reported of a record: a refusal, by its number and cause; or a change of the texts, by its number, its slot, the texts, and whether their versions are
+-- lost
+pub data Reported : Type 0 where
+  OfRefusal : ℕ → AirRefusal → Reported
+  OfChange : ℕ → ℕ → Described → Bool → Reported
+
+abbrev pub ReportsRecord : Saving → List UnitLimits → Reported → Device → Type 0
+ReportsRecord saving streams (OfRefusal index cause) faults = ReportsRefusal streams (index, cause) faults
+ReportsRecord saving streams (OfChange index slot texts lost) faults = ReportsChange saving index slot texts faults lost
 
 -- records were reported one after another
-unfoldable pub ReportsRecords : List UnitLimits → Port → Port → List Heard → Type 0
-ReportsRecords streams before after [] = after ≡ before
-ReportsRecords streams before after (heard ∷ more) =
-    (mid : Port) × ReportsRecord streams heard (between before mid) × ReportsRecords streams mid after more
+unfoldable pub ReportsRecords : Saving → List UnitLimits → Port → Port → List Reported → Type 0
+ReportsRecords saving streams before after [] = after ≡ before
+ReportsRecords saving streams before after (reported ∷ more) =
+    (mid : Port) × ReportsRecord saving streams reported (between before mid) × ReportsRecords saving streams mid after more
 
--- the refused records among them, in order; and the slots of the changes, the last first
-unfoldable pub with_refused : List (ℕ × AirRefusal) → Heard → List (ℕ × AirRefusal)
-with_refused refused (Refused index cause) = refused ++ ((index, cause) ∷ [])
-with_refused refused (Changed index slot) = refused
-with_refused refused Taken = refused
-with_refused refused (Ended why) = refused
+-- the refused records among them, in order; the slots of the changes with their texts, the last first; and whether versions are lost, there or before
+unfoldable pub with_refused : List (ℕ × AirRefusal) → Reported → List (ℕ × AirRefusal)
+with_refused refused (OfRefusal index cause) = refused ++ ((index, cause) ∷ [])
+with_refused refused (OfChange index slot texts lost) = refused
 
-abbrev pub refused_among : List Heard → List (ℕ × AirRefusal)
-refused_among heard = fold (λ refused h. with_refused refused h) [] heard
+abbrev pub refused_among : List Reported → List (ℕ × AirRefusal)
+refused_among reported = fold (λ refused r. with_refused refused r) [] reported
 
-unfoldable pub with_changed : List ℕ → Heard → List ℕ
-with_changed slots (Changed index slot) = slot ∷ slots
-with_changed slots (Refused index cause) = slots
-with_changed slots Taken = slots
-with_changed slots (Ended why) = slots
+unfoldable pub with_changed : List (ℕ × Described) → Reported → List (ℕ × Described)
+with_changed changes (OfRefusal index cause) = changes
+with_changed changes (OfChange index slot texts lost) = (slot, texts) ∷ changes
 
-abbrev pub changed_among : List Heard → List ℕ
-changed_among heard = fold (λ slots h. with_changed slots h) [] heard
+abbrev pub changed_among : List Reported → List (ℕ × Described)
+changed_among reported = fold (λ changes r. with_changed changes r) [] reported
 
--- the slots from which on texts are in force, the last first
-abbrev pub change_slots : Air → List ℕ
-change_slots a = map (λ c. c.from) a.changes
+unfoldable pub with_lost : Bool → Reported → Bool
+with_lost before (OfRefusal index cause) = before
+with_lost before (OfChange index slot texts lost) = lost || before
+
+abbrev pub lost_among : Bool → List Reported → Bool
+lost_among before reported = fold (λ lost r. with_lost lost r) before reported
+
+-- the slots from which on texts are in force, with the texts, the last first
+abbrev pub changes_of : Air → List (ℕ × Described)
+changes_of a = map (λ c. (c.from, c.texts)) a.changes
 
 abbrev pub has_refused : Air → Bool
 has_refused a = nat_lt 0 (length a.refused)
 
 -- 2. All records
 
--- the run has come as far as `came`, over bytes that the reader gave at its beginning, and has reported each refused record
-pub record Airs (run : Run) (origin left : Option (List ℕ)) (faults : Device) : Type 0 where
+-- the run has come as far as `came`, over bytes that the reader gave at its beginning; it has written the versions of its first texts to the file that is asked
+-- for, or lost them, and then reported each refused record
+pub record Airs (saving : Saving) (run : Run) (origin left : Option (List ℕ)) (faults : Device) : Type 0 where
   pub came : Air
   pub heard_is : HeardOn run origin left came
-  pub reported : List Heard
-  pub so_far : ReportsRecords (limits_in run) faults.before faults.after reported
+  pub first : Port
+  pub begun_lost : Bool
+  pub begun : KeepsState saving (texts_now run silence) (between faults.before first) begun_lost
+  pub reported : List Reported
+  pub so_far : ReportsRecords saving (limits_in run) first faults.after reported
   pub refused : refused_among reported ≡ came.refused
 
 -- why the run takes no further record: a record was refused, if that ends a run; or the end of the input, of the slots or of the records
@@ -116,25 +132,27 @@ NamesReader input (Some Records) = IsClean input
 NamesReader input (Some TextsMemory) = IsClean input
 
 -- the records ended, and each change of the texts was reported
-pub record EndsRecords (run : Run) (stop : Bool) (start : Option (List ℕ)) (input output faults : Device) (end : RecordsEnd) (s : AirState) : Type 0 where
+pub record EndsRecords (saving : Saving) (run : Run) (stop : Bool) (start : Option (List ℕ)) (input output faults : Device) (end : RecordsEnd) (s : AirState)
+    : Type 0 where
   pub rest : Option (List ℕ)
-  pub airs : Airs run input.before.bytes rest faults
+  pub airs : Airs saving run input.before.bytes rest faults
   pub ends : EndsBy run airs.came stop rest input.after.bytes end.why
   pub stops : stop ≡ true → StopsAtFirst airs.came end.why
-  pub changed : changed_among airs.reported ≡ change_slots airs.came
+  pub changed : changed_among airs.reported ≡ changes_of airs.came
   pub refused : end.has_refused ≡ has_refused airs.came
+  pub lost : end.has_lost ≡ lost_among airs.begun_lost airs.reported
   pub state : IsOnAir run airs.came start output.after.bytes s
   pub reader : NamesReader input end.why
   pub clean : IsClean output
 
 -- the writer failed within the slots of the last record
-pub record FailsRecords (run : Run) (stop : Bool) (start : Option (List ℕ)) (input output faults : Device) (sent : ℕ) : Type 0 where
-  pub airs : Airs run input.before.bytes input.after.bytes faults
+pub record FailsRecords (saving : Saving) (run : Run) (stop : Bool) (start : Option (List ℕ)) (input output faults : Device) (sent : ℕ) : Type 0 where
+  pub airs : Airs saving run input.before.bytes input.after.bytes faults
   pub stops : stop ≡ true → length airs.came.refused ≤ 1
   pub fails : Fails run airs.came start output.after.bytes sent
   pub clean : IsClean input
   pub failed : HasFailed output
 
-abbrev pub HearsAll : Run → Bool → Option (List ℕ) → Device → Device → Device → Result RecordsEnd OutputFault → AirState → Type 0
-HearsAll run stop start input output faults (Ok end) s = EndsRecords run stop start input output faults end s
-HearsAll run stop start input output faults (Err fault) s = FailsRecords run stop start input output faults fault.sent
+abbrev pub HearsAll : Saving → Run → Bool → Option (List ℕ) → Device → Device → Device → Result RecordsEnd OutputFault → AirState → Type 0
+HearsAll saving run stop start input output faults (Ok end) s = EndsRecords saving run stop start input output faults end s
+HearsAll saving run stop start input output faults (Err fault) s = FailsRecords saving run stop start input output faults fault.sent

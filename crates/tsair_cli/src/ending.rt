@@ -3,7 +3,7 @@
 ghost use Rattle.std.specs.Prelude.{◌≡◌, if◌then◌else◌};
 ghost use Rattle.devices.specs.Devices.{writes};
 ghost use Rattle.devices.specs.Lines.{Reports};
-ghost use Rattle.tsair_cli.specs.Endings.{end_outcome};
+ghost use Rattle.tsair_cli.specs.Endings.{end_outcome, why_outcome};
 
 use crate::hearing::RecordsEnd;
 use checked_jobs::{report_record, report_refusal};
@@ -18,11 +18,12 @@ fn quiet_status(has_refused: bool) -> u8
     if has_refused { 1 } else { 0 }
 }
 
-/// Reports why a run of `records` records ended, unless its input or its slots ended, and returns the status.
-#[tactic(auto, unfolding(crate::specs::Endings::end_outcome, crate::specs::Endings::why_outcome, crate::specs::Endings::slots_outcome))]
-pub fn report_end<E: Sink>(faults: &mut E, slots: Option<u64>, records: u64, end: RecordsEnd) -> u8
-    ensures report { Reports (writes E.Sink faults.old faults.new) (end_outcome slots records end).report }
-    ensures status { result ≡ (end_outcome slots records end).status }
+// Reports why a run of `records` records ended, unless its input or its slots ended, and returns the status.
+#[tactic(auto, unfolding(crate::specs::Endings::why_outcome, crate::specs::Endings::slots_outcome))]
+fn report_why<E: Sink>(faults: &mut E, slots: Option<u64>, records: u64, end: RecordsEnd) -> u8
+    ensures report { Reports (writes E.Sink faults.old faults.new)
+        (why_outcome slots records end.has_refused end.why).report }
+    ensures status { result ≡ (why_outcome slots records end.has_refused end.why).status }
 {
     match end.why {
         None | Some(Ending::Input) => quiet_status(end.has_refused),
@@ -34,4 +35,15 @@ pub fn report_end<E: Sink>(faults: &mut E, slots: Option<u64>, records: u64, end
         Some(Ending::Records) => report_refusal(faults, "records", &[]),
         Some(Ending::TextsMemory) => report_record(faults, records, UnitFileError::Memory),
     }
+}
+
+/// Reports why a run of `records` records ended, unless its input or its slots ended, and returns the status: 3 if
+/// versions of texts are lost.
+#[tactic(auto, unfolding(crate::specs::Endings::end_outcome))]
+pub fn report_end<E: Sink>(faults: &mut E, slots: Option<u64>, records: u64, end: RecordsEnd) -> u8
+    ensures report { Reports (writes E.Sink faults.old faults.new) (end_outcome slots records end).report }
+    ensures status { result ≡ (end_outcome slots records end).status }
+{
+    let status = report_why(faults, slots, records, end);
+    if end.has_lost { 3 } else { status }
 }

@@ -34,7 +34,8 @@ pub enum FrontError {
     Stopped(Halt),
 }
 
-/// Reads the next line of the input to the end of a text, and returns whether the input may go on.
+/// Reads the next line of the input to the end of a text, and returns whether the front may go on: it ends with the input,
+/// and with a byte 0, which neither a description nor a plan has.
 fn read_line<R: Source>(input: &mut R, text: &mut Vec<u8>) -> Result<bool, Halt>
     ensures { spec.ReadsLine (reads R.Source input.old input.new) text.old.items text.new.items result }
 {
@@ -51,6 +52,9 @@ fn read_line<R: Source>(input: &mut R, text: &mut Vec<u8>) -> Result<bool, Halt>
         };
         if next == b'\n' {
             return Ok(true);
+        }
+        if next == 0 {
+            return Ok(false);
         }
     }
     Ok(true)
@@ -124,7 +128,8 @@ fn plans_of(alloc: Global, switch: bool, front: &[u8]) -> Result<JobPlans, Front
     }
 }
 
-/// Reads the front of the input as far as the line that ends its last plan, and no byte after it.
+/// Reads the front of the input as far as the line that ends its last plan, and no byte after it. A byte 0 ends it as the
+/// end of the input does: if there is no plan, the first record has one.
 pub fn read_front<R: Source>(
     alloc: Global,
     switch: bool,

@@ -1,25 +1,47 @@
 //! The records of a run, taken in turn.
 
-ghost use Rattle.std.specs.Prelude.{◌≡◌, List, ℕ, Option, IfOk, string_bytes};
+ghost use Rattle.std.specs.Prelude.{◌≡◌, List, ℕ, Option, IfOk, option_map, string_bytes};
 ghost use Rattle.devices.specs.Devices.{reads, writes};
 ghost use Rattle.devices.specs.Lines.{Reports};
 ghost use Rattle.on_air.specs.Airing.{Run, silence};
 ghost use Rattle.on_air.specs.AirStates.{IsOnAir};
 ghost use Rattle.explained_jobs.specs.UnitWords.{air_line};
-ghost use Rattle.tsair_cli.specs.HeardRecords.{HearsAll, ReportsRefusal, change_line, limits_in, numbers_line};
+ghost use Rattle.tsair_cli.specs.HeardRecords.{
+  HearsAll,
+  ReportsChange,
+  ReportsRefusal,
+  change_line,
+  limits_in,
+  numbers_line,
+};
+ghost use Rattle.tsair_cli.specs.States.{saving_of};
 
+use crate::arguments::AirOptions;
+use crate::state::save_state;
 use counted_io::Sink;
-use devices::{report_line, report_text};
+use description::Description;
+use devices::{OutputFiles, report_line, report_text};
 use explained_jobs::{UnitLimits, write_air};
 use held_input::HeldInput;
 use on_air::{AirRefusal, Ending, Heard, OnAir, OutputFault};
 use std::alloc::{AllocError, Global};
+
+/// What a run is asked for, and what its streams declare.
+#[derive(Clone, Copy)]
+pub struct Asked<'a> {
+    pub options: AirOptions,
+    pub streams: &'a [UnitLimits],
+    /// The name of the file that has the versions of the texts in force.
+    pub state: Option<&'a str>,
+}
 
 /// How the records of a run ended.
 #[derive(Clone, Copy)]
 pub struct RecordsEnd {
     /// Whether a record was refused.
     pub has_refused: bool,
+    /// Whether versions of texts were not written to their file.
+    pub has_lost: bool,
     /// Why no further record is taken; `None` if a refused record ended the run.
     pub why: Option<Ending>,
 }
@@ -75,48 +97,81 @@ fn report_refused<E: Sink>(
 }
 
 /// Reports from which slot on the texts of a record are in force.
-fn report_change<E: Sink>(faults: &mut E, index: u64, slot: u64)
+fn report_slot<E: Sink>(faults: &mut E, index: u64, slot: u64)
     ensures { Reports (writes E.Sink faults.old faults.new) (change_line index slot) }
 {
     report_line(faults, "switch", &[u128::from(index), u128::from(slot)]);
 }
 
-/// Takes all records of a run, and reports each refused record before the next is read, and before the slots up to it
-/// are written if the run follows it, by what its streams declare; and each change of the texts. If `stop`, the first
-/// refused record ends the run, after those slots.
-pub fn hear_all<R: HeldInput, W: Sink, E: Sink>(
+/// Reports from which slot on the texts of a record are in force, and writes their versions to the file of this name, if a
+/// name is given. Returns whether the versions are lost.
+fn report_change<F: OutputFiles, E: Sink>(
     alloc: Global,
-    stop: bool,
-    streams: &[UnitLimits],
+    files: &F,
+    state: Option<&str>,
+    texts: &Description,
+    faults: &mut E,
+    index: u64,
+    slot: u64,
+) -> bool
+    ensures { ReportsChange (saving_of (F.creates files.now) (F.keeps files.now) (option_map (λ s. s.now) state.entry))
+        index slot texts.now (writes E.Sink faults.old faults.new) result }
+{
+    report_slot(faults, index, slot);
+    save_state(alloc, files, state, texts, faults)
+}
+
+/// Takes all records of a run, and reports each refused record before the next is read, and before the slots up to it
+/// are written if the run follows it, by what its streams declare; and each change of the texts. Before the first record
+/// and after each change it writes the versions of the texts in force to the file that is asked for. If `--stop` is, the
+/// first refused record ends the run, after those slots.
+pub fn hear_all<F: OutputFiles, R: HeldInput, W: Sink, E: Sink>(
+    alloc: Global,
+    asked: Asked<'_>,
+    files: &F,
     on_air: &mut OnAir,
     input: &mut R,
     output: &mut W,
     faults: &mut E,
 ) -> Result<RecordsEnd, OutputFault>
-    ensures { (run : Run) (start : Option (List ℕ)) → streams.now ≡ limits_in run →
+    ensures { (run : Run) (start : Option (List ℕ)) → asked.entry.streams.now ≡ limits_in run →
         IsOnAir run silence start (W.contents output.old) on_air.old →
-        HearsAll run stop start (reads R.Source input.old input.new) (writes W.Sink output.old output.new)
+        HearsAll (saving_of (F.creates files.now) (F.keeps files.now) (option_map (λ s. s.now) asked.entry.state)) run
+        asked.entry.options.stop start (reads R.Source input.old input.new) (writes W.Sink output.old output.new)
         (writes E.Sink faults.old faults.new) result on_air.new }
 {
     let mut has_refused = false;
+    let mut has_lost = save_state(alloc, files, asked.state, on_air.texts(), faults);
     'records: loop {
         match on_air.hear_on(alloc, input, output) {
             Ok(Heard::Refused { index, cause }) => {
-                report_refused(alloc, streams, faults, index, cause);
+                report_refused(alloc, asked.streams, faults, index, cause);
                 has_refused = true;
                 match on_air.follow(cause, output) {
                     Ok(()) => {}
                     Err(fault) => return Err(fault),
                 }
-                if stop {
+                if asked.options.stop {
                     let why = None;
-                    return Ok(RecordsEnd { has_refused, why });
+                    return Ok(RecordsEnd {
+                        has_refused,
+                        has_lost,
+                        why,
+                    });
                 }
             }
-            Ok(Heard::Changed { index, slot }) => report_change(faults, index, slot),
+            Ok(Heard::Changed { index, slot }) => {
+                let texts = on_air.texts();
+                let is_lost = report_change(alloc, files, asked.state, texts, faults, index, slot);
+                has_lost = is_lost || has_lost;
+            }
             Ok(Heard::Ended(why)) => {
                 let why = Some(why);
-                return Ok(RecordsEnd { has_refused, why });
+                return Ok(RecordsEnd {
+                    has_refused,
+                    has_lost,
+                    why,
+                });
             }
             Ok(Heard::Taken) => {}
             Err(fault) => return Err(fault),

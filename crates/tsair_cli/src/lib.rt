@@ -24,6 +24,7 @@ mod front;
 mod hearing;
 mod options;
 mod program;
+mod state;
 mod stuffing;
 
 pub use arguments::writes_bytes;

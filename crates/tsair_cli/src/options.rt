@@ -6,7 +6,7 @@ ghost use Rattle.word_faults.specs.KnownWords.{known_of};
 use word_faults::{KnownWords, OptionRow, Scale, ValueKind};
 
 /// The options. The values that are read, the faults of words, and the usage follow from these rows.
-pub(crate) const OPTIONS: [OptionRow; 11] = [
+pub(crate) const OPTIONS: [OptionRow; 12] = [
     OptionRow {
         name: "wait",
         value: ValueKind::Scaled {
@@ -86,6 +86,14 @@ pub(crate) const OPTIONS: [OptionRow; 11] = [
         help: "the periods of the first plan before the second",
     },
     OptionRow {
+        name: "state",
+        value: ValueKind::File,
+        form: "FILE",
+        unit: "",
+        apart: "",
+        help: "the file that has the versions of the texts in force, as a line of a description",
+    },
+    OptionRow {
         name: "unframe",
         value: ValueKind::Flag,
         form: "",
@@ -129,6 +137,7 @@ const USAGE: &str = "usage: tsair [OPTIONS] < JOB > PACKETS
   --slots 0..1099511627776       the number of packets; else those up to the greatest DTS
   --room 1..1048576              the units of each stream that may wait; else as many as its lead needs
   --switch Q                     the periods of the first plan before the second
+  --state FILE                   the file that has the versions of the texts in force, as a line of a description
   --unframe                      read frames of records instead of a job, and write their records
   --progress                     report each second how many bytes are read, on a terminal
   --version                      or -V, alone: the version, and the logic of its proof

@@ -1,6 +1,20 @@
 //! The program over any reader and two writers.
 
-ghost use Rattle.std.specs.Prelude.{◌≡◌, List, ℕ, None, Option, Some, IfOk, [], codes, false, map, true};
+ghost use Rattle.std.specs.Prelude.{
+  ◌≡◌,
+  List,
+  ℕ,
+  None,
+  Option,
+  Some,
+  IfOk,
+  [],
+  codes,
+  false,
+  map,
+  option_map,
+  true,
+};
 ghost use Rattle.tsair_cli.specs.FramePassing.{PassesFrames};
 ghost use Rattle.devices.specs.Devices.{reads, writes};
 ghost use Rattle.devices.specs.Lines.{Reports};
@@ -13,23 +27,25 @@ ghost use Rattle.tsair_cli.specs.AirRuns as spec;
 ghost use Rattle.tsair_cli.specs.Arguments.{asked};
 ghost use Rattle.tsair_cli.specs.HeardRecords.{limits_in};
 ghost use Rattle.tsair_cli.specs.Options.{known_words, usage_text};
+ghost use Rattle.tsair_cli.specs.States.{saving_of};
+ghost use Rattle.word_faults.specs.SortedWords.{value_given};
 ghost use Rattle.word_faults.specs.UsageReport.{AnswersWords};
 ghost use Rattle.tsair_cli.specs.declared.arguments.AirOptions.{AirOptions};
 
 use crate::arguments::{AirOptions, read_arguments};
 use crate::ending::report_end;
 use crate::front::{read_front, report_front};
-use crate::hearing::hear_all;
+use crate::hearing::{Asked, hear_all};
 use crate::options::{known_words, usage};
 use crate::pass_frames;
 use checked_jobs::{JobPlans, report_refusal};
 use counted_io::Sink;
-use devices::{Halt, report_halt, report_text};
+use devices::{Halt, OutputFiles, report_halt, report_text};
 use explained_jobs::{UnitLimits, description_of, stream_limits};
 use held_input::HeldInput;
 use on_air::{NewError, OnAir};
 use std::alloc::{AllocError, Global};
-use word_faults::answer_words;
+use word_faults::{answer_words, value_given};
 
 /// Writes the usage, and returns the status.
 pub fn report_usage<E: Sink>(faults: &mut E) -> u8
@@ -77,39 +93,43 @@ fn declared_limits(alloc: Global, plans: &JobPlans) -> Result<Vec<UnitLimits>, A
 }
 
 /// Takes the records of a run, writes all its slots, and returns the status.
-fn air<R: HeldInput, W: Sink, E: Sink>(
+fn air<F: OutputFiles, R: HeldInput, W: Sink, E: Sink>(
     alloc: Global,
-    options: AirOptions,
-    streams: &[UnitLimits],
+    asked: Asked<'_>,
+    files: &F,
     on_air: &mut OnAir,
     input: &mut R,
     output: &mut W,
     faults: &mut E,
 ) -> u8
-    ensures { (run : Run) → streams.now ≡ limits_in run →
+    ensures { (run : Run) → asked.entry.streams.now ≡ limits_in run →
         IsOnAir run silence (W.contents output.old) (W.contents output.old) on_air.old →
-        spec.AirsRecords options run (reads R.Source input.old input.new) (writes W.Sink output.old output.new)
+        spec.AirsRecords (saving_of (F.creates files.now) (F.keeps files.now) (option_map (λ s. s.now) asked.entry.state))
+        asked.entry.options run (reads R.Source input.old input.new) (writes W.Sink output.old output.new)
         (writes E.Sink faults.old faults.new) result }
 {
-    let end = match hear_all(alloc, options.stop, streams, on_air, input, output, faults) {
+    let end = match hear_all(alloc, asked, files, on_air, input, output, faults) {
         Ok(end) => end,
         Err(_) => return report_halt(faults, Halt::Write),
     };
     match on_air.end(output) {
-        Ok(()) => report_end(faults, options.terms.slots, on_air.records(), end),
+        Ok(()) => report_end(faults, asked.options.terms.slots, on_air.records(), end),
         Err(_) => report_halt(faults, Halt::Write),
     }
 }
 
 /// Reads the front of the input, airs the job, and returns the status.
-fn air_job<R: HeldInput, W: Sink, E: Sink>(
+fn air_job<F: OutputFiles, R: HeldInput, W: Sink, E: Sink>(
     alloc: Global,
     options: AirOptions,
+    state: Option<&str>,
+    files: &F,
     input: &mut R,
     output: &mut W,
     faults: &mut E,
 ) -> u8
-    ensures { spec.AirsJob options (reads R.Source input.old input.new) (writes W.Sink output.old output.new)
+    ensures { spec.AirsJob (saving_of (F.creates files.now) (F.keeps files.now) (option_map (λ s. s.now) state.entry)) options
+        (reads R.Source input.old input.new) (writes W.Sink output.old output.new)
         (writes E.Sink faults.old faults.new) result }
 {
     let plans = match read_front(alloc, options.periods.is_some(), input) {
@@ -125,25 +145,33 @@ fn air_job<R: HeldInput, W: Sink, E: Sink>(
         Ok(on_air) => on_air,
         Err(cause) => return report_begin(faults, cause),
     };
-    let status = air(alloc, options, &limits, &mut on_air, input, output, faults);
+    let asked = Asked {
+        options,
+        streams: &limits,
+        state,
+    };
+    let status = air(alloc, asked, files, &mut on_air, input, output, faults);
     // By a call: at the end of a function the drop of each part would be a step of its proof.
     drop(on_air);
     status
 }
 
 /// Runs the whole program: it reads the front of the input, writes the slots that each record settles before a read of
-/// the next may wait, reports faults on the second writer, and returns the exit status: 0 good, 1 refused, 2 a usage
-/// error, 3 a device failed or out of memory.
-pub fn run<R: HeldInput, W: Sink, E: Sink>(
+/// the next may wait, the versions of its texts to the file that `--state` names, and faults on the second writer. Returns
+/// the exit status: 0 good, 1 refused, 2 a usage error, 3 a device failed or out of memory.
+pub fn run<F: OutputFiles, R: HeldInput, W: Sink, E: Sink>(
     alloc: Global,
     words: &[&str],
+    files: &F,
     input: &mut R,
     output: &mut W,
     faults: &mut E,
 ) -> u8
     // A job, with its records as they arrive, to packets.
     ensures air { (o : AirOptions) → asked words.now ≡ Some o → o.unframe ≡ false →
-        spec.AirsJob o (reads R.Source input.old input.new) (writes W.Sink output.old output.new)
+        spec.AirsJob (saving_of (F.creates files.now) (F.keeps files.now)
+        (value_given (codes "--state") (map (λ s. s.now) words.now))) o
+        (reads R.Source input.old input.new) (writes W.Sink output.old output.new)
         (writes E.Sink faults.old faults.new) result }
     // Frames of records, as they arrive, to their whole records.
     ensures unframes { (o : AirOptions) → asked words.now ≡ Some o → o.unframe ≡ true →
@@ -159,7 +187,8 @@ pub fn run<R: HeldInput, W: Sink, E: Sink>(
         Ok(Some(options)) => if options.unframe {
             pass_frames(alloc, input, output, faults)
         } else {
-            air_job(alloc, options, input, output, faults)
+            let state = value_given("--state", words);
+            air_job(alloc, options, state, files, input, output, faults)
         },
         Ok(None) => {
             let known = known_words();

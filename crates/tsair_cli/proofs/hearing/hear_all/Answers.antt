@@ -1,8 +1,11 @@
-use Rattle.std.proofs.Common.{ℕ, Ok, Err, refl, subst, sym, ◌∙◌}
+use Rattle.std.proofs.Common.{ℕ, Bool, Ok, Err, refl, subst, sym, ap, ◌∙◌, ◌||◌}
+use Rattle.std.specs.Prelude.{option_map}
 use Rattle.counted_io.specs.Device.{Failed}
 use Rattle.devices.specs.Devices.{Device, Port, between}
+use Rattle.on_air.specs.Airing.{silence}
 use Rattle.on_air.specs.declared.answers.Heard.TheVariants.{Ended}
 use Rattle.on_air.proofs.HeardRecords.{names_same}
+use Rattle.tsair_cli.specs.States.{saving_of}
 use Rattle.tsair_cli.proofs.HeardRecords.{by_limits, ends, fails, first, follow_fails, next, next_change, stops}
 use Rattle.tsair_cli.proofs.hearing.hear_all.Goals as goal
 
@@ -12,34 +15,38 @@ records-init g c = record {
   writes = refl;
   stops = λ on. refl;
   known = λ run start limits h.
-      first run (g.R.Read.remaining c.args.input.now) start (g.W.Write.contents c.args.output.now)
-      (record { bytes = g.E.Write.contents c.args.faults.now; failed = g.E.Sink.fault_count c.args.faults.now }) c.args.on_air.now h;
+      first (saving_of (g.F.OutputFiles.creates c.args.files.now) (g.F.OutputFiles.keeps c.args.files.now) (option_map (λ s. s.now) c.args.asked.state)) run
+      (g.R.Read.remaining c.args.input.now) start (g.W.Write.contents c.args.output.now)
+      (record { bytes = g.E.Write.contents c.args.faults.now; failed = g.E.Sink.fault_count c.args.faults.now })
+      (record { bytes = g.E.Write.contents c.save_state-has_lost.new.faults; failed = g.E.Sink.fault_count c.save_state-has_lost.new.faults })
+      c.texts.result.now c.save_state-has_lost.result c.args.on_air.now h (c.texts.ensures run silence start (g.W.Write.contents c.args.output.now) h)
+      c.save_state-has_lost.ensures;
 }
 
-pub records-preserved-else-stop : goal.records-preserved-else-stop
-records-preserved-else-stop g c =
+pub records-preserved-else-asked : goal.records-preserved-else-asked
+records-preserved-else-asked g c =
     let clean = rw c.in-Ok-Refused.field-0-is at c.in-Ok-Refused.ensures.fault in
     record {
       reads = clean.0 ∙ c.records.invariant.reads;
       writes = c.in-Ok.ensures.clean ∙ clean.1 ∙ c.records.invariant.writes;
-      stops = λ on. sym on ∙ c.if-stop.false;
+      stops = λ on. sym on ∙ c.if-asked.false;
       known = λ run start limits h.
           let m = c.records.invariant.known run start limits h in
-          next run (g.R.Read.remaining c.args.input.now) (g.R.Read.remaining c.records.input) (g.R.Read.remaining c.hear_on.new.input) start
+          next (saving_of (g.F.OutputFiles.creates c.args.files.now) (g.F.OutputFiles.keeps c.args.files.now) (option_map (λ s. s.now) c.args.asked.state)) run (g.R.Read.remaining c.args.input.now) (g.R.Read.remaining c.records.input) (g.R.Read.remaining c.hear_on.new.input) start
           (g.W.Write.contents c.records.output) (g.W.Write.contents c.hear_on.new.to) (g.W.Write.contents c.follow.new.to)
           (record { bytes = g.E.Write.contents c.args.faults.now; failed = g.E.Sink.fault_count c.args.faults.now })
           (record { bytes = g.E.Write.contents c.records.faults; failed = g.E.Sink.fault_count c.records.faults })
           (record { bytes = g.E.Write.contents c.report_refused.new.faults; failed = g.E.Sink.fault_count c.report_refused.new.faults })
-          c.records.has_refused c.records.on_air c.hear_on.new.self c.follow.new.self c.in-Ok-Refused.index c.in-Ok-Refused.cause m
+          c.records.has_refused c.records.has_lost c.records.on_air c.hear_on.new.self c.follow.new.self c.in-Ok-Refused.index c.in-Ok-Refused.cause m
           (rw c.in-Ok-Refused.field-0-is at
           (c.in-Ok-Refused.ensures.heard run m.airs.heard_is.count m.airs.came (g.R.Read.remaining c.args.input.now) start m.state
           m.airs.heard_is.heard_is))
           (λ a on. c.in-Ok.ensures.ok run a start on)
-          (by_limits run c.args.streams.now (c.in-Ok-Refused.index, c.in-Ok-Refused.cause) _ limits c.report_refused.ensures);
+          (by_limits run c.args.asked.streams.now (c.in-Ok-Refused.index, c.in-Ok-Refused.cause) _ limits c.report_refused.ensures);
     }
 
-pub records-preserved-in-Ok-Changed : goal.records-preserved-in-Ok-Changed
-records-preserved-in-Ok-Changed g c =
+pub records-preserved-then-is_lost : goal.records-preserved-then-is_lost
+records-preserved-then-is_lost g c =
     let clean = rw c.in-Ok-Changed.field-0-is at c.in-Ok-Changed.ensures.fault in
     record {
       reads = clean.0 ∙ c.records.invariant.reads;
@@ -47,20 +54,45 @@ records-preserved-in-Ok-Changed g c =
       stops = c.records.invariant.stops;
       known = λ run start limits h.
           let m = c.records.invariant.known run start limits h in
-          next_change run (g.R.Read.remaining c.args.input.now) (g.R.Read.remaining c.records.input) (g.R.Read.remaining c.hear_on.new.input) start
+          next_change (saving_of (g.F.OutputFiles.creates c.args.files.now) (g.F.OutputFiles.keeps c.args.files.now) (option_map (λ s. s.now) c.args.asked.state)) run (g.R.Read.remaining c.args.input.now) (g.R.Read.remaining c.records.input) (g.R.Read.remaining c.hear_on.new.input) start
           (g.W.Write.contents c.records.output) (g.W.Write.contents c.hear_on.new.to)
           (record { bytes = g.E.Write.contents c.args.faults.now; failed = g.E.Sink.fault_count c.args.faults.now })
           (record { bytes = g.E.Write.contents c.records.faults; failed = g.E.Sink.fault_count c.records.faults })
-          (record { bytes = g.E.Write.contents c.report_change.new.faults; failed = g.E.Sink.fault_count c.report_change.new.faults })
-          c.records.has_refused c.records.on_air c.hear_on.new.self c.in-Ok-Changed.index c.in-Ok-Changed.slot m
+          (record { bytes = g.E.Write.contents c.report_change-is_lost.new.faults; failed = g.E.Sink.fault_count c.report_change-is_lost.new.faults })
+          c.records.has_refused c.records.has_lost c.records.on_air c.hear_on.new.self c.in-Ok-Changed.index c.in-Ok-Changed.slot
+          c.texts-texts.result.now c.report_change-is_lost.result _ m
           (rw c.in-Ok-Changed.field-0-is at
           (c.in-Ok-Changed.ensures.heard run m.airs.heard_is.count m.airs.came (g.R.Read.remaining c.args.input.now) start m.state
           m.airs.heard_is.heard_is))
-          c.report_change.ensures;
+          (λ a on. c.texts-texts.ensures run a start _ on) c.report_change-is_lost.ensures
+          (sym (ap (λ (b : Bool). b || c.records.has_lost) c.if-is_lost.true));
     }
 
-pub returns-then-stop : goal.returns-then-stop
-returns-then-stop g c = λ run start limits h.
+pub records-preserved-else-is_lost : goal.records-preserved-else-is_lost
+records-preserved-else-is_lost g c =
+    let clean = rw c.in-Ok-Changed.field-0-is at c.in-Ok-Changed.ensures.fault in
+    record {
+      reads = clean.0 ∙ c.records.invariant.reads;
+      writes = clean.1 ∙ c.records.invariant.writes;
+      stops = c.records.invariant.stops;
+      known = λ run start limits h.
+          let m = c.records.invariant.known run start limits h in
+          next_change (saving_of (g.F.OutputFiles.creates c.args.files.now) (g.F.OutputFiles.keeps c.args.files.now) (option_map (λ s. s.now) c.args.asked.state)) run (g.R.Read.remaining c.args.input.now) (g.R.Read.remaining c.records.input) (g.R.Read.remaining c.hear_on.new.input) start
+          (g.W.Write.contents c.records.output) (g.W.Write.contents c.hear_on.new.to)
+          (record { bytes = g.E.Write.contents c.args.faults.now; failed = g.E.Sink.fault_count c.args.faults.now })
+          (record { bytes = g.E.Write.contents c.records.faults; failed = g.E.Sink.fault_count c.records.faults })
+          (record { bytes = g.E.Write.contents c.report_change-is_lost.new.faults; failed = g.E.Sink.fault_count c.report_change-is_lost.new.faults })
+          c.records.has_refused c.records.has_lost c.records.on_air c.hear_on.new.self c.in-Ok-Changed.index c.in-Ok-Changed.slot
+          c.texts-texts.result.now c.report_change-is_lost.result _ m
+          (rw c.in-Ok-Changed.field-0-is at
+          (c.in-Ok-Changed.ensures.heard run m.airs.heard_is.count m.airs.came (g.R.Read.remaining c.args.input.now) start m.state
+          m.airs.heard_is.heard_is))
+          (λ a on. c.texts-texts.ensures run a start _ on) c.report_change-is_lost.ensures
+          (sym (ap (λ (b : Bool). b || c.records.has_lost) c.if-is_lost.false));
+    }
+
+pub returns-then-asked : goal.returns-then-asked
+returns-then-asked g c = λ run start limits h.
     let clean = rw c.in-Ok-Refused.field-0-is at c.in-Ok-Refused.ensures.fault in
     let m = c.records.invariant.known run start limits h in
     let input : Device = between (record { bytes = g.R.Read.remaining c.args.input.now; failed = g.R.Source.fault_count c.args.input.now })
@@ -69,14 +101,14 @@ returns-then-stop g c = λ run start limits h.
     (record { bytes = g.W.Write.contents c.follow.new.to; failed = g.W.Sink.fault_count c.follow.new.to }) in
     let before : Port = record { bytes = g.E.Write.contents c.args.faults.now; failed = g.E.Sink.fault_count c.args.faults.now } in
     let after : Port = record { bytes = g.E.Write.contents c.report_refused.new.faults; failed = g.E.Sink.fault_count c.report_refused.new.faults } in
-    stops run c.args.stop (g.R.Read.remaining c.records.input) start (g.W.Write.contents c.records.output) (g.W.Write.contents c.hear_on.new.to) input output
+    stops (saving_of (g.F.OutputFiles.creates c.args.files.now) (g.F.OutputFiles.keeps c.args.files.now) (option_map (λ s. s.now) c.args.asked.state)) run c.args.asked.options.stop (g.R.Read.remaining c.records.input) start (g.W.Write.contents c.records.output) (g.W.Write.contents c.hear_on.new.to) input output
     before
     (record { bytes = g.E.Write.contents c.records.faults; failed = g.E.Sink.fault_count c.records.faults }) after
-    c.records.has_refused c.records.on_air c.hear_on.new.self c.follow.new.self c.in-Ok-Refused.index c.in-Ok-Refused.cause m
+    c.records.has_refused c.records.has_lost c.records.on_air c.hear_on.new.self c.follow.new.self c.in-Ok-Refused.index c.in-Ok-Refused.cause m
     (rw c.in-Ok-Refused.field-0-is at
     (c.in-Ok-Refused.ensures.heard run m.airs.heard_is.count m.airs.came (g.R.Read.remaining c.args.input.now) start m.state m.airs.heard_is.heard_is))
     (λ a on. c.in-Ok.ensures.ok run a start on)
-    (by_limits run c.args.streams.now (c.in-Ok-Refused.index, c.in-Ok-Refused.cause) _ limits c.report_refused.ensures) c.if-stop.true
+    (by_limits run c.args.asked.streams.now (c.in-Ok-Refused.index, c.in-Ok-Refused.cause) _ limits c.report_refused.ensures) c.if-asked.true
     c.records.invariant.stops
     (clean.0 ∙ c.records.invariant.reads) (c.in-Ok.ensures.clean ∙ clean.1 ∙ c.records.invariant.writes)
 
@@ -90,14 +122,14 @@ returns-in-Err-follow g c = λ run start limits h.
     (record { bytes = g.W.Write.contents c.follow.new.to; failed = g.W.Sink.fault_count c.follow.new.to }) in
     let before : Port = record { bytes = g.E.Write.contents c.args.faults.now; failed = g.E.Sink.fault_count c.args.faults.now } in
     let after : Port = record { bytes = g.E.Write.contents c.report_refused.new.faults; failed = g.E.Sink.fault_count c.report_refused.new.faults } in
-    follow_fails run c.args.stop (g.R.Read.remaining c.records.input) start (g.W.Write.contents c.records.output) (g.W.Write.contents c.hear_on.new.to)
+    follow_fails (saving_of (g.F.OutputFiles.creates c.args.files.now) (g.F.OutputFiles.keeps c.args.files.now) (option_map (λ s. s.now) c.args.asked.state)) run c.args.asked.options.stop (g.R.Read.remaining c.records.input) start (g.W.Write.contents c.records.output) (g.W.Write.contents c.hear_on.new.to)
     input output before
     (record { bytes = g.E.Write.contents c.records.faults; failed = g.E.Sink.fault_count c.records.faults }) after
-    c.records.has_refused c.records.on_air c.hear_on.new.self c.in-Ok-Refused.index c.in-Ok-Refused.cause c.in-Err-follow.fault.sent m
+    c.records.has_refused c.records.has_lost c.records.on_air c.hear_on.new.self c.in-Ok-Refused.index c.in-Ok-Refused.cause c.in-Err-follow.fault.sent m
     (rw c.in-Ok-Refused.field-0-is at
     (c.in-Ok-Refused.ensures.heard run m.airs.heard_is.count m.airs.came (g.R.Read.remaining c.args.input.now) start m.state m.airs.heard_is.heard_is))
     (λ a on. c.in-Err-follow.ensures.err run a start on)
-    (by_limits run c.args.streams.now (c.in-Ok-Refused.index, c.in-Ok-Refused.cause) _ limits c.report_refused.ensures) c.records.invariant.stops
+    (by_limits run c.args.asked.streams.now (c.in-Ok-Refused.index, c.in-Ok-Refused.cause) _ limits c.report_refused.ensures) c.records.invariant.stops
     (clean.0 ∙ c.records.invariant.reads)
     (subst (λ (n : ℕ). Failed n (g.W.Sink.fault_count c.follow.new.to)) (clean.1 ∙ c.records.invariant.writes) c.in-Err-follow.ensures.fault)
 
@@ -110,8 +142,8 @@ returns-in-Ok-Ended g c = λ run start limits h.
     (record { bytes = g.W.Write.contents c.hear_on.new.to; failed = g.W.Sink.fault_count c.hear_on.new.to }) in
     let faults : Device = between (record { bytes = g.E.Write.contents c.args.faults.now; failed = g.E.Sink.fault_count c.args.faults.now })
     (record { bytes = g.E.Write.contents c.records.faults; failed = g.E.Sink.fault_count c.records.faults }) in
-    ends run c.args.stop (g.R.Read.remaining c.records.input) start (g.W.Write.contents c.records.output) input output faults c.records.has_refused
-    c.records.on_air c.hear_on.new.self
+    ends (saving_of (g.F.OutputFiles.creates c.args.files.now) (g.F.OutputFiles.keeps c.args.files.now) (option_map (λ s. s.now) c.args.asked.state)) run c.args.asked.options.stop (g.R.Read.remaining c.records.input) start (g.W.Write.contents c.records.output) input output faults c.records.has_refused
+    c.records.has_lost c.records.on_air c.hear_on.new.self
     c.in-Ok-Ended.why m
     (rw c.in-Ok-Ended.field-0-is at
     (c.in-Ok-Ended.ensures.heard run m.airs.heard_is.count m.airs.came (g.R.Read.remaining c.args.input.now) start m.state m.airs.heard_is.heard_is))
@@ -128,8 +160,8 @@ returns-in-Err g c = λ run start limits h.
     (record { bytes = g.W.Write.contents c.hear_on.new.to; failed = g.W.Sink.fault_count c.hear_on.new.to }) in
     let faults : Device = between (record { bytes = g.E.Write.contents c.args.faults.now; failed = g.E.Sink.fault_count c.args.faults.now })
     (record { bytes = g.E.Write.contents c.records.faults; failed = g.E.Sink.fault_count c.records.faults }) in
-    fails run c.args.stop (g.R.Read.remaining c.records.input) start (g.W.Write.contents c.records.output) input output faults c.records.has_refused
-    c.records.on_air c.hear_on.new.self c.in-Err.fault m
+    fails (saving_of (g.F.OutputFiles.creates c.args.files.now) (g.F.OutputFiles.keeps c.args.files.now) (option_map (λ s. s.now) c.args.asked.state)) run c.args.asked.options.stop (g.R.Read.remaining c.records.input) start (g.W.Write.contents c.records.output) input output faults c.records.has_refused
+    c.records.has_lost c.records.on_air c.hear_on.new.self c.in-Err.fault m
     (c.in-Err.ensures.heard run m.airs.heard_is.count m.airs.came (g.R.Read.remaining c.args.input.now) start m.state m.airs.heard_is.heard_is)
     (names_same (Err c.in-Err.fault) _ _ _ _ _ _ c.records.invariant.reads c.records.invariant.writes c.in-Err.ensures.fault)
     c.records.invariant.stops

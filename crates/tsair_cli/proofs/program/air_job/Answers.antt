@@ -1,5 +1,7 @@
 use Rattle.std.proofs.Common.{[], inl, refl, ◌∙◌}
+use Rattle.std.specs.Prelude.{option_map}
 use Rattle.devices.specs.Devices.{Port, between}
+use Rattle.tsair_cli.specs.States.{saving_of}
 use Rattle.checked_jobs.specs.JobFaults.{plans_view}
 use Rattle.tsair_cli.specs.AirRuns.{run_of}
 use Rattle.tsair_cli.proofs.AirRuns.{begun, limits_of_plans, no_limits, not_begun}
@@ -26,7 +28,8 @@ returns-in_default g c =
     let out : Port = record { bytes = g.W.Write.contents c.args.output.now; failed = g.W.Sink.fault_count c.args.output.now } in
     let so_far : Port = record { bytes = g.E.Write.contents c.args.faults.now; failed = g.E.Sink.fault_count c.args.faults.now } in
     let after : Port = record { bytes = g.E.Write.contents c.report_halt.new.faults; failed = g.E.Sink.fault_count c.report_halt.new.faults } in
-    no_limits c.args.options (between before left) (between out out) (between so_far after) _ c.in-Ok.plans c.is_some.result c.in-Ok.ensures refl
+    no_limits (saving_of (g.F.OutputFiles.creates c.args.files.now) (g.F.OutputFiles.keeps c.args.files.now) (option_map (λ s. s.now) c.args.state))
+    c.args.options (between before left) (between out out) (between so_far after) _ c.in-Ok.plans c.is_some.result c.in-Ok.ensures refl
     c.report_halt.ensures.reports c.report_halt.ensures.status
 
 pub returns-in-Err-begin : goal.returns-in-Err-begin
@@ -36,6 +39,7 @@ returns-in-Err-begin g c =
     let out : Port = record { bytes = g.W.Write.contents c.args.output.now; failed = g.W.Sink.fault_count c.args.output.now } in
     let so_far : Port = record { bytes = g.E.Write.contents c.args.faults.now; failed = g.E.Sink.fault_count c.args.faults.now } in
     let after : Port = record { bytes = g.E.Write.contents c.report_begin.new.faults; failed = g.E.Sink.fault_count c.report_begin.new.faults } in
-    not_begun c.args.options (between before left) (between out out) (between so_far after) _ (plans_view c.in-Ok.plans []) c.in-Err-begin.cause
+    not_begun (saving_of (g.F.OutputFiles.creates c.args.files.now) (g.F.OutputFiles.keeps c.args.files.now) (option_map (λ s. s.now) c.args.state))
+    c.args.options (between before left) (between out out) (between so_far after) _ (plans_view c.in-Ok.plans []) c.in-Err-begin.cause
     (begun c.args.options before left c.in-Ok.plans c.is_some.result c.is_some.ensures c.in-Ok.ensures) c.in-Err-begin.ensures.refused refl
     c.report_begin.ensures.report c.report_begin.ensures.status
