@@ -18,8 +18,9 @@ use Rattle.dvb_tables.specs.TimeAndDate.{tdt_section}
 use Rattle.dvb_tables.specs.CodedTimes.{utc_time_bytes}
 use Rattle.description_parts.specs.Described.{Described, DescribedNetwork, DescribedProgram}
 use Rattle.description_parts.specs.Ranges.{IsInRange, IsProgram, IsNetwork}
-use Rattle.description_parts.specs.Tables.{map_length, network_length}
-use Rattle.description.specs.SectionBytes.{single_header, pat_says, pmt_says, nit_says, sdt_says, eit_says, kind_bytes}
+use Rattle.description_parts.specs.Tables.{map_length}
+use Rattle.description_parts.specs.declared.network_stream.NetworkStream.{NetworkStream}
+use Rattle.description.specs.SectionBytes.{part_header, single_header, pat_says, pmt_says, nit_of, sdt_says, eit_says, kind_bytes}
 use Rattle.description_parts.specs.declared.table_kind.TableKind.TheVariants.{Pat, Tdt}
 
 -- These bytes are a section that can be written; its table_id is not 0xFF.
@@ -81,15 +82,28 @@ pmt_written d (Some p) section is within le =
     long_written 2 false (pmt_says d p).header (pmt_body (pmt_says d p)) (omega arith)
     (single_fits p.number p.pmt_version program.most_number program.pmt_version) le
 
-pub nit_written : (d : Described) (o : Option DescribedNetwork) (section : ℕ) → d.versions.nit < 32 → All IsNetwork (option_to_list o) →
-    section < length (map (network_length d) (option_to_list o)) →
-    Fits4096 (elim o as (λ _. List ℕ) [ None ↦ [] | Some network ↦ section_bytes (nit_section (nit_says d network)) ]) →
-    IsWritten (elim o as (λ _. List ℕ) [ None ↦ [] | Some network ↦ section_bytes (nit_section (nit_says d network)) ])
+-- the header of a section of several, by its numbers
+part_fits : (extension version number last : ℕ) → extension ≤ 65535 → version < 32 → number < 256 → last < 256 →
+    LongFits (part_header extension version number last)
+part_fits extension version number last le small low most = record {
+  table_id_extension = omega (arith, le);
+  version_number = omega (arith, small);
+  section_number = omega (arith, low);
+  last_section_number = omega (arith, most);
+}
+
+-- the section of a part of the transport streams
+abbrev pub streams_bytes : DescribedNetwork → ℕ → ℕ → ℕ → Option (List NetworkStream) → List ℕ
+streams_bytes n version number last o =
+    elim o as (λ _. List ℕ) [ None ↦ [] | Some part ↦ section_bytes (nit_section (nit_of n part version number last)) ]
+
+pub nit_written : (n : DescribedNetwork) (version : ℕ) (o : Option (List NetworkStream)) (number last : ℕ) → IsNetwork n → version < 32 →
+    is_some o ≡ true → number < 256 → last < 256 → Fits4096 (streams_bytes n version number last o) → IsWritten (streams_bytes n version number last o)
 unfolding nit_section
-nit_written d None section small is within le = absurd (omega (arith, within))
-nit_written d (Some n) section small is within le =
-    long_written 0x40 true (nit_says d n).header (nit_body (nit_says d n)) (omega arith)
-    (single_fits n.id d.versions.nit (All-head IsNetwork n [] is).id small) le
+nit_written n version None number last is small there low most le = absurd cc
+nit_written n version (Some part) number last is small there low most le =
+    long_written 0x40 true (nit_of n part version number last).header (nit_body (nit_of n part version number last)) (omega arith)
+    (part_fits n.id version number last is.id small low most) le
 
 -- the section of a part of the services
 abbrev part_bytes : Described → ℕ → ℕ → Option (List DescribedProgram) → List ℕ
@@ -102,12 +116,7 @@ sdt_written d false o number last r is there low most le = absurd cc
 sdt_written d true None number last r is there low most le = absurd cc
 sdt_written d true (Some part) number last r is there low most le =
     long_written 0x42 true (sdt_says d part number last).header (sdt_body (sdt_says d part number last)) (omega arith)
-    (record {
-      table_id_extension = omega (arith, r.transport_stream_id);
-      version_number = omega (arith, r.versions.sdt);
-      section_number = omega (arith, low);
-      last_section_number = omega (arith, most);
-    }) le
+    (part_fits d.transport_stream_id d.versions.sdt number last r.transport_stream_id r.versions.sdt low most) le
 
 eit_header_fits : (d : Described) (p : DescribedProgram) (number moment : ℕ) → number < 2 → IsProgram p → LongFits (eit_says d moment p number).header
 eit_header_fits d p number moment lt is = record {

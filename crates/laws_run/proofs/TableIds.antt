@@ -11,13 +11,15 @@ use Rattle.dvb_tables.specs.ServiceDescription.{sdt_section}
 use Rattle.dvb_tables.specs.EventInformation.{eit_section}
 use Rattle.dvb_tables.specs.TimeAndDate.{tdt_section}
 use Rattle.description_parts.specs.Described.{Described, DescribedNetwork, DescribedProgram}
-use Rattle.description_parts.specs.Tables.{scheduled_programs, table_kinds, table_kind, kind_lengths, section_lengths, section_count, map_length, network_length}
-use Rattle.description_parts.specs.Tables.{sdt_parts, eit_place}
-use Rattle.description.specs.SectionBytes.{pmt_says, nit_says, sdt_says, eit_bytes, kind_bytes, table_bytes}
+use Rattle.description_parts.specs.Tables.{scheduled_programs, table_kinds, table_kind, kind_lengths, section_lengths, section_count, map_length}
+use Rattle.description_parts.specs.Tables.{network_lengths, nit_parts, sdt_parts, eit_place}
+use Rattle.description_parts.specs.declared.network_stream.NetworkStream.{NetworkStream}
+use Rattle.description.specs.SectionBytes.{network_bytes, pmt_says, sdt_says, eit_bytes, kind_bytes, table_bytes}
 use Rattle.description_parts.specs.declared.table_kind.TableKind.{TableKind}
 use Rattle.description_parts.specs.declared.table_kind.TableKind.TheVariants.{Pat, Pmt, Nit, Sdt, Eit, Tdt, Private}
 use Rattle.description.proofs.Pids.{at_place}
-use Rattle.laws_run.proofs.TablesWritten.{IsThere, kinds_there, IsMade, some_there, eit_there, part_there}
+use Rattle.laws_run.proofs.TablesWritten.{IsThere, kinds_there, IsMade, some_there, eit_there, part_there, streams_there}
+use Rattle.laws_run.proofs.DescribedSections.{streams_bytes}
 
 -- The table_id of each kind (ISO/IEC 13818-1, table 2-31; EN 300 468, table 2); a ready-made table may have any table_id
 abbrev pub table_id_of : TableKind → ℕ
@@ -42,11 +44,18 @@ unfolding section_bytes with_crc header_bytes front_bytes start_bytes pmt_sectio
 pmt_id d None section within = absurd (omega (arith, within))
 pmt_id d (Some p) section within = refl
 
-nit_id : (d : Described) (o : Option DescribedNetwork) (section : ℕ) → section < length (map (network_length d) (option_to_list o)) →
-    HasId 0x40 (elim o as (λ _. List ℕ) [ None ↦ [] | Some network ↦ section_bytes (nit_section (nit_says d network)) ])
+streams_id : (n : DescribedNetwork) (version : ℕ) (o : Option (List NetworkStream)) (number last : ℕ) → is_some o ≡ true →
+    HasId 0x40 (streams_bytes n version number last o)
 unfolding section_bytes with_crc header_bytes front_bytes start_bytes nit_section
-nit_id d None section within = absurd (omega (arith, within))
-nit_id d (Some n) section within = refl
+streams_id n version None number last there = absurd (cc)
+streams_id n version (Some part) number last there = refl
+
+nit_id : (d : Described) (o : Option DescribedNetwork) (section : ℕ) → d.network ≡ o →
+    section < length (elim o as (λ _. List ℕ) [ None ↦ [] | Some n ↦ network_lengths d n ]) →
+    HasId 0x40 (elim o as (λ _. List ℕ) [ None ↦ [] | Some n ↦ network_bytes n (nit_parts d n) d.versions.nit section ])
+nit_id d None section e within = absurd (omega (arith, within))
+nit_id d (Some n) section e within =
+    streams_id n d.versions.nit (slice_get (nit_parts d n) section) section (length (nit_parts d n) - 1) (streams_there d n section e within).0
 
 sdt_id : (d : Described) (b : Bool) (o : Option (List DescribedProgram)) (number last : ℕ) → b ≡ true → is_some o ≡ true →
     HasId 0x42 (if b then (elim o as (λ _. List ℕ) [ None ↦ [] | Some part ↦ section_bytes (sdt_section (sdt_says d part number last)) ]) else [])
@@ -69,7 +78,7 @@ kind_id : (d : Described) (k : TableKind) (section moment : ℕ) → IsThere d k
     HasId (table_id_of k) (kind_bytes d k section moment)
 kind_id d Pat section moment there made within = pat_id d section moment
 kind_id d (Pmt p) section moment there made within = pmt_id d (slice_get d.programs p) section within
-kind_id d Nit section moment there made within = nit_id d d.network section within
+kind_id d Nit section moment there made within = nit_id d d.network section refl within
 kind_id d Sdt section moment there made within =
     sdt_id d d.has_sdt (slice_get (sdt_parts d) section) section (length (sdt_parts d) - 1) there (part_there d section within)
 kind_id d Eit section moment there made within =

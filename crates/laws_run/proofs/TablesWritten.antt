@@ -1,6 +1,6 @@
 -- Each section of each table that is not ready-made can be written.
 use Rattle.std.proofs.Common.{◌≡◌, ℕ, zero, suc, ◌+◌, ◌-◌, ◌*◌, ◌/◌, ◌%◌, ◌<◌, ◌≤◌, Bool, true, false, List, [], ◌∷◌, ◌++◌, length, map, get_or, slice_get}
-use Rattle.std.proofs.Common.{Option, None, Some, refl, sym, subst, arith, All, if◌then◌else◌}
+use Rattle.std.proofs.Common.{Option, None, Some, refl, ap, sym, subst, ◌∙◌, arith, All, if◌then◌else◌}
 use Rattle.std.specs.Option.{option_to_list}
 use Rattle.std.specs.Prelude.{is_some, ⊤}
 use Rattle.std.proofs.lemmas.List.{length-map}
@@ -8,19 +8,20 @@ use Rattle.std.proofs.lemmas.Nat.{div_below, mod_below}
 use Rattle.std.proofs.lemmas.Option.{slice_get_within}
 use Rattle.std.proofs.lemmas.List.Elements.{All-head, All-tail, All-nil, All-cons, All-append, All-filter, All-get_or}
 use Rattle.description_parts.specs.Described.{Described, DescribedNetwork, DescribedProgram, DescribedEvent}
-use Rattle.description_parts.specs.Ranges.{IsInRange, IsProgram, IsEvent}
+use Rattle.description_parts.specs.Ranges.{IsInRange, IsNetwork, IsProgram, IsEvent}
 use Rattle.description_parts.specs.Tables.{numbers_from, only_if, has_events_table, is_scheduled, scheduled_programs, service_tables, table_kinds, table_kind, kind_lengths}
 use Rattle.description_parts.specs.Tables.{section_lengths, section_count, pat_length, services_length, sdt_parts, eit_length, eit_lengths}
-use Rattle.description_parts.specs.Tables.{eit_room, most_bytes, most_eit_bytes, nit_length, pmt_length, room_length, schedule_length}
+use Rattle.description_parts.specs.Tables.{eit_room, most_bytes, most_eit_bytes, network_lengths, nit_lengths, nit_parts, pmt_length, room_length, schedule_length}
 use Rattle.description_parts.specs.Tables.{eit_place, longest_event}
-use Rattle.description.specs.SectionBytes.{kind_bytes, table_bytes}
+use Rattle.description.specs.SectionBytes.{kind_bytes, network_bytes, table_bytes}
 use Rattle.description_parts.specs.declared.table_kind.TableKind.{TableKind}
 use Rattle.description_parts.specs.declared.table_kind.TableKind.TheVariants.{Pat, Pmt, Nit, Sdt, Eit, Tdt, Private}
 use Rattle.description_parts.proofs.RoomLengths.{room_most}
 use Rattle.description.proofs.SectionBounds.{table_bytes_fit}
 use Rattle.description.proofs.Pids.{at_place}
 use Rattle.laws_run.proofs.DescribedSections.{IsWritten, Fits4096, pat_written, pmt_written, nit_written, sdt_written, eit_written, tdt_written}
-use Rattle.description.proofs.SectionCounts.{eit_count, sections_law}
+use Rattle.description.proofs.NetworkFacts.{of_some}
+use Rattle.description.proofs.SectionCounts.{eit_count, network_count, sections_law}
 
 -- The SDT, which is a table only if the description has one
 
@@ -72,11 +73,11 @@ kinds_there d =
 abbrev Below4096 : ℕ → Type 0
 Below4096 l = l ≤ 4096
 
-events_short : (es : List DescribedEvent) → All IsEvent es → longest_event es ≤ 300
+events_short : (es : List DescribedEvent) → All IsEvent es → longest_event es ≤ 4012
 events_short [] h = omega arith
 events_short (e ∷ es) h =
     let first = All-head IsEvent e es h in
-    omega (arith, first.name.fits, first.text.fits, events_short es (All-tail IsEvent e es h))
+    omega (arith, first.descriptors.fits, events_short es (All-tail IsEvent e es h))
 
 program_short : (n : ℕ) (p : DescribedProgram) (ps : List DescribedProgram) → All IsProgram (p ∷ ps) → schedule_length n p ≤ 4096
 program_short n p ps h =
@@ -112,6 +113,21 @@ mapped_short packets f None h = All-nil Below4096
 mapped_short {X} packets f (Some x) h =
     one_short (room_length most_bytes (packets x) (f x)) (room_short (packets x) (f x) (All-head (λ (y : X). f y ≤ 1024) x [] h))
 
+lengths_short : (packets : ℕ) (ls : List ℕ) → All (λ l. l ≤ 1024) ls → All Below4096 (map (room_length most_bytes packets) ls)
+lengths_short packets [] h = All-nil Below4096
+lengths_short packets (l ∷ ls) h =
+    All-cons Below4096 (room_length most_bytes packets l) (map (room_length most_bytes packets) ls) (room_short packets l (All-head (λ n. n ≤ 1024) l ls h))
+    (lengths_short packets ls (All-tail (λ n. n ≤ 1024) l ls h))
+
+abbrev lengths_of : Described → Option DescribedNetwork → List ℕ
+lengths_of d o = elim o as (λ _. List ℕ) [ None ↦ [] | Some n ↦ network_lengths d n ]
+
+network_short : (d : Described) (o : Option DescribedNetwork) → All (λ n. All (λ l. l ≤ 1024) (nit_lengths n 0 (nit_parts d n))) (option_to_list o) →
+    All Below4096 (lengths_of d o)
+network_short d None h = All-nil Below4096
+network_short d (Some n) h =
+    lengths_short d.rooms.nit (nit_lengths n 0 (nit_parts d n)) (All-head (λ m. All (λ l. l ≤ 1024) (nit_lengths m 0 (nit_parts d m))) n [] h)
+
 -- An element at a place of a list satisfies what all its elements satisfy.
 pub at_most_one : {X : Type 0} (P : X → Type 0) (xs : List X) (i : ℕ) (o : Option X) → All P xs → slice_get xs i ≡ o → All P (option_to_list o)
 at_most_one P xs i None h e = All-nil P
@@ -138,7 +154,7 @@ kind_short d Pat r there made =
 kind_short d (Pmt p) r there made =
     mapped_short (λ (x : DescribedProgram). x.pmt_packets) (pmt_length d) (slice_get d.programs p)
     (at_most_one (λ (x : DescribedProgram). pmt_length d x ≤ 1024) d.programs p (slice_get d.programs p) r.pmt_lengths refl)
-kind_short d Nit r there made = mapped_short (λ (n : DescribedNetwork). d.rooms.nit) nit_length d.network r.nit_length
+kind_short d Nit r there made = network_short d d.network r.nit_lengths
 kind_short d Sdt r there made = λ k z within. let le = r.sdt_lengths there k z within in omega (arith, le)
 kind_short d Eit r there made =
     schedules_short d.is_transponder (eit_room d) (scheduled_programs d) (All-filter (is_scheduled d.has_eit) IsProgram d.programs r.programs)
@@ -167,12 +183,27 @@ eit_there d section within = place_there d.is_transponder (length (scheduled_pro
 pub part_there : (d : Described) (section : ℕ) → section < length (kind_lengths d Sdt) → is_some (slice_get (sdt_parts d) section) ≡ true
 part_there d section within = some_there (sdt_parts d) section (omega (arith, within, length-map (sdt_parts d) (services_length d)))
 
+pub streams_there : (d : Described) (n : DescribedNetwork) (section : ℕ) → d.network ≡ Some n → section < length (network_lengths d n) →
+    (is_some (slice_get (nit_parts d n) section) ≡ true) × (length (nit_parts d n) ≡ length (network_lengths d n))
+streams_there d n section e within =
+    let count : length (nit_parts d n) ≡ length (network_lengths d n) = sym (network_count d n e) ∙ ap (λ (o : Option DescribedNetwork). length (lengths_of d o)) e in
+    (some_there (nit_parts d n) section (omega (arith, within, count)), count)
+
+network_written : (d : Described) (o : Option DescribedNetwork) (section : ℕ) → IsInRange d → d.network ≡ o → section < length (lengths_of d o) →
+    length (lengths_of d o) ≤ 128 → Fits4096 (elim o as (λ _. List ℕ) [ None ↦ [] | Some n ↦ network_bytes n (nit_parts d n) d.versions.nit section ]) →
+    IsWritten (elim o as (λ _. List ℕ) [ None ↦ [] | Some n ↦ network_bytes n (nit_parts d n) d.versions.nit section ])
+network_written d None section r e within few le = absurd (omega (arith, within))
+network_written d (Some n) section r e within few le =
+    let is = streams_there d n section e within in
+    nit_written n d.versions.nit (slice_get (nit_parts d n) section) section (length (nit_parts d n) - 1) (of_some IsNetwork d.network n e r.network)
+    r.versions.nit is.0 (omega (arith, within, few)) (omega (arith, is.1, few)) le
+
 kind_written : (d : Described) (k : TableKind) (section moment : ℕ) → IsInRange d → IsThere d k → IsMade k → section < length (kind_lengths d k) →
     length (kind_lengths d k) ≤ 128 → Fits4096 (kind_bytes d k section moment) → IsWritten (kind_bytes d k section moment)
 kind_written d Pat section moment r there made within few le = pat_written d section moment r le
 kind_written d (Pmt p) section moment r there made within few le =
     pmt_written d (slice_get d.programs p) section (at_most_one IsProgram d.programs p (slice_get d.programs p) r.programs refl) within le
-kind_written d Nit section moment r there made within few le = nit_written d d.network section r.versions.nit r.network within le
+kind_written d Nit section moment r there made within few le = network_written d d.network section r refl within few le
 kind_written d Sdt section moment r there made within few le =
     let count = length-map (sdt_parts d) (services_length d) in
     sdt_written d d.has_sdt (slice_get (sdt_parts d) section) section (length (sdt_parts d) - 1) r there (part_there d section within)
