@@ -12,6 +12,7 @@ pub mod DeclaredBuffers
 pub mod NamedUnits
 pub mod LeftOut
 pub mod JobLines
+pub mod CarriedLoops
 pub mod FoundOrNamed
 pub mod StrayPayload
 pub mod WorkedFindings

@@ -4,6 +4,7 @@ pub mod JoinedLaws
 pub mod DeclaredBuffers
 pub mod LeftOut
 pub mod JobLines
+pub mod CarriedLoops
 pub mod FoundOrNamed
 pub mod StrayPayload
 pub mod WorkedJob

@@ -4,6 +4,7 @@ ghost use Rattle.laws_job.specs.DeclaredBuffers.{DeclaredLaw, BuffersKeptLaw};
 ghost use Rattle.laws_job.specs.FirstUnits.{FirstUnitsLaw, TablesFirstLaw};
 ghost use Rattle.laws_job.specs.JoinedLaws.{JoinedAcceptedLaw, JoinedAgainLaw};
 ghost use Rattle.laws_job.specs.LeftOut.{NothingIsSilent};
+ghost use Rattle.laws_job.specs.CarriedLoops.{LoopsCarriedLaw};
 ghost use Rattle.laws_job.specs.JobLines.{JobLinesLaw};
 ghost use Rattle.laws_job.specs.FoundOrNamed.{FoundOrNamedLaw, JoinedOrNamedLaw};
 ghost use Rattle.laws_job.specs.StrayPayload.{LostPayloadLaw, StrayPayloadLaw};
@@ -56,6 +57,12 @@ pub fn found_again()
     carried();
     slot_plan::timing_laws::accepted_plan();
 }
+
+/// States that a job's description has the descriptors that the input's SDT, EIT and NIT have of services, events and
+/// the network, loop for loop.
+pub fn loops()
+    ensures { LoopsCarriedLaw }
+{}
 
 /// States that no unit of a job made of several inputs is refused either.
 pub fn joined_accepted()

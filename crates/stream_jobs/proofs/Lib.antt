@@ -1,5 +1,6 @@
 pub mod Agreement
 mod TableAgreement
+pub mod LoopAgreement
 mod WholeAgreement
 pub mod JobUnits
 mod TriedRates

@@ -5,15 +5,16 @@ use Rattle.description_parts.specs.Described.{Described}
 use Rattle.stream_jobs.specs.Jobs.{AgreeInTurn, AllAgree, AreInTurn, TablesInTurn, are_counted}
 use Rattle.job_inputs.specs.JobInput.{JobInputView}
 use Rattle.given_values.specs.declared.clock_sharing.ClockSharing.{ClockSharing}
+use Rattle.stream_jobs.specs.CarriedLoops.{HasLoops}
 use Rattle.stream_jobs.specs.SharedClocks.{shared_clock, sharing}
 use Rattle.stream_jobs.proofs.Agreement.{at_each, at_program, same_pid}
 use Rattle.stream_jobs.proofs.TableAgreement.{at_table}
 
 pub in_turn : (by : ClockSharing) (d : Described) (input : JobInputView) → are_counted (sharing by input) d input ≡ true →
     AreInTurn (sharing by input) d.programs input.programs →
-    TablesInTurn d.tables input.tables → AgreeInTurn d d.streams input.streams → AllAgree by d input
+    TablesInTurn d.tables input.tables → AgreeInTurn d d.streams input.streams → HasLoops d input.information → AllAgree by d input
 unfolding are_counted
-in_turn by d input counted are tables agree =
+in_turn by d input counted are tables agree loops =
     let all = and_parts _ _ counted in
     let after_base = and_parts _ _ all.1 in
     let after_clock = and_parts _ _ after_base.1 in
@@ -27,4 +28,5 @@ in_turn by d input counted are tables agree =
       each = at_each d d.streams input.streams agree;
       tables_same = sym (eqb-true (length d.tables) (length input.tables) after_programs.1);
       tables = at_table d.tables input.tables tables;
+      loops = loops;
     }

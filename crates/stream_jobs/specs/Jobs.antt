@@ -17,6 +17,7 @@ use Rattle.job_programs.specs.JobPrograms.{JobProgramView}
 use Rattle.job_inputs.specs.JobInput.{JobInputView}
 use Rattle.job_programs.specs.FoundUnits.{AreFound, Declares}
 use Rattle.given_values.specs.declared.clock_sharing.ClockSharing.{ClockSharing}
+use Rattle.stream_jobs.specs.CarriedLoops.{HasLoops, has_loops}
 use Rattle.stream_jobs.specs.SharedClocks.{own_clock, shared_clock, sharing}
 use Rattle.stream_jobs.specs.Rates.{IsAskedOrFirst, IsRate, IsServed}
 pub use Rattle.stream_jobs.specs.Rates.{IsText}
@@ -109,7 +110,8 @@ unfoldable pub TablesInTurn : List DescribedTable → List JobTableView → Type
 TablesInTurn (s ∷ ss) (t ∷ ts) = IsTable s t × TablesInTurn ss ts
 TablesInTurn _ _ = ⊤
 
--- a description has the programs, the streams and the private tables of an input, the same shared clock, and at moment 0 the same value of it
+-- a description has the programs, the streams, the private tables and the loops of an input, the same shared clock, and at moment 0 the same
+-- value of it
 pub record AllAgree (by : ClockSharing) (d : Described) (input : JobInputView) : Type 0 where
   pub base_is : d.base0 ≡ input.base0
   pub clock_is : d.clock_pid ≡ shared_clock (sharing by input)
@@ -119,6 +121,7 @@ pub record AllAgree (by : ClockSharing) (d : Described) (input : JobInputView) :
   pub each : (k : ℕ) (s : DescribedStream) (t : TimedStreamView) → slice_get d.streams k ≡ Some s → slice_get input.streams k ≡ Some t → Agrees d s t
   pub tables_same : length input.tables ≡ length d.tables
   pub tables : (k : ℕ) (s : DescribedTable) (t : JobTableView) → slice_get d.tables k ≡ Some s → slice_get input.tables k ≡ Some t → IsTable s t
+  pub loops : HasLoops d input.information
 
 -- the first unit is due no earlier than a moment
 unfoldable pub first_due : ℕ → List AccessUnit → Bool
@@ -165,7 +168,7 @@ are_counted pids d input =
 
 unfoldable pub disagreeing : ClockSharing → Described → JobInputView → Option ℕ
 disagreeing by d input =
-    if are_counted (sharing by input) d input
+    if are_counted (sharing by input) d input && has_loops d input.information
     then option_or (first_other_program (sharing by input) d.programs input.programs)
     (option_or (first_other_table d.tables input.tables) (first_disagreeing d d.streams input.streams))
     else Some 0

@@ -7,6 +7,7 @@ ghost use Rattle.stream_jobs.specs.Jobs.{AgreeInTurn, Agrees, AllAgree, AreInTur
 ghost use Rattle.stream_jobs.specs.Jobs as spec;
 ghost use Rattle.job_programs.specs.FoundUnits.{Declares};
 
+use crate::loop_check::has_loops;
 use crate::shared_clock::{own_clock, shared_clock, sharing};
 use crate::table_check::first_other_table;
 use description::Description;
@@ -215,7 +216,8 @@ fn are_counted(pids: &[u16], description: &Description, input: &JobInput) -> boo
 }
 
 /// Returns a PID where a description disagrees with the input it was made of, `None` if all agree. In this order: 0 if
-/// the number of any items, the PID of the shared clock or the first value of the clock differs; the PCR_PID of a
+/// the number of any items, the PID of the shared clock, the first value of the clock or any descriptors of services,
+/// events or the network differ; the PCR_PID of a
 /// program; the PID of a private table; the PID of a stream, also if its units need more than it declares, or no program
 /// on air has it.
 #[tactic(auto, using(crate::proofs::WholeAgreement::in_turn), unfolding(crate::specs::Jobs::disagreeing))]
@@ -229,7 +231,7 @@ pub(crate) fn disagreeing(
     ensures agree { IfOk result (λ pid. IfNone pid (AllAgree by description.now input.now)) }
 {
     let pids = sharing(alloc, by, input)?;
-    if !are_counted(&pids, description, input) {
+    if !(are_counted(&pids, description, input) && has_loops(description, &input.information)) {
         return Ok(Some(0));
     }
     if let Some(pid) = first_other_program(&pids, description.programs(), &input.programs) {

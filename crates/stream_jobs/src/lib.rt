@@ -8,6 +8,7 @@
 // The text of a description, and whether it is read as what it was written for.
 mod declaration_check;
 mod description_draft;
+mod loop_check;
 mod shared_clock;
 mod table_check;
 mod table_lines;
