@@ -7,8 +7,7 @@ use Rattle.word_faults.specs.UsageReport.{AnswersWords}
 use Rattle.devices.specs.Devices.{Device, IsUntouched, Port, between}
 use Rattle.devices.specs.Files.{Files, IsAsKnown}
 use Rattle.devices.specs.declared.files.FileFault.{FileFault}
-use Rattle.tsjob_cli.specs.Reports.{ReportsText, uncreated_text}
-use Rattle.tsjob_cli.specs.Saving.{AreNone}
+use Rattle.devices.specs.Saving.{AreNone, ReportsText, uncreated_text}
 use Rattle.tsjob_cli.specs.Command.{Answers, Commands, LacksWords, MakesFile, Outputs, PerformsWords, Saves, ToFile, WritesTo, explains_files, is_next, known_words}
 use Rattle.tsjob_cli.specs.Command.{output_file, words_but_output}
 use Rattle.tsjob_cli.specs.Explaining.{ExplainsFiles}
@@ -39,7 +38,7 @@ pub to_no_file : (creates : Option (Option FileFault)) (keeps : Option Bool) (na
     IsAsKnown creates (Some fault) → IsUntouched input → ReportsText name (uncreated_text fault) faults → status ≡ 3 →
     ToFile creates keeps name words files input faults status
 to_no_file creates keeps name words files fault input faults status uncreated unread reports_text is =
-    inr (record { fault = fault; uncreated = uncreated; unread = unread; reports_text = reports_text; status_is = is })
+    inr (record { fault = fault; uncreated = uncreated; reports_text = reports_text; status_is = is }, unread)
 
 -- The program writes to the file with the requested name, for the requested words.
 pub performed : (outputs : Outputs) (words job : List Text) (name : Option Text) (files : Files) (input output faults : Device) (status : ℕ) →

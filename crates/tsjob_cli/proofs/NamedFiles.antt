@@ -12,15 +12,8 @@ use Rattle.devices.specs.declared.halt.Halt.{Halt}
 use Rattle.devices.specs.declared.halt.Halt.TheVariants as halt
 use Rattle.devices.proofs.NamedReaders.{is_unread}
 use Rattle.tsjob_cli.specs.ReadFiles.{HasBytes, HaveBytes, StopsAt, StopsAtOne, ReportsUnreadFile}
-use Rattle.devices.specs.declared.files.FileFault.{FileFault}
-use Rattle.tsjob_cli.specs.Reports.{ReportsText, uncreated_text, unopened_text, unwritten_text}
-use Rattle.tsjob_cli.specs.Saving.{Keeps, SavesFile}
-
--- Two reported texts in order
-pub reported_both : (before mid after : Port) (first second : List ℕ) → Reports (between before mid) first → Reports (between mid after) second →
-    ReportsAll before after (first ∷ second ∷ [])
-unfolding ReportsAll
-reported_both before mid after first second r s = (mid, r, (after, s, refl))
+use Rattle.devices.specs.Saving.{ReportsText}
+use Rattle.tsjob_cli.specs.Reports.{unopened_text}
 
 abbrev pub port : Option (List ℕ) → ℕ → Port
 port bytes failed = record { bytes = bytes; failed = failed }
@@ -112,25 +105,3 @@ reports_unread name why known faults is reports_text = subst (λ (h : Halt). Rep
 pub has_bytes : (files : Files) (name bytes : List ℕ) (input : Device) → IsOpened files name → input.before.bytes ≡ files.contents name →
     IsWhole input.before.bytes bytes → HasBytes files name bytes
 has_bytes files name bytes input opened same whole = (opened, subst (λ (k : Option (List ℕ)). IsWhole k bytes) same whole)
-
--- The result of saving a new file
-
--- A known fact about a value is a fact about an equal value.
-pub known_as : (keeps : Option Bool) (b b' : Bool) → IsAsKnown keeps b → b ≡ b' → IsAsKnown keeps b'
-known_as keeps b b' known is = subst (λ (c : Bool). IsAsKnown keeps c) is known
-
-pub saved : (keeps : Option Bool) (known : Option (List ℕ)) (name bytes : List ℕ) (ended : ℕ) (file faults : Device) (status : ℕ) →
-    Takes file bytes × IsClean file → Keeps keeps name ended faults status → file.before.bytes ≡ known →
-    SavesFile keeps known name bytes ended faults status
-saved keeps known name bytes ended file faults status written kept begins =
-    inl (record { file = file; begins = begins; written = written.0; clean = written.1; kept = kept })
-
-pub removed : (keeps : Option Bool) (known : Option (List ℕ)) (name bytes : List ℕ) (ended : ℕ) (file faults : Device) (status : ℕ) →
-    Stopped bytes file × HasFailed file → ReportsText name unwritten_text faults → status ≡ 3 → file.before.bytes ≡ known →
-    SavesFile keeps known name bytes ended faults status
-removed keeps known name bytes ended file faults status stopped reports_text is begins =
-    inr (record { file = file; begins = begins; stopped = stopped.0; failed = stopped.1; reports_text = reports_text; status_is = is })
-
-pub reports_uncreated : (name : List ℕ) (fault known : FileFault) (faults : Device) → fault ≡ known → ReportsText name (uncreated_text known) faults →
-    ReportsText name (uncreated_text fault) faults
-reports_uncreated name fault known faults is reports_text = subst (λ (f : FileFault). ReportsText name (uncreated_text f) faults) (sym is) reports_text

@@ -8,7 +8,7 @@ use Rattle.devices.specs.Lines.{Reports}
 use Rattle.devices.specs.Runs.{LacksMemory}
 use Rattle.tsjob_cli.specs.Reports.{terminal_line}
 use Rattle.devices.specs.declared.files.FileFault.{FileFault}
-use Rattle.tsjob_cli.specs.Saving.{AreNone, HasNoFile, SavesFile}
+use Rattle.devices.specs.Saving.{AreNone, HasNoFile, SavesFile}
 use Rattle.word_faults.specs.CommandLine.{CommandLine, Text}
 use Rattle.word_faults.specs.Commands as commands
 use Rattle.word_faults.specs.SortedWords.{are_taken, value_given, words_without}

@@ -11,4 +11,3 @@ pub mod MadeJobs
 pub mod Command
 pub mod Reports
 pub mod ReadFiles
-pub mod Saving

@@ -7,7 +7,8 @@ use Rattle.devices.specs.Outcomes.{halt_line}
 use Rattle.devices.specs.WholeInput.{IsWhole}
 use Rattle.devices.specs.declared.halt.Halt.{Halt}
 use Rattle.devices.specs.declared.halt.Halt.TheVariants.{Read, Write, Memory}
-use Rattle.tsjob_cli.specs.Reports.{ReportsText, unopened_text, unread_text}
+use Rattle.devices.specs.Saving.{ReportsText}
+use Rattle.tsjob_cli.specs.Reports.{unopened_text, unread_text}
 
 -- the file of a name was opened, and these are its bytes, if its bytes are known
 abbrev pub HasBytes : Files → List ℕ → List ℕ → Type 0

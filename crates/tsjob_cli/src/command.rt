@@ -16,10 +16,11 @@ use crate::made_job::{MadeJob, make_job};
 use crate::next_texts::answer_next;
 use crate::options::{explain_words, known_for, next_words, sorting_words, usage};
 use crate::program::run;
-use crate::streaming::STREAM_TERMINAL;
-use crate::{TERMINAL, report_uncreated, save_file};
+use crate::streaming::{STREAM_TERMINAL, TERMINAL};
 use counted_io::{Sink, Source};
-use devices::{Halt, NamedFiles, OutputFiles, report_halt, report_text};
+use devices::{
+    Halt, NamedFiles, OutputFiles, report_halt, report_text, report_uncreated, save_file,
+};
 use std::alloc::{AllocError, Global};
 use word_faults::{
     KnownWords, ShortName, answer_words, are_taken, command_of, long_words, push_words,

@@ -7,8 +7,7 @@
 //! writes in memory. `command` is `run_command`, for words as people type them (`specs/Command`). `rows` has the rows
 //! of options that `tsremux` shares.
 //!
-//! `reading` returns the bytes of files that a command line names, one after another (`specs/ReadFiles`), `saving`
-//! writes a new file whole or not at all (`specs/Saving`), and `reports` names a file and its fault (`specs/Reports`).
+//! `reading` returns the bytes of files that a command line names, one after another (`specs/ReadFiles`).
 #![tactic(auto)]
 
 mod arguments;
@@ -21,9 +20,7 @@ mod next_texts;
 mod options;
 mod program;
 mod reading;
-mod reports;
 pub mod rows;
-mod saving;
 mod streaming;
 
 pub use command::{OUTPUT_WORD, SHORT_NAMES, output_file, run_command, words_but_output};
@@ -31,5 +28,4 @@ pub use file_words::option_words;
 pub use made_job::{MadeJob, make_job};
 pub use program::{report_usage, run};
 pub use reading::read_files;
-pub use reports::{TERMINAL, report_of};
-pub use saving::{report_uncreated, save_file};
+pub use streaming::TERMINAL;

@@ -5,9 +5,8 @@ ghost use Rattle.devices.specs.Devices.{writes};
 ghost use Rattle.devices.specs.Files.{files_of};
 ghost use Rattle.tsjob_cli.specs.ReadFiles as spec;
 
-use crate::reports::report_of;
 use counted_io::Sink;
-use devices::{Halt, NamedFiles, read_whole, report_halt};
+use devices::{Halt, NamedFiles, read_whole, report_halt, report_of};
 use std::alloc::{AllocError, Global};
 
 // Reports why a file that was opened has no bytes, and returns the status.

@@ -22,6 +22,9 @@ use std::alloc::{AllocError, Global};
 /// When the first unit of all is due, in units of 90 kHz.
 const EARLIEST: u64 = 270_000;
 
+/// The report for packets that would be written to a terminal.
+pub const TERMINAL: &str = "standard output is a terminal: name a file by -o FILE\n";
+
 /// The report for units that would be written to a terminal.
 pub(crate) const STREAM_TERMINAL: &str = "standard output is a terminal: name a file by > FILE\n";
 

@@ -4,9 +4,9 @@ use Rattle.word_faults.specs.CommandLine.{Text}
 use Rattle.devices.specs.Devices.{Device, Port, between, IsUntouched}
 use Rattle.devices.specs.Files.{Files, IsAsKnown}
 use Rattle.devices.specs.Lines.{Reports}
-use Rattle.tsjob_cli.specs.Reports.{ReportsText, terminal_line, uncreated_text}
+use Rattle.tsjob_cli.specs.Reports.{terminal_line}
 use Rattle.devices.specs.declared.files.FileFault.{FileFault}
-use Rattle.tsjob_cli.specs.Saving.{AreNone}
+use Rattle.devices.specs.Saving.{AreNone, ReportsText, uncreated_text}
 use Rattle.tsremux_cli.specs.Outputs.{Concludes, Finishes, ToFile, ToOutput, WritesNew, WritesOutput, output_name}
 use Rattle.tsjob_cli.specs.Command.{Outputs, output_file}
 use Rattle.tsremux_cli.specs.Program.{Answers, WritesTo}
@@ -69,7 +69,7 @@ pub to_no_file : (creates : Option (Option FileFault)) (keeps : Option Bool) (na
     IsAsKnown creates (Some fault) → IsUntouched input → ReportsText name (uncreated_text fault) faults → status ≡ 3 →
     ToFile creates keeps name words files input faults status
 to_no_file creates keeps name words files fault input faults status uncreated unread reports_text is =
-    inr (record { fault = fault; uncreated = uncreated; unread = unread; reports_text = reports_text; status_is = is })
+    inr (record { fault = fault; uncreated = uncreated; reports_text = reports_text; status_is = is }, unread)
 
 -- The name and the words are the requested name and words.
 pub answered : (outputs : Outputs) (words job : List Text) (name : Option Text) (files : Files) (input output faults : Device) (status : ℕ) →

@@ -6,8 +6,8 @@ use Rattle.devices.specs.Files.{Files, IsAsKnown}
 use Rattle.devices.specs.Lines.{Reports}
 use Rattle.tsremux_cli.specs.Lines.{ReportsHeld}
 use Rattle.devices.specs.declared.files.FileFault.{FileFault}
-use Rattle.tsjob_cli.specs.Reports.{ReportsText, terminal_line, unnamed_text}
-use Rattle.tsjob_cli.specs.Saving.{AreNone, HasNoFile}
+use Rattle.devices.specs.Saving.{AreNone, HasNoFile, ReportsText, unnamed_text}
+use Rattle.tsjob_cli.specs.Reports.{terminal_line}
 use Rattle.tsremux_cli.specs.Packets.{WritesFor}
 use Rattle.tsremux_cli.specs.Words.{is_quiet}
 use Rattle.tsremux_cli.specs.declared.figures.Remuxed.{Remuxed}

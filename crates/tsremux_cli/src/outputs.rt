@@ -9,9 +9,9 @@ use crate::lines::report_held;
 use crate::packets::write_packets_for;
 use crate::words::is_quiet;
 use counted_io::{Sink, Source};
-use devices::{NamedFiles, OutputFiles, report_text};
+use devices::{NamedFiles, OutputFiles, report_of, report_text, report_uncreated};
 use std::alloc::Global;
-use tsjob_cli::{TERMINAL, report_of, report_uncreated};
+use tsjob_cli::TERMINAL;
 
 // Reports on standard output if all packets are written, and returns the status.
 fn conclude<E: Sink>(alloc: Global, quiet: bool, remuxed: Remuxed, faults: &mut E) -> u8

@@ -1,5 +1,0 @@
-use Rattle.tsjob_cli.proofs.NamedFiles.{reported_both}
-use Rattle.tsjob_cli.proofs.reports.report_of.Goals as goal
-
-pub returns : goal.returns
-returns g c = reported_both _ _ _ _ _ c.report_text.ensures c.report_text-2.ensures
