@@ -15,10 +15,11 @@ use Rattle.unit_queue.specs.Queues.{Kept}
 use Rattle.unit_queue.specs.declared.refusal.FeedError.{FeedError}
 use Rattle.mux_core.specs.Scheduled.{Scheduled}
 use Rattle.mux_core.specs.Histories.{owned_stream}
-use Rattle.mux_core.specs.MuxStates.{feed_cause, if_on_air}
+use Rattle.mux_core.specs.MuxStates.{feed_cause}
 use Rattle.mux_core.specs.Headline.{UnitsKept}
 use Rattle.mux_core.specs.WholeJobs.{or_cause, unit_refused, cause_after, first_refused}
 use Rattle.mux_core.specs.declared.multiplexing.MuxError.{MuxError}
+use Rattle.mux_core.specs.declared.room.Room.TheVariants.{Units}
 use Rattle.mux_core.proofs.KnownRanges.{parameters_known}
 use Rattle.mux_core.proofs.UnitCounts.{own_units, units_append}
 use Rattle.es_moments.specs.ApartUnits.{apart_dts, apart_units}
@@ -141,8 +142,8 @@ record AllFit (line : Scheduled) (all : List (ℕ × AccessUnit)) : Type 0 where
 
 one_taken : TakenOneByOne → (line : Scheduled) (fed rest : List (ℕ × AccessUnit)) (entry : ℕ × AccessUnit) (s : DescribedStream) →
     AllFit line (fed ++ (entry ∷ rest)) →
-    slice_get line.description.streams entry.0 ≡ Some s → cause_after line 1048576 fed entry ≡ None
-unfolding feed_cause if_on_air
+    slice_get line.description.streams entry.0 ≡ Some s → cause_after line (Units 1048576) fed entry ≡ None
+unfolding feed_cause
 one_taken law line fed rest entry s fit is =
     let parts : units_of entry.0 (fed ++ (entry ∷ rest)) ≡ units_of entry.0 fed ++ (entry.1 ∷ units_of entry.0 rest) =
     units_append entry.0 fed (entry ∷ rest) ∙ ap (λ (us : List AccessUnit). units_of entry.0 fed ++ us) (own_units entry.0 entry rest refl) in
@@ -158,18 +159,18 @@ none_then index cause next e none = rw (e, none) refl
 
 all_taken : TakenOneByOne → (line : Scheduled) (fed rest : List (ℕ × AccessUnit)) → AllFit line (fed ++ rest) →
     All (λ e. e.0 < length line.description.streams) rest →
-    first_refused line 1048576 fed rest ≡ None
+    first_refused line (Units 1048576) fed rest ≡ None
 unfolding first_refused
 all_taken law line fed [] fit below = refl
 all_taken law line fed (entry ∷ rest) fit below =
     let s = stream_there line.description.streams entry.0 (All-head (λ e. e.0 < length line.description.streams) entry rest below) in
-    none_then (length fed) (cause_after line 1048576 fed entry) (first_refused line 1048576 (fed ++ (entry ∷ [])) rest)
+    none_then (length fed) (cause_after line (Units 1048576) fed entry) (first_refused line (Units 1048576) (fed ++ (entry ∷ [])) rest)
     (one_taken law line fed rest entry s.0 fit s.1)
     (all_taken law line (fed ++ (entry ∷ [])) rest (subst (λ (all : List (ℕ × AccessUnit)). AllFit line all) (sym (append_assoc fed (entry ∷ []) rest)) fit)
     (All-tail (λ e. e.0 < length line.description.streams) entry rest below))
 
 pub none_refused : UnitsAreKept → TakenOneByOne → (made : Bool) (line : Scheduled) (findings : List FindingView) (units : List (ℕ × AccessUnit)) →
-    IsInRange line.description → AreUnits made findings line.description units → first_refused line 1048576 [] units ≡ None
+    IsInRange line.description → AreUnits made findings line.description units → first_refused line (Units 1048576) [] units ≡ None
 none_refused keeping taking made line findings units ranges are =
     all_taken taking line [] units
     (record {
@@ -181,7 +182,7 @@ none_refused keeping taking made line findings units ranges are =
 
 pub none_refused_in : UnitsAreKept → TakenOneByOne → (made : Bool) (line : Scheduled) (inputs : List (List FindingView)) (origins : List Origin)
     (units : List (ℕ × AccessUnit)) → IsInRange line.description → AreUnitsIn made inputs origins line.description units →
-    first_refused line 1048576 [] units ≡ None
+    first_refused line (Units 1048576) [] units ≡ None
 none_refused_in keeping taking made line inputs origins units ranges are =
     all_taken taking line [] units
     (record {
