@@ -231,7 +231,10 @@ pub(crate) fn disagreeing(
     ensures agree { IfOk result (λ pid. IfNone pid (AllAgree by description.now input.now)) }
 {
     let pids = sharing(alloc, by, input)?;
-    if !(are_counted(&pids, description, input) && has_loops(description, &input.information)) {
+    if !are_counted(&pids, description, input) {
+        return Ok(Some(0));
+    }
+    if !has_loops(description, &input.information) {
         return Ok(Some(0));
     }
     if let Some(pid) = first_other_program(&pids, description.programs(), &input.programs) {
