@@ -1,6 +1,6 @@
 -- What cut packets keep
-use Rattle.std.proofs.Common.{◌≡◌, ◌∙◌, ◌≤◌, ◌<◌, ◌+◌, ◌-◌, ◌++◌, ℕ, min, nat_lt, Bool, true, false, List, [], ◌∷◌, length, take, drop, map, flat_map, Option, Some, None, refl, sym, subst, ap, arith}
-use Rattle.std.proofs.Common.{append-nil, append_assoc, ltb-true, take-append-drop}
+use Rattle.std.proofs.Common.{◌≡◌, ◌∙◌, ◌≤◌, ◌<◌, ◌+◌, ◌-◌, ◌++◌, ◌&&◌, ℕ, min, nat_lt, Bool, true, false, List, [], ◌∷◌, length, take, drop, map, flat_map, Option, Some, None, refl, sym, subst, ap, arith}
+use Rattle.std.proofs.Common.{append-nil, ltb-true, take-append-drop}
 use Rattle.std.specs.Prelude.{if◌then◌else◌}
 use Rattle.std.proofs.lemmas.Grind.{flat_map-append}
 use Rattle.demux.specs.Laws.{has_pid}
@@ -12,9 +12,8 @@ use Rattle.sound_frames.specs.declared.frame_walk.FramePart.{FramePart}
 use Rattle.sound_packets.specs.CutPackets.{body_of, cut, cut_by, cut_packet, cut_time, packet_by}
 use Rattle.sound_packets.specs.KnownFrames.{KnownFrames, frames_on, known_frames}
 use Rattle.sound_packets.specs.Laws.{AreFew, FewFrames, SameBytes, bytes_on}
-use Rattle.sound_packets.specs.Pieces.{later_frames, piece_of, pieces, pieces_from}
+use Rattle.sound_packets.specs.Pieces.{later_frames, piece_count, piece_of, pieces, pieces_from}
 use Rattle.sound_packets.specs.declared.known_frames.SoundFrames.{SoundFrames}
-use Rattle.sound_packets.specs.declared.known_frames.SoundPid.{SoundPid}
 use Rattle.sound_packets.specs.declared.pieces.CutPacket.{CutPacket}
 
 -- 1. The pieces of a packet have its bytes.
@@ -22,22 +21,23 @@ use Rattle.sound_packets.specs.declared.pieces.CutPacket.{CutPacket}
 abbrev bytes_in : List (ℕ × List ℕ) → List ℕ
 bytes_in ps = flat_map (λ (p : ℕ × List ℕ). p.1) ps
 
-joined : (n first count at : ℕ) (parts : List FramePart) (bytes : List ℕ) → bytes_in (pieces_from n first count at parts bytes) ≡ bytes
+joined : (n all parts rest first count at : ℕ) (later : List FramePart) (bytes : List ℕ) →
+    bytes_in (pieces_from n all parts rest first count at later bytes) ≡ bytes
 unfolding pieces_from
-joined n first count at [] bytes = append-nil bytes
-joined n first count at (p ∷ ps) bytes =
-    step (nat_lt count n) (joined n first (count + 1) at ps bytes)
-    (joined n (first + count) 1 p.place ps (drop (min (p.place - at) (length bytes)) bytes))
+joined n all parts rest first count at [] bytes = append-nil bytes
+joined n all parts rest first count at (p ∷ ps) bytes =
+    step (nat_lt count n && nat_lt (rest + parts) all) (joined n all parts (rest + parts) first (count + 1) at ps bytes)
+    (joined n all parts (rest + parts - all) (first + count) 1 p.place ps (drop (min (p.place - at) (length bytes)) bytes))
   where
     size : ℕ
     size = min (p.place - at) (length bytes)
 
-    step : (b : Bool) → bytes_in (pieces_from n first (count + 1) at ps bytes) ≡ bytes →
-        bytes_in (pieces_from n (first + count) 1 p.place ps (drop size bytes)) ≡ drop size bytes →
-        bytes_in (if b then pieces_from n first (count + 1) at ps bytes
-        else (first, take size bytes) ∷ pieces_from n (first + count) 1 p.place ps (drop size bytes)) ≡ bytes
-    step true whole rest = whole
-    step false whole rest = ap (λ (l : List ℕ). take size bytes ++ l) rest ∙ take-append-drop size bytes
+    step : (b : Bool) → bytes_in (pieces_from n all parts (rest + parts) first (count + 1) at ps bytes) ≡ bytes →
+        bytes_in (pieces_from n all parts (rest + parts - all) (first + count) 1 p.place ps (drop size bytes)) ≡ drop size bytes →
+        bytes_in (if b then pieces_from n all parts (rest + parts) first (count + 1) at ps bytes
+        else (first, take size bytes) ∷ pieces_from n all parts (rest + parts - all) (first + count) 1 p.place ps (drop size bytes)) ≡ bytes
+    step true whole left = whole
+    step false whole left = ap (λ (l : List ℕ). take size bytes ++ l) left ∙ take-append-drop size bytes
 
 -- 2. So do the findings of a PID.
 
@@ -64,7 +64,7 @@ unfolding cut_by
 of_packet n pid f c same =
     let body = body_of f.what in
     of_pieces c pid (pieces n c.kind body)
-    ∙ ap (λ (l : List ℕ). if has_pid pid c.pid then l else []) (joined n 0 1 0 (later_frames c.kind body) body)
+    ∙ ap (λ (l : List ℕ). if has_pid pid c.pid then l else []) (joined n (length (later_frames c.kind body) + 1) (piece_count n (length (later_frames c.kind body) + 1)) 0 0 1 0 (later_frames c.kind body) body)
     ∙ ap (λ (p : Option ℕ). if has_pid pid p then body else []) same
 
 of_time : (n : ℕ) (pid : ℕ) (f : FindingView) (header : PesHeader) (kind : FrameKind) (t : Option ℕ) →
@@ -120,19 +120,25 @@ pub record BeginsWith (first : ℕ) (ps : List (ℕ × List ℕ)) : Type 0 where
   pub more : List (ℕ × List ℕ)
   pub are : ps ≡ (first, bytes) ∷ more
 
-begins : (n first count at : ℕ) (parts : List FramePart) (bytes : List ℕ) → BeginsWith first (pieces_from n first count at parts bytes)
+begins : (n all parts rest first count at : ℕ) (later : List FramePart) (bytes : List ℕ) →
+    BeginsWith first (pieces_from n all parts rest first count at later bytes)
 unfolding pieces_from
-begins n first count at [] bytes = record { bytes = bytes; more = []; are = refl }
-begins n first count at (p ∷ ps) bytes = step (nat_lt count n) (begins n first (count + 1) at ps bytes)
+begins n all parts rest first count at [] bytes = record { bytes = bytes; more = []; are = refl }
+begins n all parts rest first count at (p ∷ ps) bytes =
+    step (nat_lt count n && nat_lt (rest + parts) all) (begins n all parts (rest + parts) first (count + 1) at ps bytes)
   where
     size : ℕ
     size = min (p.place - at) (length bytes)
 
-    step : (b : Bool) → BeginsWith first (pieces_from n first (count + 1) at ps bytes) →
-        BeginsWith first (if b then pieces_from n first (count + 1) at ps bytes
-        else (first, take size bytes) ∷ pieces_from n (first + count) 1 p.place ps (drop size bytes))
+    step : (b : Bool) → BeginsWith first (pieces_from n all parts (rest + parts) first (count + 1) at ps bytes) →
+        BeginsWith first (if b then pieces_from n all parts (rest + parts) first (count + 1) at ps bytes
+        else (first, take size bytes) ∷ pieces_from n all parts (rest + parts - all) (first + count) 1 p.place ps (drop size bytes))
     step true later = later
-    step false later = record { bytes = take size bytes; more = pieces_from n (first + count) 1 p.place ps (drop size bytes); are = refl }
+    step false later = record {
+      bytes = take size bytes;
+      more = pieces_from n all parts (rest + parts - all) (first + count) 1 p.place ps (drop size bytes);
+      are = refl;
+    }
 
 one_more : (n all first next : ℕ) (bytes : List ℕ) (ps : List (ℕ × List ℕ)) → BeginsWith next ps → next ≤ first + n → AreFew n all ps →
     AreFew n all ((first, bytes) ∷ ps)
@@ -140,25 +146,38 @@ unfolding AreFew
 one_more n all first next bytes ps b near few =
     subst (λ (l : List (ℕ × List ℕ)). AreFew n all ((first, bytes) ∷ l)) (sym b.are) (near, subst (AreFew n all) b.are few)
 
-are_few : (n all first count at : ℕ) (parts : List FramePart) (bytes : List ℕ) → 1 ≤ n → count ≤ n → all ≡ first + (count + length parts) →
-    AreFew n all (pieces_from n first count at parts bytes)
+less : (count n : ℕ) (b : Bool) → (nat_lt count n && b) ≡ true → count < n
+less count n b both = ltb-true count n (left (nat_lt count n) b both)
+  where
+    left : (a b : Bool) → (a && b) ≡ true → a ≡ true
+    left true b both = refl
+    left false b both = both
+
+are_few : (n total all parts rest first count at : ℕ) (later : List FramePart) (bytes : List ℕ) → 1 ≤ n → count ≤ n → total ≡ first + (count + length later) →
+    AreFew n total (pieces_from n all parts rest first count at later bytes)
 unfolding AreFew pieces_from
-are_few n all first count at [] bytes some within is = omega (arith, within, is)
-are_few n all first count at (p ∷ ps) bytes some within is =
-    step (nat_lt count n) refl
-    (λ (less : count < n). are_few n all first (count + 1) at ps bytes some (omega (arith, less)) (omega (arith, is)))
-    (are_few n all (first + count) 1 p.place ps (drop (min (p.place - at) (length bytes)) bytes) some some (omega (arith, is)))
+are_few n total all parts rest first count at [] bytes some within is = omega (arith, within, is)
+are_few n total all parts rest first count at (p ∷ ps) bytes some within is =
+    step (nat_lt count n && nat_lt (rest + parts) all) refl
+    (λ (more : count < n). are_few n total all parts (rest + parts) first (count + 1) at ps bytes some (omega (arith, more)) (omega (arith, is)))
+    (are_few n total all parts (rest + parts - all) (first + count) 1 p.place ps (drop (min (p.place - at) (length bytes)) bytes) some some
+    (omega (arith, is)))
   where
     size : ℕ
     size = min (p.place - at) (length bytes)
 
-    step : (b : Bool) → nat_lt count n ≡ b → (count < n → AreFew n all (pieces_from n first (count + 1) at ps bytes)) →
-        AreFew n all (pieces_from n (first + count) 1 p.place ps (drop size bytes)) →
-        AreFew n all (if b then pieces_from n first (count + 1) at ps bytes
-        else (first, take size bytes) ∷ pieces_from n (first + count) 1 p.place ps (drop size bytes))
-    step true less whole rest = whole (ltb-true count n less)
-    step false less whole rest = one_more n all first (first + count) (take size bytes) (pieces_from n (first + count) 1 p.place ps (drop size bytes))
-        (begins n (first + count) 1 p.place ps (drop size bytes)) (omega (arith, within)) rest
+    step : (b : Bool) → (nat_lt count n && nat_lt (rest + parts) all) ≡ b →
+        (count < n → AreFew n total (pieces_from n all parts (rest + parts) first (count + 1) at ps bytes)) →
+        AreFew n total (pieces_from n all parts (rest + parts - all) (first + count) 1 p.place ps (drop size bytes)) →
+        AreFew n total (if b then pieces_from n all parts (rest + parts) first (count + 1) at ps bytes
+        else (first, take size bytes) ∷ pieces_from n all parts (rest + parts - all) (first + count) 1 p.place ps (drop size bytes))
+    step true is_less whole left = whole (less count n (nat_lt (rest + parts) all) is_less)
+    step false is_less whole left = one_more n total first (first + count) (take size bytes)
+        (pieces_from n all parts (rest + parts - all) (first + count) 1 p.place ps (drop size bytes))
+        (begins n all parts (rest + parts - all) (first + count) 1 p.place ps (drop size bytes)) (omega (arith, within)) left
 
 pub few_frames_law : FewFrames
-few_frames_law n kind unit some = are_few n (length (later_frames kind unit) + 1) 0 1 0 (later_frames kind unit) unit some some (omega arith)
+few_frames_law n kind unit some =
+    let later = later_frames kind unit in
+    let all = length later + 1 in
+    are_few n all all (piece_count n all) 0 0 1 0 later unit some some (omega arith)

@@ -1,5 +1,5 @@
 -- What the laws of this crate say.
-use Rattle.std.specs.Prelude.{◌≡◌, ◌≤◌, ℕ, ◌+◌, ⊤, if◌then◌else◌, List, [], ◌∷◌, flat_map, length, Option}
+use Rattle.std.specs.Prelude.{◌≡◌, ◌≤◌, ℕ, ◌+◌, ⊤, if◌then◌else◌, List, [], ◌∷◌, flat_map, length}
 use Rattle.demux.specs.Laws.{has_pid}
 use Rattle.pid_findings.specs.Views.{FindingView}
 use Rattle.sound_frames.specs.declared.frame_headers.FrameKind.{FrameKind}

@@ -1,6 +1,7 @@
 -- A PES packet of sound that is cut into packets of fewer frames. Each new packet has the PTS of its own first frame, which sounds when the frames before it
 -- have sounded (ISO/IEC 13818-1, 2.4.3.7), and otherwise the fields of the packet.
-use Rattle.std.specs.Prelude.{ℕ, ◌+◌, ◌-◌, ◌*◌, ◌%◌, ◌^◌, min, nat_lt, false, if◌then◌else◌, List, [], ◌∷◌, take, drop, length}
+use Rattle.std.specs.Prelude.{ℕ, ◌+◌, ◌-◌, ◌*◌, ◌%◌, ◌^◌, ◌&&◌, min, max, nat_lt, false, if◌then◌else◌, List, [], ◌∷◌, take, drop, length}
+use Rattle.std.specs.Int.{div_ceil}
 use Rattle.pes_packet.specs.declared.reading.PesHeader.{PesHeader}
 use Rattle.pes_packet.specs.declared.time_stamps.Stamps.{Stamps}
 use Rattle.pes_packet.specs.declared.time_stamps.Stamps.TheVariants.{Absent, Pts, PtsDts}
@@ -16,17 +17,26 @@ use Rattle.sound_packets.specs.declared.pieces.CutPacket.{CutPacket}
 abbrev pub later_frames : FrameKind → List ℕ → List FramePart
 later_frames kind unit = frames_in (restarted (no_walk kind)) unit
 
--- pieces, each with the number of its first frame: the piece at the front begins with frame number `first`, at the place `at`, and has `count` frames so far;
--- these frames follow. A frame begins a piece of its own if the piece before it has n frames or more
-unfoldable pub pieces_from : ℕ → ℕ → ℕ → ℕ → List FramePart → List ℕ → List (ℕ × List ℕ)
-pieces_from n first count at [] bytes = (first, bytes) ∷ []
-pieces_from n first count at (p ∷ ps) bytes =
-    if nat_lt count n then pieces_from n first (count + 1) at ps bytes
+-- a unit has as few pieces of at most n frames as it can
+abbrev pub piece_count : ℕ → ℕ → ℕ
+piece_count n all = min (div_ceil all (max 1 n)) all
+
+-- pieces, each with the number of its first frame, in a unit of `all` frames that has `parts` pieces, as even as can be: k frames have begun k parts / `all`
+-- pieces, and `rest` more parts of `all`. The piece at the front begins with frame number `first`, at the place `at`, and has `count` frames so far; these
+-- frames follow. A frame begins a piece of its own where `rest` is a whole one, and if the piece before it has n frames or more
+unfoldable pub pieces_from : ℕ → ℕ → ℕ → ℕ → ℕ → ℕ → ℕ → List FramePart → List ℕ → List (ℕ × List ℕ)
+pieces_from n all parts rest first count at [] bytes = (first, bytes) ∷ []
+pieces_from n all parts rest first count at (p ∷ ps) bytes =
+    if nat_lt count n && nat_lt (rest + parts) all then pieces_from n all parts (rest + parts) first (count + 1) at ps bytes
     else (first, take (min (p.place - at) (length bytes)) bytes)
-    ∷ pieces_from n (first + count) 1 p.place ps (drop (min (p.place - at) (length bytes)) bytes)
+    ∷ pieces_from n all parts (rest + parts - all) (first + count) 1 p.place ps (drop (min (p.place - at) (length bytes)) bytes)
+
+-- the pieces of a unit with these frames after its first one
+abbrev pub pieces_by : ℕ → List FramePart → List ℕ → List (ℕ × List ℕ)
+pieces_by n later unit = pieces_from n (length later + 1) (piece_count n (length later + 1)) 0 0 1 0 later unit
 
 abbrev pub pieces : ℕ → FrameKind → List ℕ → List (ℕ × List ℕ)
-pieces n kind unit = pieces_from n 0 1 0 (later_frames kind unit) unit
+pieces n kind unit = pieces_by n (later_frames kind unit) unit
 
 -- 2. Packets
 

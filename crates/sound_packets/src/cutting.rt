@@ -148,8 +148,8 @@ fn cut_all(
 }
 
 /// Returns the findings of a stream, in which each PES packet of these streams of sound has at most `most` frames: a
-/// packet with a PTS that is whole frames by their headers is cut before every `most`-th frame. Each new packet has the
-/// PTS of its first frame, and the other fields of the packet. All other findings stay as they are.
+/// packet with a PTS that is whole frames by their headers is cut into as few pieces as it can, as even as can be. Each
+/// new packet has the PTS of its first frame, and the other fields of the packet. All other findings stay as they are.
 pub fn cut_packets(
     alloc: Global,
     most: u8,

@@ -1,5 +1,5 @@
 //! A PES packet of sound that is cut into packets of fewer frames.
-ghost use Rattle.std.specs.Prelude.{◌≡◌, ◌++◌, ◌∷◌, ◌<◌, ◌^◌, [], IfOk, OnOk, length, map};
+ghost use Rattle.std.specs.Prelude.{◌≡◌, ◌≤◌, ◌++◌, ◌∷◌, ◌<◌, ◌^◌, [], IfOk, OnOk, length, map};
 ghost use Rattle.pid_findings.specs.Shown.{finding_view};
 ghost use Rattle.sound_packets.specs.Pieces as spec;
 
@@ -67,6 +67,14 @@ fn later_frames(alloc: Global, kind: FrameKind, unit: &[u8]) -> Result<Vec<Frame
     walk.take(alloc, unit)
 }
 
+// Returns the number of pieces of at most `most` frames of a unit.
+fn piece_count(most: usize, all: usize) -> usize
+    ensures value { result ≡ spec.piece_count most all }
+    ensures bound { result ≤ all }
+{
+    all.div_ceil(most.max(1)).min(all)
+}
+
 impl CutPacket {
     // Returns the header of the piece that begins with frame number `frame`.
     fn header_at(&self, frame: usize) -> PesHeader
@@ -113,7 +121,7 @@ impl CutPacket {
         Ok(())
     }
 
-    // Appends the pieces of at most `most` frames, of these bytes with these frames after the first one.
+    // Appends the pieces of at most `most` frames, as even as can be, of a unit with these frames after its first one.
     #[tactic(auto, unfolding(crate::specs::Pieces::pieces_from))]
     fn push_at(
         &self,
@@ -123,25 +131,30 @@ impl CutPacket {
         bytes: &[u8],
         cut: &mut Vec<Finding<'static>>,
     ) -> Result<(), AllocError>
-        requires { length parts.now < 2 ^ 63 }
+        requires { length parts.now < 2 ^ 62 }
         ensures { OnOk result (map finding_view cut.new.items ≡ map finding_view cut.old.items
-            ++ map (spec.piece_of self.now) (spec.pieces_from most 0 1 0 parts.now bytes.now)) }
+            ++ map (spec.piece_of self.now) (spec.pieces_by most parts.now bytes.now)) }
     {
+        let all = parts.len() + 1;
+        let pieces = piece_count(most, all);
         let mut parts = parts;
         let mut bytes = bytes;
+        let mut rest = 0usize;
         let mut first = 0usize;
         let mut count = 1usize;
         let mut at = 0usize;
         'parts: while let Some((part, later)) = parts.split_first() {
             parts = later;
-            if count < most {
+            rest += pieces;
+            if count < most && rest < all {
                 count += 1;
                 continue;
             }
+            rest = rest.saturating_sub(all);
             let size = part.place.saturating_sub(at).min(bytes.len());
-            let (piece, rest) = bytes.split_at(size);
+            let (piece, left) = bytes.split_at(size);
             self.push_piece(alloc, first, piece, cut)?;
-            bytes = rest;
+            bytes = left;
             first += count;
             count = 1;
             at = part.place;
