@@ -1,13 +1,17 @@
 #!/usr/bin/env python3
 """transponders.py TSMUX [COUNT]: in what time `plan` fills whole transponders to 95 %: 9 television services, 40 radio services on one clock, and 64
 services with up to 254 streams (100 of each where not given, a seed each), of streams as in plan.py. It prints how many have a plan, how many
-of these within half a second, and the times, start of the process included. `check` judges each plan."""
+of these within half a second, and the times, start of the process included. `check` judges each plan. Last the processor time of `check` of a plan
+of 65,536 slots for 254 streams and 133 tables, and of two such plans."""
 
 import random
 import sys
+import tempfile
 from fractions import Fraction
+from pathlib import Path
 
 import plan
+from common import seconds
 
 LOAD = Fraction(95, 100)
 TOP = ["transponder = true"]
@@ -55,7 +59,39 @@ def measure(kind, count):
           f" {took[count // 2]:.0f} ms in the median, {took[-1]:.0f} at most", flush=True)
 
 
+def repeated(text, times):
+    """The text of the same plan with a period so many times as long: its spreads are so many times as great."""
+    lines = text.split("\n")
+    period = int(lines[1].split()[1])
+    words = " ".join(lines[2:]).split()
+    slots, first = words[:period] * times, next(i for i, line in enumerate(lines) if line.startswith("stream "))
+    claims = [line.split() for line in lines[first:]]
+    for claim in claims:
+        if claim[:1] == ["stream"]:
+            claim[3] = str(int(claim[3]) * times)
+    rows = [" ".join(slots[at:at + 24]) for at in range(0, len(slots), 24)]
+    return "\n".join(["tsplan 1", f"period {period * times}", *rows, *map(" ".join, claims)])
+
+
+def longest_check():
+    """As many streams and tables as a transponder has, and as many slots as a plan."""
+    made = dict(transponder("64 services", random.Random("the longest check")), private=1)
+    tables = "".join(f"[[table]]\npid = {7000 + n}\nlimit = 2000\nsections = {plan.PRIVATE[0][1]}\n".replace("'", '"') for n in range(64))
+    text = plan.text(dict(made, private=0), plan.rate_of(made, Fraction(1, 2)), True) + tables
+    found = plan.run("plan", text)[1]
+    longest = repeated(found, 65_536 // int(found.split("\n")[1].split()[1]))
+    with tempfile.TemporaryDirectory() as scratch:
+        one, two = Path(scratch, "one"), Path(scratch, "two")
+        one.write_text(text + longest)
+        two.write_text(text + longest + longest)
+        assert plan.accepted(text, longest)
+        alone = min(seconds([plan.binary, "check"], one) for _ in range(5))
+        switched = min(seconds([plan.binary, "check", "--switch"], two) for _ in range(5))
+    print(f"check of 65,536 slots, 254 streams, 133 tables: {1000 * alone:.0f} ms, of two such plans {1000 * switched:.0f} ms", flush=True)
+
+
 if __name__ == "__main__":
     plan.binary = sys.argv[1]
     for one in KINDS:
         measure(one, int(sys.argv[2]) if len(sys.argv) > 2 else 100)
+    longest_check()
