@@ -5,7 +5,7 @@
 //! those in step through a demultiplexer (`specs/Streams`); `frame_packets` cuts PES packets of sound
 //! (`specs/FramePackets`); `outcome` makes the job of its findings, and `reason_output` says why there is no plan
 //! (`specs/Outcomes`). `written` reads a stream, makes its outcome and writes it to the program's writers.
-//! `stream_files` takes streams from named files (`specs/StreamFiles`), and `files_outcome` makes one job of all of them
+//! `stream_files` takes streams from named files (`specs/StreamFiles`), and `files_outcome` makes one job of all these
 //! (`specs/SeveralInputs`). `job_lines` writes the lines, `recoding_lines` and `gap_lines` the lines about codings and
 //! clocks, and `left_out_count` the last; the status is the same whichever lines are reported (`status_stays`).
 #![tactic(auto)]
