@@ -1,6 +1,7 @@
--- A stream that is viewed as it comes: the lines of the events that each piece settles are written before the next piece is read.
-use Rattle.std.specs.Prelude.{◌≡◌, ◌⊎◌, ◌<◌, ℕ, ◌%◌, ◌*◌, Bool, true, false, if◌then◌else◌, List, [], ◌++◌, codes, length, take, Option, Some, Result}
+-- A stream that is viewed as it comes: the lines of the events that the bytes of a read settle are written before the next read.
+use Rattle.std.specs.Prelude.{◌≡◌, ◌⊎◌, ◌<◌, ◌≤◌, ℕ, ◌%◌, ◌*◌, Bool, true, false, if◌then◌else◌, List, [], ◌++◌, codes, length, take, Option, Some, Result}
 use Rattle.std.specs.Prelude.{Ok, Err}
+use Rattle.std.specs.Io.KnownBytes.{Consumes, IsAtEnd}
 use Rattle.capture.specs.Captures.{Part, capture_of, with_parts}
 use Rattle.capture.specs.Reading.{ReaderView, capture_left}
 use Rattle.ts_watch.specs.Choices.{RequestView}
@@ -60,7 +61,7 @@ pub record IsCalmAfter (first : AnalysisState) (bytes : List ℕ) : Type 0 where
   pub kept : IsAnalysed now (after_parts first found)
   pub calm : is_crowded now ≡ false
 
--- the most bytes that are read before the lines that they settle are written: 349 packets, somewhat more than 64 KiB
+-- the size of a piece, after which it is asked whether the view is crowded; no read gives more bytes: 349 packets, somewhat more than 64 KiB
 abbrev pub longest_piece : ℕ
 longest_piece = 349 * 188
 
@@ -85,6 +86,19 @@ abbrev pub StopsNext : Device → Halt → Type 0
 StopsNext input Read = HasFailed input
 StopsNext input Write = ⊥
 StopsNext input Memory = IsClean input
+
+-- the next n bytes of the input are at the front of a piece, none only if the input ended
+pub record CameFront (input : Device) (piece : List ℕ) (n : ℕ) : Type 0 where
+  pub fits : n ≤ length piece
+  pub known : Consumes input.before.bytes input.after.bytes (take n piece)
+  pub ends : n ≡ 0 → IsAtEnd input.after.bytes
+  pub clean : IsClean input
+
+abbrev pub ReadsSome : Device → List ℕ → Result ℕ Halt → Type 0
+ReadsSome input piece (Ok n) = CameFront input piece n
+ReadsSome input piece (Err Read) = HasFailed input
+ReadsSome input piece (Err Write) = ⊥
+ReadsSome input piece (Err Memory) = ⊥
 
 -- the input begins with these bytes
 abbrev pub BeginsWith : Option (List ℕ) → List ℕ → Type 0

@@ -1,26 +1,25 @@
 //! The input, read piece by piece, and the lines of the events that each piece settles.
-ghost use Rattle.std.specs.Prelude.{◌≡◌, ◌≤◌, ◌++◌, ℕ, List, [], IfOk, IfErr, OnOk, Ok, false, length, take};
+ghost use Rattle.std.specs.Prelude.{◌≡◌, ◌≤◌, ◌<◌, ◌%◌, ◌==◌, ◌&&◌, ◌++◌, ℕ, List, [], IfOk, IfErr, OnOk, Ok, false, length, take};
 ghost use Rattle.std.specs.Prelude.{string_bytes};
 ghost use Rattle.capture.specs.Captures.{Part};
 ghost use Rattle.analysis.specs.Analysis.{AnalysisState, start};
 ghost use Rattle.devices.specs.Devices.{reads, writes};
 ghost use Rattle.devices.specs.Lines.{WritesLine};
-ghost use Rattle.devices.specs.WholeInput.{ReadsFront};
 ghost use Rattle.ts_watch.specs.Choices.{RequestView};
 ghost use Rattle.analysis.specs.Analysis.{is_crowded};
 ghost use Rattle.tsview_cli.specs.CapturedStreams.{IsSoFar, rate_in};
-ghost use Rattle.tsview_cli.specs.Viewing.{Breaks, EndShows, Reaches, Sees, Shows, StopsNext, longest_piece};
+ghost use Rattle.tsview_cli.specs.Viewing.{Breaks, CameFront, EndShows, Reaches, ReadsSome, Sees, Shows, StopsNext, longest_piece};
 ghost use Rattle.tsview_cli.specs.Viewing as spec;
 
 use crate::captured::{CapturedView, rate_of};
 use counted_io::{Sink, Source};
-use devices::{Halt, LONGEST_INPUT, new_piece, read_piece, size_within, write_text};
+use devices::{Halt, LONGEST_INPUT, new_piece, size_within, write_text};
 use event_lines::{LineForm, write_events};
 use std::alloc::{AllocError, Global};
 use ts_report::ViewRequest;
 
-/// The size of a piece in bytes: 349 packets, somewhat more than 64 KiB, so that it is read past the buffer of standard
-/// input.
+/// The most bytes of a read: 349 packets, somewhat more than 64 KiB, so that they are read past the buffer of standard
+/// input. After each further piece of this size it is asked whether the view is crowded.
 const PIECE: usize = 349 * 188;
 
 /// What an input is, as far as it was viewed.
@@ -68,7 +67,18 @@ fn view_piece(
     }
 }
 
-// Reads the next piece of the input, and views it: the lines that it settles wait in the text. Returns its size.
+// Reads the next bytes of the input into a piece: as many as one call gives, none only if the input ends.
+fn read_some<R: Source>(input: &mut R, piece: &mut [u8]) -> Result<usize, Halt>
+    requires { 0 < length piece.old }
+    ensures { ReadsSome (reads R.Source input.old input.new) piece.new result }
+{
+    match input.read_some(piece) {
+        Ok(n) => Ok(n),
+        Err(_) => Err(Halt::Read),
+    }
+}
+
+// Reads the next bytes of the input, and views them: the lines that they settle wait in the text. Returns their number.
 fn view_next<R: Source>(
     alloc: Global,
     form: LineForm,
@@ -77,18 +87,17 @@ fn view_next<R: Source>(
     stream: &mut CapturedView,
     text: &mut String,
 ) -> Result<usize, Halt>
+    requires some { 0 < length piece.old }
     requires bound { length piece.old ≤ longest_piece }
     // No line that is settled waits to be written.
     requires out { string_bytes text.old ≡ [] }
-    // No stream has enough waiting units to stop the view.
-    requires calm { is_crowded stream.old.parts.view ≡ false }
-    ensures read { IfOk result (λ n. ReadsFront (reads R.Source input.old input.new) piece.new n) }
+    ensures read { IfOk result (λ n. CameFront (reads R.Source input.old input.new) piece.new n) }
     ensures shown { (first : AnalysisState) (bytes : List ℕ) (found : List Part) →
         IsSoFar first stream.old bytes found →
         IfOk result (λ n. Shows form first stream.new (bytes ++ take n piece.new) found (string_bytes text.new)) }
     ensures err { IfErr result (StopsNext (reads R.Source input.old input.new)) }
 {
-    let n = read_piece(input, piece)?;
+    let n = read_some(input, piece)?;
     view_piece(alloc, form, stream, &piece[..n], text)?;
     Ok(n)
 }
@@ -101,6 +110,13 @@ fn write_settled<W: Sink>(text: &mut String, output: &mut W) -> Result<(), Halt>
     write_text(text, output)?;
     text.clear();
     Ok(())
+}
+
+// Returns whether the view stops after this many bytes: at the end of a piece, if it is crowded.
+fn stops(size: usize, stream: &CapturedView) -> bool
+    ensures { result ≡ ((size % longest_piece == 0) && is_crowded stream.now.parts.view) }
+{
+    size % PIECE == 0 && stream.is_crowded()
 }
 
 // Views the input to its end, or until the view is crowded, and returns the size of what was viewed.
@@ -126,16 +142,17 @@ fn view_pieces<R: Source, W: Sink>(
 {
     let mut size = 0;
     while size <= LONGEST_INPUT {
-        let n = view_next(alloc, form, input, piece, stream, text)?;
+        let room = PIECE - size % PIECE;
+        let n = view_next(alloc, form, input, &mut piece[..room], stream, text)?;
         match write_settled(text, output) {
             Ok(()) => {}
             Err(halt) => return Err(halt),
         }
         size += n;
-        if n < piece.len() {
+        if n == 0 {
             return size_within(size);
         }
-        if stream.is_crowded() {
+        if stops(size, stream) {
             return Ok(size);
         }
     }
