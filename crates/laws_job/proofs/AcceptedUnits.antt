@@ -9,15 +9,16 @@ use Rattle.pes_packet.specs.AccessUnits.{AccessUnit}
 use Rattle.pes_packet.specs.Units.{units_of}
 use Rattle.description_parts.specs.Described.{Described, DescribedStream}
 use Rattle.description_parts.specs.Ranges.{IsInRange}
-use Rattle.description_parts.specs.Tables.{has_on_air}
+use Rattle.description_parts.specs.Tables.{has_on_air, stream_on_air}
 use Rattle.pid_findings.specs.Views.{FindingView}
+use Rattle.unit_queue.specs.Causes.{unit_cause}
 use Rattle.unit_queue.specs.Queues.{Kept}
 use Rattle.unit_queue.specs.declared.refusal.FeedError.{FeedError}
 use Rattle.mux_core.specs.Scheduled.{Scheduled}
 use Rattle.mux_core.specs.Histories.{owned_stream}
-use Rattle.mux_core.specs.MuxStates.{feed_cause}
+use Rattle.mux_core.specs.MuxStates.{feed_cause, if_on_air}
 use Rattle.mux_core.specs.Headline.{UnitsKept}
-use Rattle.mux_core.specs.WholeJobs.{or_cause, unit_refused, cause_after, first_refused}
+use Rattle.mux_core.specs.WholeJobs.{or_cause, unit_refused, cause_after, first_refused, job_history}
 use Rattle.mux_core.specs.declared.multiplexing.MuxError.{MuxError}
 use Rattle.mux_core.specs.declared.room.Room.TheVariants.{Units}
 use Rattle.mux_core.proofs.KnownRanges.{parameters_known}
@@ -150,7 +151,10 @@ one_taken law line fed rest entry s fit is =
     let size : length (units_of entry.0 (fed ++ (entry ∷ rest))) ≡ length (units_of entry.0 fed) + suc (length (units_of entry.0 rest)) =
     ap (length {A = AccessUnit}) parts ∙ length-append (units_of entry.0 fed) (entry.1 ∷ units_of entry.0 rest) in
     let kept = subst (λ (us : List AccessUnit). Kept (owned_stream line entry.0 s) us) parts (fit.kept.kept entry.0 s is) in
-    rw (is, fit.on_air entry.0 s is) (law (owned_stream line entry.0 s) 1048576 (units_of entry.0 fed) entry.1 (units_of entry.0 rest) (fit.kept.parameters entry.0 s is).rows kept
+    let on : stream_on_air line.description entry.0 ≡ true = rw (is, stream_on_air) (fit.on_air entry.0 s is) in
+    ap (feed_cause line (Units 1048576) (job_history fed 0) entry.0 entry.1) is
+    ∙ (ap (λ (b : Bool). if_on_air b (unit_cause (owned_stream line entry.0 s) 0 1048576 (units_of entry.0 fed) entry.1)) on
+    ∙ law (owned_stream line entry.0 s) 1048576 (units_of entry.0 fed) entry.1 (units_of entry.0 rest) (fit.kept.parameters entry.0 s is).rows kept
     (omega (arith, size, fit.few entry.0 s is)))
 
 none_then : (index : ℕ) (cause : Option FeedError) (next : Option MuxError) → cause ≡ None → next ≡ None → or_cause (unit_refused index cause) next ≡ None
