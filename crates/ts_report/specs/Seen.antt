@@ -196,7 +196,7 @@ reference_errors s packet = report_events_if packet.header.pid (report_on s pack
 
 abbrev pub with_clock : SeenState → PacketView → SeenState
 with_clock s packet = record s {
-  clocks = clocks_after s.clocks s.options.arrival s.packets s.named packet;
+  clocks = clocks_after s.clocks s.options.arrival s.packets packet;
   watches = watching.taken s.watches s.packets packet;
   references = references_on s packet;
   rules = rules.taken (with_judge s.rules (judge_on s packet)) s.options.arrival s.packets s.named packet;
