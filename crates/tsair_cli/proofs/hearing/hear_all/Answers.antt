@@ -65,7 +65,7 @@ records-preserved-then-is_lost g c =
           (c.in-Ok-Changed.ensures.heard run m.airs.heard_is.count m.airs.came (g.R.Read.remaining c.args.input.now) start m.state
           m.airs.heard_is.heard_is))
           (λ a on. c.texts-texts.ensures run a start _ on) c.report_change-is_lost.ensures
-          (sym (ap (λ (b : Bool). b || c.records.has_lost) c.if-is_lost.true));
+          (c.if-is_lost.true ∙ sym (ap (λ (b : Bool). b || c.records.has_lost) c.if-is_lost.true));
     }
 
 pub records-preserved-else-is_lost : goal.records-preserved-else-is_lost
