@@ -27,7 +27,7 @@ use Rattle.job_programs.specs.Information.{NamedServiceView, named_service, netw
 use Rattle.word_faults.specs.GivenOptions.{given_options}
 use Rattle.tsjob_cli.specs.FileMark.{has_mark}
 use Rattle.job_run.specs.JobArguments.{JobArgumentsView}
-use Rattle.tsjob_cli.specs.Arguments.{aligned_in, arguments_in, arguments_of, lead_in, limit_in, options_in, programs_in, rate_in, stream_of, values_of}
+use Rattle.tsjob_cli.specs.Arguments.{aligned_in, arguments_in, arguments_of, lead_in, limit_in, options_in, programs_in, rate_in, stream_of, values_of, frames_in}
 use Rattle.tsjob_cli.specs.Arguments.{without_in}
 use Rattle.tsjob_cli.specs.Options.{options}
 use Rattle.tsjob_cli.specs.Subcommands.{subcommand_of}
@@ -174,7 +174,8 @@ values_plain rows v e =
     let start = given_some (start_of (first_of (codes "start") rows)) _ v rate.1.1 in
     let pcr_limit = given_some (limit_in rows) _ v start.1.1 in
     let lead = given_some (lead_in rows) _ v pcr_limit.1.1 in
-    let declare_by = given_some (declare_by_of (first_of (codes "declare") rows)) _ v lead.1.1 in
+    let frames = given_some (frames_in rows) _ v lead.1.1 in
+    let declare_by = given_some (declare_by_of (first_of (codes "declare") rows)) _ v frames.1.1 in
     let clock = given_some (clock_sharing_of (first_of (codes "clock") rows)) _ v declare_by.1.1 in
     let base = given_some (base_of (first_of (codes "base") rows)) _ v clock.1.1 in
     subst (λ (x : JobArgumentsView). PlainIfAny x.options.start) (same_value _ v base.1.1) (start_plain (first_of (codes "start") rows) start.0 start.1.0)
