@@ -5,7 +5,7 @@ ghost use Rattle.own_slots.specs.Period.{per_period, position};
 ghost use Rattle.slot_plan.specs.Items.{marks};
 
 use crate::period::Period;
-use slot_plan::{Item, Slot};
+use slot_plan::Item;
 
 /// Returns the number of the item's own slots in a period.
 pub fn own_count(slots: &Period<'_>, item: Item) -> u64
@@ -27,18 +27,23 @@ pub fn own_count(slots: &Period<'_>, item: Item) -> u64
 }
 
 /// Returns the slot of the item's own slot number `number`, from 0, in a period.
-pub fn own_slot(slots: &[Slot], item: Item, number: u64) -> u64
+pub fn own_slot(slots: &Period<'_>, item: Item, number: u64) -> u64
     requires { number < per_period (marks item slots.now) }
     ensures slot { result ≡ position (marks item slots.now) number }
     ensures within { result < length slots.now }
 {
+    let period = slots.len();
     let mut count: u64 = 0;
-    for (at, slot) in slots.iter().enumerate() {
-        if item.owns(*slot) {
+    let mut at = 0;
+    'walk: while at < period {
+        if slots.owns(item, at) {
             if count == number {
                 return at as u64;
             }
             count += 1;
+            at = slots.next(item, at);
+        } else {
+            at += 1;
         }
     }
     0

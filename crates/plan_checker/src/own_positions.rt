@@ -17,8 +17,8 @@ pub fn position(slots: &Period<'_>, item: Item, number: u64) -> u64
     ensures { result ≡ position (marks item slots.now) number }
 {
     let count = own_count(slots, item);
-    let all = slots.slots();
-    own_slot(all, item, number % count) + number / count * all.len() as u64
+    let period = slots.len() as u64;
+    own_slot(slots, item, number % count) + number / count * period
 }
 
 /// Returns the next own slot after an own slot.

@@ -86,13 +86,6 @@ impl<'a> Period<'a> {
         }
     }
 
-    /// Returns the slots without their links.
-    pub fn slots(&self) -> &'a [Slot]
-        ensures { result.now ≡ self.now }
-    {
-        self.slots
-    }
-
     /// Returns the number of slots.
     pub fn len(&self) -> usize
         ensures { result ≡ length self.now }

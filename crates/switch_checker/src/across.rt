@@ -40,8 +40,8 @@ pub fn last_from_end(slots: &Period<'_>, item: Item) -> u64
     ensures last { result ≡ back (marks item slots.now) 1 }
     ensures within { result ≤ length slots.now }
 {
-    let all = slots.slots();
-    all.len() as u64 - own_slot(all, item, own_count(slots, item) - 1)
+    let period = slots.len() as u64;
+    period - own_slot(slots, item, own_count(slots, item) - 1)
 }
 
 /// Returns how many slots later the second plan's last own slot is, counted from its period's end, than the first's.

@@ -1,32 +1,37 @@
-use Rattle.std.proofs.Common.{◌≡◌, length, arith, ap, sym, ◌∙◌}
+use Rattle.std.proofs.Common.{◌≡◌, ◌+◌, length, arith, ap, sym, ◌∙◌}
 use Rattle.own_slots.specs.Slots.{own_before}
 use Rattle.own_slots.specs.Period.{own}
 use Rattle.slot_plan.specs.Items.{marks}
 use Rattle.plan_checker.proofs.own_counts.own_slot.Goals as goal
-use Rattle.plan_checker.proofs.own_counts.own_slot.Goals.{then-owns+else-count-number, else-owns}
-use Rattle.plan_checker.proofs.OwnMarks.{own_before_mark, own_before_unmarked, own_before_none, own_before_all, position_found, some_slots}
+use Rattle.plan_checker.proofs.OwnMarks.{own_before_after_own, own_before_after_other, own_before_none, own_before_all, position_here, some_slots}
+use Rattle.plan_checker.proofs.OwnWalks.{counted_over}
 
-pub loop-at-init : goal.loop-at-init
-loop-at-init c = record { counted = sym (own_before_none c.args.item c.args.slots.now); few = omega arith }
+pub walk-init : goal.walk-init
+walk-init c = record { within = omega arith; counted = sym (own_before_none c.args.item c.args.slots.now); few = omega arith }
 
 pub returns-then-count-number-clause-slot : goal.returns-then-count-number-clause-slot
 returns-then-count-number-clause-slot c =
-    sym (position_found c.args.item c.args.slots.now c.loop-at.at c.args.number _ c.loop-at-test.true (sym c.owns.ensures ∙ c.if-owns.true) (omega arith)
-    (omega arith))
+    sym (position_here c.args.item c.args.slots.now c.walk.at c.args.number (sym c.owns.ensures ∙ c.if-owns.true)
+    (omega (arith, c.walk.invariant.counted)) (omega arith))
 
-pub loop-at-preserved : goal.loop-at-preserved
-loop-at-preserved c = elim c.if-owns.branch [
-  | then-owns+else-count-number w ↦
-      let e = own_before_mark c.args.item c.args.slots.now c.loop-at.at _ c.loop-at-test.true (sym c.owns.ensures ∙ w.if-owns.true) in
-      record { counted = omega (arith, e); few = omega arith }
-  | else-owns w ↦
-      let e = own_before_unmarked c.args.item c.args.slots.now c.loop-at.at _ c.loop-at-test.true (sym c.owns.ensures ∙ w.if-owns.false) in
-      record { counted = omega (arith, e); few = omega arith }
-]
+pub walk-preserved-then-owns : goal.walk-preserved-then-owns
+walk-preserved-then-owns c =
+    let e = own_before_after_own c.args.item c.args.slots.now c.walk.at (sym c.owns.ensures ∙ c.if-owns.true) in
+    let f = counted_over c.args.item c.args.slots.now (c.walk.at + 1) c.next-at.result c.next-at.ensures in
+    record {
+      within = omega (arith, c.next-at.ensures.within);
+      counted = omega (arith, c.walk.invariant.counted, e, f);
+      few = omega arith;
+    }
+
+pub walk-preserved : goal.walk-preserved
+walk-preserved c =
+    let e = own_before_after_other c.args.item c.args.slots.now c.walk.at (sym c.owns.ensures ∙ c.if-owns.false) in
+    record { within = omega arith; counted = omega (arith, e); few = omega arith }
 
 pub returns-clause-slot : goal.returns-clause-slot
 returns-clause-slot c =
-    let e : c.loop-at.at ≡ length c.args.slots.now = omega arith in
+    let e : c.walk.at ≡ length c.args.slots.now = omega arith in
     let all = ap (own_before (own (marks c.args.item c.args.slots.now))) e ∙ own_before_all c.args.item c.args.slots.now in
     absurd (omega (arith, all))
 
