@@ -27,15 +27,6 @@ mark_at item slots i d lt =
     let e : i % length (marks item slots) ≡ i = mod-eq_of_lt small in
     ap (λ (j : ℕ). get_or (marks item slots) j false) e ∙ get_or-map (is_own item) slots i d false lt
 
--- The number of own slots before the next slot is one higher after an own slot.
-pub own_before_mark : (item : Item) (slots : List Slot) (i : ℕ) (d : Slot) → i < length slots → is_own item (get_or slots i d) ≡ true →
-    own_before (own (marks item slots)) (i + 1) ≡ own_before (own (marks item slots)) i + 1
-own_before_mark item slots i d lt y = rw (add-one i) (own_before_own (own (marks item slots)) i (mark_at item slots i d lt ∙ y))
-
-pub own_before_unmarked : (item : Item) (slots : List Slot) (i : ℕ) (d : Slot) → i < length slots → is_own item (get_or slots i d) ≡ false →
-    own_before (own (marks item slots)) (i + 1) ≡ own_before (own (marks item slots)) i
-own_before_unmarked item slots i d lt n = rw (add-one i) (own_before_other (own (marks item slots)) i (mark_at item slots i d lt ∙ n))
-
 pub own_before_none : (item : Item) (slots : List Slot) → own_before (own (marks item slots)) 0 ≡ 0
 unfolding own_before
 own_before_none item slots = refl
@@ -43,12 +34,6 @@ own_before_none item slots = refl
 -- The number of own slots before the end of the period is the number of own slots of the period.
 pub own_before_all : (item : Item) (slots : List Slot) → own_before (own (marks item slots)) (length slots) ≡ per_period (marks item slots)
 own_before_all item slots = ap (own_before (own (marks item slots))) (sym (length_marks item slots)) ∙ own_before_period (marks item slots)
-
--- An own slot is at the position of its number.
-pub position_found : (item : Item) (slots : List Slot) (i number : ℕ) (d : Slot) → i < length slots → is_own item (get_or slots i d) ≡ true →
-    own_before (own (marks item slots)) i ≡ number → 0 < per_period (marks item slots) → position (marks item slots) number ≡ i
-position_found item slots i number d lt y e pos =
-    ap (position (marks item slots)) (sym e) ∙ (positions_law (marks item slots) pos).found i (mark_at item slots i d lt ∙ y)
 
 -- The repeated period
 

@@ -1,9 +1,9 @@
 -- Walks over the own slots of an item
 use Rattle.std.specs.Prelude.{◌==◌}
-use Rattle.std.proofs.Common.{◌≡◌, ℕ, zero, suc, Some, ◌+◌, ◌-◌, ◌*◌, ◌/◌, ◌%◌, ◌<◌, ◌≤◌, true, false, List, length, get_or, refl, ap, sym, ◌∙◌, arith}
+use Rattle.std.proofs.Common.{◌≡◌, ℕ, zero, suc, Some, inl, inr, ◌+◌, ◌-◌, ◌*◌, ◌/◌, ◌%◌, ◌<◌, ◌≤◌, true, false, List, length, get_or, refl, ap, sym, ◌∙◌, arith}
 use Rattle.std.proofs.Math.Nat.{mod-add-div'}
 use Rattle.std.proofs.lemmas.Nat.{mod_below}
-use Rattle.std.proofs.lemmas.Bool.{eqb-false, eqb-true, ne_eqb}
+use Rattle.std.proofs.lemmas.Bool.{cases_lt, eqb-false, eqb-true, ne_eqb}
 use Rattle.own_slots.specs.Slots.{own_before}
 use Rattle.own_slots.specs.Period.{own, position}
 use Rattle.own_slots.specs.Extremes.{greatest, least}
@@ -21,17 +21,10 @@ use Rattle.slot_plan.specs.declared.slot.Item.TheVariants.{Stream, Pcr, Table, S
 use Rattle.slot_plan.specs.Items.{is_own, marks}
 use Rattle.slot_plan.proofs.LeastGaps.{near_ahead, near_same}
 use Rattle.slot_plan.specs.Links.{AreLinks, IsAbsent, key_at, slot_key}
-use Rattle.plan_checker.specs.OwnWalks.{IsForeign, follows_links}
-use Rattle.plan_checker.proofs.OwnMarks.{length_marks, mark_at, mark_cyclic, mark_within, own_before_after_other, own_before_after_own, work_other}
+use Rattle.plan_checker.specs.OwnWalks.{IsForeign, has_kind}
+use Rattle.plan_checker.proofs.OwnMarks.{length_marks, mark_at, mark_cyclic, mark_within, own_before_after_other, work_other}
 
 -- Links
-
-pub no_link : (slots : List Slot) (key from to : ℕ) → from ≡ to → to ≤ length slots → IsAbsent slots key from to
-no_link slots key from to e le = record {
-  after = omega (arith, e);
-  within = le;
-  others = λ t a b. absurd (omega (arith, a, b, e));
-}
 
 pub linked_at : (slots : List Slot) (links : List ℕ) (i at next : ℕ) → AreLinks slots (Some links) → at < length slots → i ≡ length slots - 1 - at →
     next ≡ get_or links i 0 → IsAbsent slots (key_at slots at) (suc at) next
@@ -43,62 +36,75 @@ linked_at slots links i at next linked within e found = rw (here (length slots) 
     here : (n : ℕ) → i ≡ n - 1 - at → next ≡ get_or links (n - suc at) 0
     here n e = found ∙ sym (ap (λ (j : ℕ). get_or links j 0) (there n e))
 
--- Contents that differ from an own slot's are foreign.
+-- Content of another kind than the own slots' is foreign.
 abbrev item_key : Item → ℕ
-item_key (Stream n) = 3 * n + 1
-item_key (Pcr n) = 3 * n + 2
-item_key (Table n) = 3 * n + 3
-item_key (System n) = 0
+item_key (Stream n) = 2 * n + 2
+item_key (Pcr n) = 2 * n + 3
+item_key (Table n) = 1
+item_key (System n) = 1
 
-own_key : (item : Item) (s : Slot) → follows_links item ≡ true → is_own item s ≡ true → slot_key s ≡ item_key item
-own_key (Stream n) (StreamSlot m) f o = omega (arith, eqb-true n m o)
-own_key (Stream n) (PcrSlot m) f o = absurd (cc)
-own_key (Stream n) (TableSlot m) f o = absurd (cc)
-own_key (Stream n) Null f o = absurd (cc)
-own_key (Pcr n) (StreamSlot m) f o = absurd (cc)
-own_key (Pcr n) (PcrSlot m) f o = omega (arith, eqb-true n m o)
-own_key (Pcr n) (TableSlot m) f o = absurd (cc)
-own_key (Pcr n) Null f o = absurd (cc)
-own_key (Table n) (StreamSlot m) f o = absurd (cc)
-own_key (Table n) (PcrSlot m) f o = absurd (cc)
-own_key (Table n) (TableSlot m) f o = omega (arith, eqb-true n m o)
-own_key (Table n) Null f o = absurd (cc)
-own_key (System n) s f o = absurd (cc)
+kind_key : (item : Item) (s : Slot) → has_kind item s ≡ true → slot_key s ≡ item_key item
+kind_key (Stream n) (StreamSlot m) k = omega (arith, eqb-true n m k)
+kind_key (Stream n) (PcrSlot m) k = absurd (cc)
+kind_key (Stream n) (TableSlot m) k = absurd (cc)
+kind_key (Stream n) Null k = absurd (cc)
+kind_key (Pcr n) (StreamSlot m) k = absurd (cc)
+kind_key (Pcr n) (PcrSlot m) k = omega (arith, eqb-true n m k)
+kind_key (Pcr n) (TableSlot m) k = absurd (cc)
+kind_key (Pcr n) Null k = absurd (cc)
+kind_key (Table n) (StreamSlot m) k = absurd (cc)
+kind_key (Table n) (PcrSlot m) k = absurd (cc)
+kind_key (Table n) (TableSlot m) k = refl
+kind_key (Table n) Null k = absurd (cc)
+kind_key (System n) (StreamSlot m) k = absurd (cc)
+kind_key (System n) (PcrSlot m) k = absurd (cc)
+kind_key (System n) (TableSlot m) k = refl
+kind_key (System n) Null k = absurd (cc)
 
-other_key : (item : Item) (t : Slot) → follows_links item ≡ true → (slot_key t == item_key item) ≡ false → is_own item t ≡ false
-other_key (Stream n) (StreamSlot m) f d = ne_eqb n m (λ e. eqb-false (3 * m + 1) (3 * n + 1) d (omega (arith, e)))
-other_key (Stream n) (PcrSlot m) f d = refl
-other_key (Stream n) (TableSlot m) f d = refl
-other_key (Stream n) Null f d = refl
-other_key (Pcr n) (StreamSlot m) f d = refl
-other_key (Pcr n) (PcrSlot m) f d = ne_eqb n m (λ e. eqb-false (3 * m + 2) (3 * n + 2) d (omega (arith, e)))
-other_key (Pcr n) (TableSlot m) f d = refl
-other_key (Pcr n) Null f d = refl
-other_key (Table n) (StreamSlot m) f d = refl
-other_key (Table n) (PcrSlot m) f d = refl
-other_key (Table n) (TableSlot m) f d = ne_eqb n m (λ e. eqb-false (3 * m + 3) (3 * n + 3) d (omega (arith, e)))
-other_key (Table n) Null f d = refl
-other_key (System n) t f d = absurd (cc)
+other_key : (item : Item) (t : Slot) → (slot_key t == item_key item) ≡ false → is_own item t ≡ false
+other_key (Stream n) (StreamSlot m) d = ne_eqb n m (λ e. eqb-false (2 * m + 2) (2 * n + 2) d (omega (arith, e)))
+other_key (Stream n) (PcrSlot m) d = refl
+other_key (Stream n) (TableSlot m) d = refl
+other_key (Stream n) Null d = refl
+other_key (Pcr n) (StreamSlot m) d = refl
+other_key (Pcr n) (PcrSlot m) d = ne_eqb n m (λ e. eqb-false (2 * m + 3) (2 * n + 3) d (omega (arith, e)))
+other_key (Pcr n) (TableSlot m) d = refl
+other_key (Pcr n) Null d = refl
+other_key (Table n) (StreamSlot m) d = refl
+other_key (Table n) (PcrSlot m) d = refl
+other_key (Table n) (TableSlot m) d = absurd (eqb-false 1 1 d refl)
+other_key (Table n) Null d = refl
+other_key (System n) (StreamSlot m) d = refl
+other_key (System n) (PcrSlot m) d = refl
+other_key (System n) (TableSlot m) d = absurd (eqb-false 1 1 d refl)
+other_key (System n) Null d = refl
 
-apart : (item : Item) (s t : Slot) → follows_links item ≡ true → is_own item s ≡ true → (slot_key t == slot_key s) ≡ false → is_own item t ≡ false
-apart item s t f o d = other_key item t f (ap (λ (k : ℕ). slot_key t == k) (sym (own_key item s f o)) ∙ d)
+apart : (item : Item) (s t : Slot) → has_kind item s ≡ true → (slot_key t == slot_key s) ≡ false → is_own item t ≡ false
+apart item s t k d = other_key item t (ap (λ (n : ℕ). slot_key t == n) (sym (kind_key item s k)) ∙ d)
 
-pub foreign_here : (item : Item) (slots : List Slot) (from to : ℕ) → from ≡ to → to ≤ length slots → IsForeign item slots from to
-foreign_here item slots from to e le = record {
-  after = omega (arith, e);
-  within = le;
-  others = λ t a b. absurd (omega (arith, a, b, e));
-}
-
-pub foreign_over : (item : Item) (slots : List Slot) (at to : ℕ) → at < length slots → follows_links item ≡ true →
-    own (marks item slots) at ≡ true → IsAbsent slots (key_at slots at) (suc at) to → IsForeign item slots (at + 1) to
-foreign_over item slots at to within follows owned h = record {
+pub foreign_over : (item : Item) (slots : List Slot) (at to : ℕ) → has_kind item (get_or slots at Null) ≡ true →
+    IsAbsent slots (key_at slots at) (suc at) to → IsForeign item slots (at + 1) to
+foreign_over item slots at to kind h = record {
   after = omega (arith, h.after);
   within = h.within;
   others = λ t a b. mark_at item slots t Null (omega (arith, b, h.within))
-      ∙ apart item (get_or slots at Null) (get_or slots t Null) follows
-      (sym (mark_at item slots at Null within) ∙ owned) (h.others t (omega (arith, a)) b);
+      ∙ apart item (get_or slots at Null) (get_or slots t Null) kind (h.others t (omega (arith, a)) b);
 }
+
+-- A foreign slot before foreign slots is one more of them.
+pub foreign_from : (item : Item) (slots : List Slot) (at to : ℕ) → own (marks item slots) at ≡ false → IsForeign item slots (at + 1) to →
+    IsForeign item slots at to
+foreign_from item slots at to n h = record {
+  after = omega (arith, h.after);
+  within = h.within;
+  others = λ t a b. elim (cases_lt at t) [
+    | inl lt ↦ h.others t (omega (arith, lt)) b
+    | inr le ↦ ap (λ (s : ℕ). own (marks item slots) s) (same t at a le) ∙ n
+  ];
+}
+  where
+    same : (t at : ℕ) → at ≤ t → t ≤ at → t ≡ at
+    same t at a b = omega (arith, a, b)
 
 -- What stays over foreign slots
 
@@ -154,11 +160,10 @@ own_turned item slots i period e pos =
     ap (λ (n : ℕ). own (marks item slots) (i % n)) e
     ∙ mark_at item slots (i % length slots) Null (mod_below i (length slots) pos) ∙ sym (mark_cyclic item slots i Null pos)
 
--- As many own slots are before the next own slot, in any period, as up to the own slot before it.
-pub counted_turned : (item : Item) (slots : List Slot) (from next n : ℕ) → n ≡ length slots → own (marks item slots) from ≡ true →
-    IsForeign item slots (from % n + 1) next →
-    own_before (own (marks item slots)) (from + (next - from % n)) ≡ own_before (own (marks item slots)) from + 1
-counted_turned item slots from next n e y h =
+-- Own slots that are counted in any period, over foreign slots.
+pub turned_over : (item : Item) (slots : List Slot) (from next n : ℕ) → n ≡ length slots → IsForeign item slots (from % n + 1) next →
+    own_before (own (marks item slots)) (from + (next - from % n)) ≡ own_before (own (marks item slots)) (from + 1)
+turned_over item slots from next n e h =
     let turns : ℕ = from / n in
     let split : from % n + turns * n ≡ from = mod-add-div' from n in
     let long : turns * length (marks item slots) ≡ turns * n = ap (λ (k : ℕ). turns * k) (length_marks item slots ∙ sym e) in
@@ -171,7 +176,6 @@ counted_turned item slots from next n e y h =
       counted_over item slots (from % n + 1) next h,
       own_before_turns (marks item slots) (from % n + 1) turns,
       ap (λ (k : ℕ). own_before (own (marks item slots)) k) after,
-      own_before_after_own item slots from y,
     )
 
 -- Work

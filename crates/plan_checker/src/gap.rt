@@ -27,7 +27,7 @@ pub fn greatest_gap(slots: &Period<'_>, item: Item, row: u64) -> u64
             ahead = next_own_slot(slots, item, ahead);
             at = slots.next(item, at);
         } else {
-            at += 1;
+            at = slots.next(item, at);
         }
     }
     greatest

@@ -4,7 +4,8 @@
 //! - [`check`]: one plan, to a [`CheckedPlan`] or a [`Refusal`].
 //! - [`failing`]: every condition that one plan does not keep.
 //! - [`own_count`], [`greatest_gap`], [`spread_of`], [`work_of`], [`empty_slots`]: the numbers of an item's own slots
-//!   that the conditions compare, each in one walk over a period.
+//!   that the conditions compare, each in one walk over a [`Period`]: by its links, if it has any. [`empty_slots`]
+//!   walks over each slot.
 //! - [`steady_packets`], [`steady_time`], [`packets_in_row`], [`waiting_slots`], [`bytes_by_units`], [`ahead_of`],
 //!   [`left_of_unit`]: the numbers of a stream's declaration.
 //!

@@ -20,7 +20,7 @@ pub fn own_count(slots: &Period<'_>, item: Item) -> u64
             count += 1;
             at = slots.next(item, at);
         } else {
-            at += 1;
+            at = slots.next(item, at);
         }
     }
     count
@@ -43,7 +43,7 @@ pub fn own_slot(slots: &Period<'_>, item: Item, number: u64) -> u64
             count += 1;
             at = slots.next(item, at);
         } else {
-            at += 1;
+            at = slots.next(item, at);
         }
     }
     0

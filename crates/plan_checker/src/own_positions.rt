@@ -33,10 +33,12 @@ pub fn next_own_slot(slots: &Period<'_>, item: Item, from: u64) -> u64
     let place = from % period;
     let mut at = from + (slots.next(item, place as usize) as u64 - place);
     'walk: while at < from + period {
-        if slots.owns(item, (at % period) as usize) {
+        let here = at % period;
+        if slots.owns(item, here as usize) {
             return at;
         }
-        at += 1;
+        let next = slots.next(item, here as usize) as u64;
+        at += next - here;
     }
     from + period
 }

@@ -1,10 +1,11 @@
-//! The slots of a period, walked from an own slot of an item to its next one.
+//! The slots of a period, walked to the own slots of an item by links.
 
-ghost use Rattle.std.specs.Prelude.{◌≡◌, ◌<◌, length, suc, option_map};
+ghost use Rattle.std.specs.Prelude.{◌≡◌, ◌<◌, length, suc, slice_index_or, option_map};
 ghost use Rattle.own_slots.specs.Period.{own};
 ghost use Rattle.slot_plan.specs.Items.{marks};
 ghost use Rattle.slot_plan.specs.Links.{AreLinks, IsAbsent, key_at};
-ghost use Rattle.plan_checker.specs.OwnWalks.{follows_links};
+ghost use Rattle.slot_plan.specs.declared.slot.Slot.TheVariants.{Null};
+ghost use Rattle.plan_checker.specs.OwnWalks.{has_kind};
 
 use slot_plan::{Item, Plan, Slot};
 use std::alloc::Allocator;
@@ -30,14 +31,24 @@ impl<'a> Model for Period<'a> {
     ghost invariant = { λ p. AreLinks p.slots.now (option_map (λ links. links.now) p.links) };
 }
 
-/// Returns whether links lead from an own slot of the item to its next one.
-fn follows_links(item: Item) -> bool
-    ensures { result ≡ follows_links item }
+/// Returns whether a slot's content is of the kind of the item's own slots.
+fn has_kind(item: Item, slot: Slot) -> bool
+    ensures { result ≡ has_kind item slot }
 {
-    match item {
-        Item::Stream(_) | Item::Pcr(_) | Item::Table(_) => true,
-        Item::System(_) => false,
+    match (item, slot) {
+        (Item::Stream(own), Slot::Stream(number)) => own == number,
+        (Item::Pcr(own), Slot::Pcr(number)) => own == number,
+        (Item::Table(_) | Item::System(_), Slot::Table(_)) => true,
+        _ => false,
     }
+}
+
+/// Returns whether the content of slot number `at` is of the kind of the item's own slots.
+fn has_kind_at(slots: &[Slot], item: Item, at: usize) -> bool
+    requires { at < length slots.now }
+    ensures { result ≡ has_kind item (slice_index_or slots.now at Null) }
+{
+    has_kind(item, slots[at])
 }
 
 /// Returns whether slot number `at` is the item's own.
@@ -115,7 +126,7 @@ impl<'a> Period<'a> {
         requires { at < length self.now }
         ensures { IsForeign item self.now (at + 1) result }
     {
-        if follows_links(item) && owns_at(self.slots, item, at) {
+        if has_kind_at(self.slots, item, at) {
             link_of(self.slots, self.links, at)
         } else {
             at + 1

@@ -39,7 +39,7 @@ pub fn least_gap(slots: &Period<'_>, item: Item, row: u64) -> u64
             ahead = next_own_slot(slots, item, ahead);
             at = slots.next(item, at);
         } else {
-            at += 1;
+            at = slots.next(item, at);
         }
     }
     least

@@ -33,7 +33,7 @@ pub fn spread_of(slots: &Period<'_>, item: Item) -> u64
             number += 1;
             at = slots.next(item, at);
         } else {
-            at += 1;
+            at = slots.next(item, at);
         }
     }
     highest.saturating_sub(lowest)

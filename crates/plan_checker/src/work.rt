@@ -40,15 +40,16 @@ pub fn work_of(slots: &Period<'_>, item: Item, rate: u64, drain: u64, start: u64
     let mut at = 0;
     'walk: while at < period {
         let left = work.saturating_sub(drained);
+        let next = slots.next(item, at);
+        let rest = drained * (next - at - 1) as u64;
         if slots.owns(item, at) {
-            let next = slots.next(item, at);
             most_before = most_before.max(work + packet);
             most_after = most_after.max(left + packet);
-            work = (left + packet).saturating_sub(drained * (next - at - 1) as u64);
+            work = (left + packet).saturating_sub(rest);
             at = next;
         } else {
-            work = left;
-            at += 1;
+            work = left.saturating_sub(rest);
+            at = next;
         }
     }
     Work {

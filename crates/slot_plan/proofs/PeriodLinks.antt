@@ -10,11 +10,11 @@ use Rattle.slot_plan.specs.Links.{AreLinks, IsAbsent, key_at}
 pub moved : (slots : List Slot) (key key' from from' to to' : ℕ) → key' ≡ key → from' ≡ from → to' ≡ to → IsAbsent slots key from to → IsAbsent slots key' from' to'
 moved slots key key' from from' to to' k f t h = rw (k, f, t) h
 
--- The links of the last `back` slots, and the first slot of each content among them
+-- The links of the last `back` slots, and the first slot of each kind among them
 pub record LinksFrom (slots : List Slot) (links first : List ℕ) (back : ℕ) : Type 0 where
   pub made : length links ≡ back
-  pub size : length first ≡ 769
-  pub firsts : (k : ℕ) → k < 769 → IsAbsent slots k (length slots - back) (get_or first k 0)
+  pub size : length first ≡ 514
+  pub firsts : (k : ℕ) → k < 514 → IsAbsent slots k (length slots - back) (get_or first k 0)
   pub each : (i : ℕ) → i < back → IsAbsent slots (key_at slots (length slots - suc i)) (length slots - i) (get_or links i 0)
 
 end_absent : (slots : List Slot) (k from : ℕ) → from ≡ length slots → IsAbsent slots k from (length slots)
@@ -24,12 +24,12 @@ end_absent slots k from e = record {
   others = λ t a b. absurd (omega (arith, a, b, e));
 }
 
-pub links_none : (slots : List Slot) (first : List ℕ) → first ≡ replicate 769 (length slots) → LinksFrom slots [] first 0
+pub links_none : (slots : List Slot) (first : List ℕ) → first ≡ replicate 514 (length slots) → LinksFrom slots [] first 0
 links_none slots first e = record {
   made = refl;
-  size = ap length e ∙ sized 769 (length slots);
+  size = ap length e ∙ sized 514 (length slots);
   firsts = λ k lt. moved slots k k (length slots) (length slots - 0) (length slots) (get_or first k 0) refl (omega arith)
-      (ap (λ (xs : List ℕ). get_or xs k 0) e ∙ get_or-replicate 769 k (length slots) 0 lt) (end_absent slots k (length slots) refl);
+      (ap (λ (xs : List ℕ). get_or xs k 0) e ∙ get_or-replicate 514 k (length slots) 0 lt) (end_absent slots k (length slots) refl);
   each = λ i lt. absurd (omega (arith, lt));
 }
   where
@@ -59,7 +59,7 @@ one_before slots k at from from' to e f other h = record {
     same t at a b = omega (arith, a, b)
 
 pub links_more : (slots : List Slot) (links first : List ℕ) (back at key : ℕ) → back < length slots → at ≡ length slots - 1 - back →
-    key ≡ key_at slots at → key < 769 → LinksFrom slots links first back →
+    key ≡ key_at slots at → key < 514 → LinksFrom slots links first back →
     LinksFrom slots (links ++ get_or first key 0 ∷ []) (set first key at) (back + 1)
 links_more slots links first back at key within is keyed few h = record {
   made = length-append links (get_or first key 0 ∷ []) ∙ omega (arith, h.made);

@@ -4,12 +4,12 @@ use Rattle.own_slots.specs.Period.{own, position}
 use Rattle.own_slots.specs.Extremes.{greatest}
 use Rattle.own_slots.specs.Gaps.{ahead}
 use Rattle.own_slots.proofs.Extremes.{greatest_none}
-use Rattle.own_slots.proofs.Gaps.{gap_more, gap_same, gap_walk_law}
+use Rattle.own_slots.proofs.Gaps.{gap_more, gap_walk_law}
 use Rattle.slot_plan.specs.Items.{marks}
 use Rattle.plan_checker.proofs.gap.greatest_gap.Goals as goal
 use Rattle.clock27.proofs.MinMax.{max_is}
-use Rattle.plan_checker.proofs.OwnMarks.{length_marks, own_before_none, own_before_after_other, position_ahead, position_own, position_near, one_ahead}
-use Rattle.plan_checker.proofs.OwnWalks.{counted_over, gap_over}
+use Rattle.plan_checker.proofs.OwnMarks.{length_marks, own_before_none, position_ahead, position_own, position_near, one_ahead}
+use Rattle.plan_checker.proofs.OwnWalks.{counted_over, foreign_from, gap_over}
 
 pub walk-init : goal.walk-init
 walk-init c = record {
@@ -60,13 +60,13 @@ walk-preserved-then-owns c =
 
 pub walk-preserved : goal.walk-preserved
 walk-preserved c =
-    let n = sym c.owns.ensures ∙ c.if-owns.false in
+    let n = foreign_from c.args.item c.args.slots.now c.walk.at c.next-at-else-owns.result (sym c.owns.ensures ∙ c.if-owns.false) c.next-at-else-owns.ensures in
     record {
-      within = omega arith;
-      found = c.walk.invariant.found ∙ sym (gap_same (marks c.args.item c.args.slots.now) c.args.row c.walk.at n);
+      within = omega (arith, n.within);
+      found = c.walk.invariant.found ∙ sym (gap_over c.args.item c.args.slots.now c.args.row c.walk.at c.next-at-else-owns.result n);
       next = c.walk.invariant.next
           ∙ sym (ap (λ (v : ℕ). position (marks c.args.item c.args.slots.now) (v + c.args.row))
-          (own_before_after_other c.args.item c.args.slots.now c.walk.at n));
+          (counted_over c.args.item c.args.slots.now c.walk.at c.next-at-else-owns.result n));
     }
 
 pub returns : goal.returns

@@ -3,8 +3,8 @@ use Rattle.own_slots.specs.Slots.{own_before}
 use Rattle.own_slots.specs.Period.{own}
 use Rattle.slot_plan.specs.Items.{marks}
 use Rattle.plan_checker.proofs.own_counts.own_slot.Goals as goal
-use Rattle.plan_checker.proofs.OwnMarks.{own_before_after_own, own_before_after_other, own_before_none, own_before_all, position_here, some_slots}
-use Rattle.plan_checker.proofs.OwnWalks.{counted_over}
+use Rattle.plan_checker.proofs.OwnMarks.{own_before_after_own, own_before_none, own_before_all, position_here, some_slots}
+use Rattle.plan_checker.proofs.OwnWalks.{counted_over, foreign_from}
 
 pub walk-init : goal.walk-init
 walk-init c = record { within = omega arith; counted = sym (own_before_none c.args.item c.args.slots.now); few = omega arith }
@@ -26,8 +26,9 @@ walk-preserved-then-owns c =
 
 pub walk-preserved : goal.walk-preserved
 walk-preserved c =
-    let e = own_before_after_other c.args.item c.args.slots.now c.walk.at (sym c.owns.ensures ∙ c.if-owns.false) in
-    record { within = omega arith; counted = omega (arith, e); few = omega arith }
+    let n = foreign_from c.args.item c.args.slots.now c.walk.at c.next-at-else-owns.result (sym c.owns.ensures ∙ c.if-owns.false) c.next-at-else-owns.ensures in
+    let e = counted_over c.args.item c.args.slots.now c.walk.at c.next-at-else-owns.result n in
+    record { within = omega (arith, n.within); counted = omega (arith, c.walk.invariant.counted, e); few = omega arith }
 
 pub returns-clause-slot : goal.returns-clause-slot
 returns-clause-slot c =

@@ -1,4 +1,4 @@
-use Rattle.std.proofs.Common.{◌≡◌, ◌+◌, ◌-◌, ◌≤◌, length}
+use Rattle.std.proofs.Common.{◌≡◌, ◌+◌, ◌-◌, ◌*◌, ◌≤◌, length}
 use Rattle.own_slots.specs.Slots.{own_before}
 use Rattle.own_slots.specs.Period.{own}
 use Rattle.slot_plan.specs.Items.{marks}
@@ -6,7 +6,7 @@ use Rattle.plan_checker.proofs.own_positions.next_own_slot.Given as goal
 
 abbrev pub invariant-walk : goal.invariant-walk
 invariant-walk l = record {
-  within : l.at ≤ l.from + length l.slots;
+  within : l.at ≤ l.from + 2 * length l.slots;
   counted : own_before (own (marks l.item l.slots)) l.at ≡ own_before (own (marks l.item l.slots)) l.from + 1;
 }
 

@@ -4,11 +4,11 @@ use Rattle.own_slots.specs.Period.{own, position}
 use Rattle.own_slots.specs.Extremes.{least}
 use Rattle.own_slots.proofs.Extremes.{least_none}
 use Rattle.slot_plan.specs.Items.{marks}
-use Rattle.slot_plan.proofs.LeastGaps.{near_ahead, near_more, near_same, near_walk_law}
+use Rattle.slot_plan.proofs.LeastGaps.{near_ahead, near_more, near_walk_law}
 use Rattle.plan_checker.proofs.section_distances.least_gap.Goals as goal
 use Rattle.clock27.proofs.MinMax.{min_is}
-use Rattle.plan_checker.proofs.OwnMarks.{length_marks, own_before_none, own_before_after_other, position_ahead, position_own, position_near, one_ahead}
-use Rattle.plan_checker.proofs.OwnWalks.{counted_over, near_over}
+use Rattle.plan_checker.proofs.OwnMarks.{length_marks, own_before_none, position_ahead, position_own, position_near, one_ahead}
+use Rattle.plan_checker.proofs.OwnWalks.{counted_over, foreign_from, near_over}
 
 pub walk-init : goal.walk-init
 walk-init c = record {
@@ -59,13 +59,13 @@ walk-preserved-then-owns c =
 
 pub walk-preserved : goal.walk-preserved
 walk-preserved c =
-    let n = sym c.owns.ensures ∙ c.if-owns.false in
+    let n = foreign_from c.args.item c.args.slots.now c.walk.at c.next-at-else-owns.result (sym c.owns.ensures ∙ c.if-owns.false) c.next-at-else-owns.ensures in
     record {
-      within = omega arith;
-      found = c.walk.invariant.found ∙ sym (near_same (marks c.args.item c.args.slots.now) c.args.row c.walk.at n);
+      within = omega (arith, n.within);
+      found = c.walk.invariant.found ∙ sym (near_over c.args.item c.args.slots.now c.args.row c.walk.at c.next-at-else-owns.result n);
       next = c.walk.invariant.next
           ∙ sym (ap (λ (v : ℕ). position (marks c.args.item c.args.slots.now) (v + c.args.row))
-          (own_before_after_other c.args.item c.args.slots.now c.walk.at n));
+          (counted_over c.args.item c.args.slots.now c.walk.at c.next-at-else-owns.result n));
     }
 
 pub returns : goal.returns

@@ -6,14 +6,14 @@ use Rattle.own_slots.specs.Period.{own, per_period}
 use Rattle.own_slots.specs.Extremes.{greatest}
 use Rattle.own_slots.proofs.Extremes.{greatest_none}
 use Rattle.own_slots.specs.Spread.{highest, lowest, raised}
-use Rattle.own_slots.proofs.Spread.{highest_none, highest_more, highest_same, lowest_none, lowest_more, lowest_same, spread_walk_law}
+use Rattle.own_slots.proofs.Spread.{highest_none, highest_more, lowest_none, lowest_more, spread_walk_law}
 use Rattle.slot_plan.specs.declared.slot.Slot.{Slot}
 use Rattle.slot_plan.specs.declared.slot.Item.{Item}
 use Rattle.slot_plan.specs.Items.{marks}
 use Rattle.plan_checker.proofs.spread.spread_of.Goals as goal
 use Rattle.clock27.proofs.MinMax.{max_is, min_is}
-use Rattle.plan_checker.proofs.OwnMarks.{length_marks, own_before_none, own_before_after_own, own_before_after_other, few_own_before, raised_here}
-use Rattle.plan_checker.proofs.OwnWalks.{counted_over, highest_over, lowest_over}
+use Rattle.plan_checker.proofs.OwnMarks.{length_marks, own_before_none, own_before_after_own, few_own_before, raised_here}
+use Rattle.plan_checker.proofs.OwnWalks.{counted_over, foreign_from, highest_over, lowest_over}
 
 none_greatest : (n : ℕ) (f : ℕ → ℕ) → n ≡ 0 → greatest n f ≡ 0
 none_greatest zero f e = greatest_none f
@@ -109,17 +109,13 @@ walk-preserved-then-owns c =
 
 pub walk-preserved : goal.walk-preserved
 walk-preserved c =
-    let n = sym c.owns.ensures ∙ c.if-owns.false in
+    let n = foreign_from c.args.item c.args.slots.now c.walk.at c.next-at-else-owns.result (sym c.owns.ensures ∙ c.if-owns.false) c.next-at-else-owns.ensures in
     record {
-      within = omega arith;
-      counted = omega (
-        arith,
-        c.walk.invariant.counted,
-        own_before_after_other c.args.item c.args.slots.now c.walk.at n,
-      );
-      high = c.walk.invariant.high ∙ sym (highest_same (marks c.args.item c.args.slots.now) c.walk.at n);
+      within = omega (arith, n.within);
+      counted = omega (arith, c.walk.invariant.counted, counted_over c.args.item c.args.slots.now c.walk.at c.next-at-else-owns.result n);
+      high = c.walk.invariant.high ∙ sym (highest_over c.args.item c.args.slots.now c.walk.at c.next-at-else-owns.result n);
       few = omega (arith, c.walk.invariant.few);
-      low = c.walk.invariant.low ∙ sym (lowest_same (marks c.args.item c.args.slots.now) c.walk.at n);
+      low = c.walk.invariant.low ∙ sym (lowest_over c.args.item c.args.slots.now c.walk.at c.next-at-else-owns.result n);
     }
 
 pub returns-clause-spread : goal.returns-clause-spread

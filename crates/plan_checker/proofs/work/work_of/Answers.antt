@@ -3,12 +3,12 @@ use Rattle.std.proofs.Math.Nat.{mul-le-mul_right}
 use Rattle.own_slots.specs.Extremes.{greatest}
 use Rattle.own_slots.specs.Work.{work_at, before_at, after_at}
 use Rattle.own_slots.proofs.Extremes.{greatest_none}
-use Rattle.own_slots.proofs.WorkLemmas.{work_begin, before_more, before_same, after_more, after_same}
+use Rattle.own_slots.proofs.WorkLemmas.{work_begin, before_more, after_more}
 use Rattle.slot_plan.specs.Items.{marks}
 use Rattle.plan_checker.proofs.work.work_of.Goals as goal
 use Rattle.clock27.proofs.MinMax.{max_is}
 use Rattle.plan_checker.proofs.OwnMarks.{length_marks, work_own, work_other}
-use Rattle.plan_checker.proofs.OwnWalks.{mark_in, work_over, before_over, after_over}
+use Rattle.plan_checker.proofs.OwnWalks.{foreign_from, mark_in, work_over, before_over, after_over}
 
 slots_between : (n i : ℕ) → n - i - 1 ≡ n - (i + 1)
 slots_between n i = omega arith
@@ -82,22 +82,36 @@ walk-preserved-then-owns c =
 
 pub walk-preserved : goal.walk-preserved
 walk-preserved c =
-    let n = mark_in c.args.item c.args.slots.now c.walk.at (omega arith) ∙ sym c.owns.ensures ∙ c.if-owns.false in
-    let here = work_other c.args.rate c.args.drain c.args.start c.args.item c.args.slots.now c.walk.at (omega arith) n in
+    let n = sym c.owns.ensures ∙ c.if-owns.false in
+    let m = mark_in c.args.item c.args.slots.now c.walk.at (omega arith) ∙ n in
+    let here = work_other c.args.rate c.args.drain c.args.start c.args.item c.args.slots.now c.walk.at (omega arith) m in
+    let next = c.next-next.ensures in
+    let over = work_over c.args.rate c.args.drain c.args.start c.args.item c.args.slots.now (c.walk.at + 1) c.next-next.result next in
+    let all = foreign_from c.args.item c.args.slots.now c.walk.at c.next-next.result n next in
     record {
-      within = omega arith;
+      within = omega (arith, next.within);
       now = omega (
         arith,
+        c.saturating_sub-work-else-owns.ensures,
         c.saturating_sub-left.ensures,
         c.walk.invariant.now,
         here,
+        over,
+        ap (λ (n : ℕ). 188 * c.args.drain * n) (slots_between c.next-next.result c.walk.at),
       );
-      bound = omega (arith, c.saturating_sub-left.ensures, c.walk.invariant.bound);
+      bound = omega (
+        arith,
+        next.after,
+        c.saturating_sub-work-else-owns.ensures,
+        c.saturating_sub-left.ensures,
+        c.walk.invariant.bound,
+        mul-le-mul_right (188 * c.args.rate) next.after,
+      );
       before = c.walk.invariant.before
-          ∙ sym (before_same c.args.rate c.args.drain c.args.start (marks c.args.item c.args.slots.now) c.walk.at n);
-      few_after = omega (arith, c.walk.invariant.few_after);
+          ∙ sym (before_over c.args.rate c.args.drain c.args.start c.args.item c.args.slots.now c.walk.at c.next-next.result all);
+      few_after = omega (arith, next.after, c.walk.invariant.few_after, mul-le-mul_right (188 * c.args.rate) next.after);
       after = c.walk.invariant.after
-          ∙ sym (after_same c.args.rate c.args.drain c.args.start (marks c.args.item c.args.slots.now) c.walk.at n);
+          ∙ sym (after_over c.args.rate c.args.drain c.args.start c.args.item c.args.slots.now c.walk.at c.next-next.result all);
     }
 
 pub returns-clause-before : goal.returns-clause-before
