@@ -75,9 +75,10 @@ fn link_of(slots: &[Slot], links: Option<&[u32]>, at: usize) -> usize
 }
 
 impl<'a> Period<'a> {
-    ghost use Rattle.std.specs.Prelude.{◌≡◌, ◌+◌, ◌*◌, ◌<◌, ◌≤◌, length};
+    ghost use Rattle.std.specs.Prelude.{◌≡◌, ◌+◌, ◌*◌, ◌<◌, ◌≤◌, length, option_map};
     ghost use Rattle.own_slots.specs.Period.{own};
     ghost use Rattle.slot_plan.specs.Items.{marks};
+    ghost use Rattle.slot_plan.specs.Links.{AreLinks};
     ghost use Rattle.plan_checker.specs.OwnWalks.{IsForeign};
 
     /// Returns slots without links.
@@ -85,6 +86,20 @@ impl<'a> Period<'a> {
         ensures { result ≡ slots.now }
     {
         Period { slots, links: None }
+    }
+
+    /// Returns slots with their links, if there are any.
+    pub fn linked<A: Allocator>(slots: &'a [Slot], links: &'a Option<Vec<u32, A>>) -> Period<'a>
+        requires { AreLinks slots.now (option_map (λ links. links.items) links.now) }
+        ensures { result ≡ slots.now }
+    {
+        match links {
+            None => Period { slots, links: None },
+            Some(links) => Period {
+                slots,
+                links: Some(links.as_slice()),
+            },
+        }
     }
 
     /// Returns the slots of a plan.

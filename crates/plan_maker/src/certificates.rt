@@ -1,6 +1,6 @@
 //! The least claims that the slots of a period can make.
 
-ghost use Rattle.std.specs.Prelude.{◌≡◌, ◌^◌, ◌<◌, ◌≤◌, IfOk, None, true, length};
+ghost use Rattle.std.specs.Prelude.{◌≡◌, ◌^◌, ◌<◌, ◌≤◌, IfOk, Some, None, true, length};
 ghost use Rattle.std.specs.List.{list_all};
 ghost use Rattle.description_parts.specs.Ranges.{IsStream};
 ghost use Rattle.slot_plan.specs.Planned.{is_small_multiplexing, is_small_stream};
@@ -8,11 +8,12 @@ ghost use Rattle.slot_plan.specs.Planned.{is_small_program, plan_error};
 ghost use Rattle.plan_maker.specs.Certificates.{multiplexing_entry_of, stream_entry_of, program_entry_of};
 ghost use Rattle.plan_maker.specs.Certificates.{stream_entries_of};
 ghost use Rattle.plan_maker.specs.Certificates.{program_entries_of, certificate_of, start_of, peak_of};
+ghost use Rattle.plan_maker.specs.PlainPlan.{plan_of};
 
 use plan_checker::{Period, spread_of, work_of};
 use slot_plan::{
-    Certificate, Description, Item, MultiplexingEntry, ProgramEntry, Slot, StreamDescription,
-    StreamEntry,
+    Certificate, Description, Item, MultiplexingEntry, Plan, ProgramEntry, Slot, StreamDescription,
+    StreamEntry, links_of,
 };
 use std::alloc::{AllocError, Allocator};
 use unit_timing::buffers::{BSYS_DRAIN, SYSTEM_TB_DRAIN};
@@ -26,7 +27,7 @@ struct BufferClaim {
 
 /// Returns the claim on a buffer that the item's slots fill: a period begins with what one leaves that began with
 /// nothing.
-fn claim(slots: &[Slot], item: Item, rate: u64, drain: u64) -> BufferClaim
+fn claim(slots: &Period<'_>, item: Item, rate: u64, drain: u64) -> BufferClaim
     requires short { length slots.now ≤ 65536 }
     requires rate { rate ≤ 100000000 }
     requires drain { drain ≤ 200000000 }
@@ -35,9 +36,8 @@ fn claim(slots: &[Slot], item: Item, rate: u64, drain: u64) -> BufferClaim
     ensures small_start { result.start < 10 ^ 18 }
     ensures small_peak { result.peak < 10 ^ 18 }
 {
-    let slots = Period::plain(slots);
-    let start = work_of(&slots, item, rate, drain, 0).left;
-    let peak = work_of(&slots, item, rate, drain, start).most_after;
+    let start = work_of(slots, item, rate, drain, 0).left;
+    let peak = work_of(slots, item, rate, drain, start).most_after;
     BufferClaim { start, peak }
 }
 
@@ -45,7 +45,7 @@ fn claim(slots: &[Slot], item: Item, rate: u64, drain: u64) -> BufferClaim
 #[tactic(auto, using(plan_checker::proofs::Leaks::leak_most))]
 fn multiplexing_entry(
     description: &Description,
-    slots: &[Slot],
+    slots: &Period<'_>,
     i: usize,
     stream: &StreamDescription,
 ) -> Option<MultiplexingEntry>
@@ -65,7 +65,7 @@ fn multiplexing_entry(
 /// Returns the claim of stream number `i`.
 fn stream_entry(
     description: &Description,
-    slots: &[Slot],
+    slots: &Period<'_>,
     i: usize,
     stream: &StreamDescription,
 ) -> StreamEntry
@@ -80,7 +80,7 @@ fn stream_entry(
     let rate = description.rate().bits_per_second();
     let claim = claim(slots, item, rate, stream.rx as u64);
     StreamEntry {
-        spread: spread_of(&Period::plain(slots), item),
+        spread: spread_of(slots, item),
         start: claim.start,
         peak: claim.peak,
         multiplexing: multiplexing_entry(description, slots, i, stream),
@@ -88,7 +88,7 @@ fn stream_entry(
 }
 
 /// Returns the claim of program number `i`.
-fn program_entry(description: &Description, slots: &[Slot], i: usize) -> ProgramEntry
+fn program_entry(description: &Description, slots: &Period<'_>, i: usize) -> ProgramEntry
     requires short { length slots.now ≤ 65536 }
     requires small { i < 256 }
     ensures entry { result ≡ program_entry_of description.now slots.now i }
@@ -111,7 +111,7 @@ fn program_entry(description: &Description, slots: &[Slot], i: usize) -> Program
 fn stream_entries<A: Allocator>(
     alloc: A,
     description: &Description,
-    slots: &[Slot],
+    slots: &Period<'_>,
 ) -> Result<Vec<StreamEntry, A>, AllocError>
     requires short { length slots.now ≤ 65536 }
     ensures entries { IfOk result (λ entries. entries.items ≡ stream_entries_of description.now slots.now) }
@@ -128,7 +128,7 @@ fn stream_entries<A: Allocator>(
 fn program_entries<A: Allocator>(
     alloc: A,
     description: &Description,
-    slots: &[Slot],
+    slots: &Period<'_>,
 ) -> Result<Vec<ProgramEntry, A>, AllocError>
     requires short { length slots.now ≤ 65536 }
     ensures entries { IfOk result (λ entries. entries.items ≡ program_entries_of description.now slots.now) }
@@ -141,11 +141,11 @@ fn program_entries<A: Allocator>(
     Ok(entries)
 }
 
-/// Returns the certificate of these slots, at most 65,536 of them.
-pub fn certificate_of<A: Allocator + Clone>(
+/// Returns the certificate of these slots.
+fn certificate_of<A: Allocator + Clone>(
     alloc: A,
     description: &Description,
-    slots: &[Slot],
+    slots: &Period<'_>,
 ) -> Result<Certificate<A>, AllocError>
     requires short { length slots.now ≤ 65536 }
     ensures certificate { IfOk result (λ c. c ≡ certificate_of description.now slots.now) }
@@ -155,4 +155,21 @@ pub fn certificate_of<A: Allocator + Clone>(
     let streams = stream_entries(alloc.clone()?, description, slots)?;
     let programs = program_entries(alloc, description, slots)?;
     Ok(Certificate { streams, programs })
+}
+
+/// Returns the plan of these slots, with their certificate, and with links if memory suffices.
+pub fn plan_of<A: Allocator + Clone>(
+    alloc: &A,
+    description: &Description,
+    slots: Vec<Slot, A>,
+) -> Result<Option<Plan<A>>, AllocError>
+    requires short { length slots.items ≤ 65536 }
+    ensures { IfOk result (λ plan. plan ≡ Some (plan_of description.now slots.items)) }
+{
+    let links = links_of(alloc.clone()?, &slots);
+    let certificate = certificate_of(alloc.clone()?, description, &Period::linked(&slots, &links))?;
+    match Plan::new(slots, certificate) {
+        Ok(plan) => Ok(Some(plan.linked(links))),
+        Err(_) => Ok(None),
+    }
 }

@@ -4,7 +4,7 @@ ghost use Rattle.std.specs.Prelude.{◌≡◌, ◌≤◌, IfOk, IfSome, length, 
 ghost use Rattle.slot_plan.specs.declared.slot.Slot.TheVariants.{Null};
 ghost use Rattle.plan_maker.specs.PlainPlan.{longest, slots_of, plain_plan};
 
-use crate::certificates::certificate_of;
+use crate::certificates::plan_of;
 use crate::item_order::{are_spaced, longest, place_items};
 use crate::spacing::{Spaced, spaced_items};
 use slot_plan::{Description, Plan, Slot};
@@ -49,6 +49,5 @@ pub fn plain_plan<A: Allocator + Clone>(
     let Some(slots) = plain_slots(alloc.clone()?, &items)? else {
         return Ok(None);
     };
-    let certificate = certificate_of(alloc, description, &slots)?;
-    Ok(Plan::new(slots, certificate).ok())
+    plan_of(&alloc, description, slots)
 }

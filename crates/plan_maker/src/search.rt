@@ -14,7 +14,7 @@ ghost use Rattle.plan_maker.specs.Certificates.{certificate_of};
 ghost use Rattle.plan_maker.specs.Demands.{demand_view};
 ghost use Rattle.plan_maker.specs.Searches as spec;
 
-use crate::certificates::certificate_of;
+use crate::certificates::plan_of;
 use demand::{Demand, demands, total};
 use placement::{PlacementTask, place};
 use slot_plan::{Description, Plan, Slot};
@@ -158,6 +158,5 @@ pub fn period_plan<A: Allocator + Clone>(
     let Some(slots) = period_slots(alloc.clone()?, description, period, distance)? else {
         return Ok(None);
     };
-    let certificate = certificate_of(alloc.clone()?, description, &slots)?;
-    Ok(Plan::new(slots, certificate).ok())
+    plan_of(alloc, description, slots)
 }

@@ -35,6 +35,7 @@ pub use description::Description;
 pub use description_parts::{
     Network, PrivateTable, ProgramDescription, StreamDescription, TableKind,
 };
+pub use links::links_of;
 pub use plan::{Plan, PlanError};
 pub use reader::PlanTextError;
 pub use slot::{Item, Slot};

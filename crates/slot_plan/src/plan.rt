@@ -72,6 +72,23 @@ impl<A: Allocator> Plan<A> {
         }
     }
 
+    /// Returns the same plan, with these links of its slots.
+    pub fn linked(self, links: Option<Vec<u32, A>>) -> Plan<A>
+        requires { AreLinks self.slots (option_map (λ links. links.items) links) }
+        ensures { result ≡ self }
+    {
+        let Plan {
+            slots,
+            certificate,
+            links: _,
+        } = self;
+        Plan {
+            slots,
+            certificate,
+            links,
+        }
+    }
+
     /// Returns the slots of the period, in order.
     pub fn slots(&self) -> &[Slot]
         ensures slots { result.now ≡ self.now.slots }
