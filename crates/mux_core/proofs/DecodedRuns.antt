@@ -1,6 +1,6 @@
 -- What a decoder gets from bytes that keep their promises.
-use Rattle.std.proofs.Common.{◌≡◌, ◌⊎◌, ◌≤◌, ◌<◌, ℕ, zero, suc, ◌+◌, ◌*◌, ◌/◌, ◌%◌, ◌==◌, Bool, true, false, List, [], ◌∷◌, ◌++◌, length, map, filter, take}
-use Rattle.std.proofs.Common.{drop, slice_get, option_map, Some, None, Ok, All, refl, sym, ap, subst, ◌∙◌, inl, inr, arith}
+use Rattle.std.proofs.Common.{◌≡◌, ◌⊎◌, ◌≤◌, ◌<◌, ℕ, zero, suc, ◌+◌, ◌*◌, ◌/◌, ◌%◌, ◌==◌, Bool, true, false, List, [], ◌∷◌, length, map, filter, take}
+use Rattle.std.proofs.Common.{drop, slice_get, option_map, Some, Ok, All, refl, sym, ap, ◌∙◌, inl, inr, arith}
 use Rattle.std.specs.Prelude.{◌&&◌, not}
 use Rattle.std.specs.List.{concat, enumerate_from, filter_map}
 use Rattle.std.specs.Simd.{first_chunks}
@@ -36,12 +36,12 @@ use Rattle.tstd.specs.Carried.{packets_on, timed_pes_packets}
 use Rattle.mux_core.specs.Scheduled.{Scheduled}
 use Rattle.mux_core.specs.Histories.{owned_stream}
 use Rattle.mux_core.specs.Headline.{StreamKept, VideoKept, IsTransportPacket, IsNamed, IsAccessAtStart}
-use Rattle.mux_core.specs.Decoder.{Follow, pieces_on, put_together, cut_thing}
-use Rattle.mux_core.specs.DecodedRuns.{IsDue, Arrives, ArrivesInEb, StreamDecoded, DecodedLaw}
+use Rattle.mux_core.specs.Decoder.{Follow, pieces_on, cut_thing}
+use Rattle.mux_core.specs.DecodedRuns.{IsDue, ArrivesInEb, StreamDecoded, DecodedLaw}
 use Rattle.mux_core.proofs.DecodedPackets.{all_in_the_clear, have_clocks, has_stamps, section_comes}
 use Rattle.mux_core.proofs.KnownRanges.{stream_range}
 use Rattle.mux_core.proofs.RandomAccess.{access_on}
-use Rattle.mux_core.proofs.PutUnits.{Sent, SentBytes, bytes_in, cut_one, cut_all, sent_bytes, pes_whole}
+use Rattle.mux_core.proofs.PutUnits.{Sent, SentBytes, cut_one, cut_all, sent_bytes, pes_whole}
 use Rattle.mux_core.proofs.UnitBytes.{unit_bytes, unit_left, unit_stays, left_few, piece_bytes}
 
 -- Continuity counters

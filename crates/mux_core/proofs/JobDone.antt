@@ -2,7 +2,6 @@
 use Rattle.std.proofs.Common.{◌≡◌, ℕ, zero, suc, ◌+◌, ◌*◌, ◌<◌, ◌≤◌, ◌^◌, Bool, true, false, List, [], ◌∷◌, length, take, Option, Some, None, Result, Ok, Err}
 use Rattle.std.proofs.Common.{sym, ap, ◌∙◌, subst, arith}
 use Rattle.std.specs.Prelude.{IfOk, if◌then◌else◌}
-use Rattle.std.proofs.KnownBytes.{Appends-nil}
 use Rattle.std.proofs.lemmas.Bool.{lt-ltb, le-ltb}
 use Rattle.std.specs.Io.KnownBytes.{Appends}
 use Rattle.std.proofs.lemmas.List.{length-append}
@@ -21,7 +20,6 @@ use Rattle.mux_core.specs.MuxStates.{MuxState}
 use Rattle.mux_core.specs.Headline.{Headline}
 use Rattle.mux_core.specs.MeasuredRuns.{MeasuresWell}
 use Rattle.mux_core.specs.Formats.{formatted}
-use Rattle.mux_core.specs.Buffer.{Buffered, IsOutput}
 use Rattle.mux_core.specs.NewMux.{is_periods}
 use Rattle.mux_core.specs.WholeJobs.{job_history, capacity_for, or_cause, first_refused, job_cause, Refuses, run_output, output_of, slot_size, WritesAll}
 use Rattle.mux_core.specs.WholeJobs.{Writes, OnWriting, AllFed, slots_cause, periods_cause}

@@ -13,7 +13,6 @@ use Rattle.unit_timing.specs.LongestStay.{WaitsAtMost}
 use Rattle.unit_timing.specs.MainBuffer.{mb_fullness}
 use Rattle.unit_timing.specs.VideoBuffers.{multiplexing_left, multiplexing_fullness, elementary_fullness}
 use Rattle.unit_timing.specs.Plans.{KeepsDeclaration, run_packets}
-use Rattle.unit_timing.specs.AccessUnits.{packets_of}
 use Rattle.unit_timing.proofs.LateUnits.{late_law}
 use Rattle.unit_timing.proofs.NotEarly.{run_left}
 use Rattle.description_parts.specs.Described.{DescribedStream}

@@ -1,19 +1,16 @@
 -- The place of a unit's bytes in its stream, and when the bytes leave the transport buffer.
-use Rattle.std.proofs.Common.{◌≡◌, ◌≤◌, ◌<◌, ℕ, zero, suc, ◌+◌, ◌-◌, ◌*◌, nat_eq, true, List, [], ◌∷◌, ◌++◌, length, map, take, drop, slice_get, Some, All}
+use Rattle.std.proofs.Common.{◌≡◌, ◌≤◌, ℕ, zero, suc, ◌+◌, ◌-◌, ◌*◌, nat_eq, true, List, [], ◌∷◌, ◌++◌, length, map, take, drop, slice_get, Some, All}
 use Rattle.std.proofs.Common.{refl, sym, ap, subst, ◌∙◌, arith}
 use Rattle.std.specs.List.{concat, starts_with}
 use Rattle.std.proofs.lemmas.Bool.Decides.{Decides-eqb}
 use Rattle.std.proofs.Math.Seq.{take-append_seam}
 use Rattle.std.proofs.lemmas.List.{length-append, length-drop, length-take, take-append-le, drop-drop}
 use Rattle.std.proofs.lemmas.Slice.Eq.{starts_is}
-use Rattle.pes_packet.specs.AccessUnits.{AccessUnit}
 use Rattle.ts_packet.specs.PidList.{Entry, payload_of}
 use Rattle.slot_contents.specs.Contents.{payload_at}
 use Rattle.unit_queue.specs.Payloads.{piece_in}
 use Rattle.unit_timing.specs.Arrived.{AllLeft}
 use Rattle.unit_timing.specs.LongestStay.{WaitsAtMost}
-use Rattle.unit_timing.specs.PesPacket.{PesPacket}
-use Rattle.unit_timing.specs.Schedule.{Packet}
 use Rattle.unit_timing.specs.Transport.{of_payloads}
 use Rattle.mux_core.proofs.PutUnits.{bytes_in}
 

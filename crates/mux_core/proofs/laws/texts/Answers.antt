@@ -1,6 +1,3 @@
-use Rattle.mux_core.proofs.TakenTexts.{texts_taken, cause_is}
-use Rattle.mux_core.proofs.MuxStates.{gives}
-use Rattle.mux_core.proofs.FirstStates.{begins}
 use Rattle.mux_core.proofs.SentVersions.{version_law}
 use Rattle.mux_core.proofs.TextLaws.{others_untouched, same_table, whole_sections}
 use Rattle.mux_core.proofs.laws.texts.Goals as goal

@@ -1,4 +1,4 @@
-use Rattle.mux_core.proofs.TakenTexts.{TextLaws, texts_taken}
+use Rattle.mux_core.proofs.TakenTexts.{texts_taken}
 use Rattle.mux_core.proofs.multiplexer.Mux.change_texts.Goals as goal
 
 pub returns-clause-changes : goal.returns-clause-changes
