@@ -1,5 +1,5 @@
 -- What the ranges of a description say about its streams and tables.
-use Rattle.std.specs.Prelude.{ℕ, ◌<◌, ◌≤◌, List, [], Some, length, slice_get, IsTrue}
+use Rattle.std.specs.Prelude.{ℕ, ◌<◌, ◌≤◌, List, Some, length, slice_get, IsTrue}
 use Rattle.std.proofs.Common.{◌≡◌, inl, inr, refl, ap, sym, ◌∙◌, arith}
 use Rattle.std.proofs.lemmas.Bool.{lt-ltb}
 use Rattle.std.proofs.lemmas.List.Elements.{All-get_or}
@@ -66,4 +66,5 @@ pub tables_known : SectionsLaw → (d : Scheduled) (h : History) (texts : Descri
 tables_known law d h texts ranges fit are = record {
   places = λ t kind is. (law d.description t ranges (slice_get_within (table_kinds d.description) t kind is)).2;
   sources = λ t kind is. sources_known d h texts t kind fit are is;
+  start = ap (λ (e : Described). e.start) (text_last d.description h.slots h.slots h.changes fit (omega arith) ∙ sym are);
 }

@@ -1,5 +1,5 @@
 -- Two sections of one number of a sub-table that show one version are the same bytes.
-use Rattle.std.proofs.Common.{◌≡◌, ◌⊎◌, ℕ, zero, suc, ◌+◌, ◌%◌, ◌<◌, ◌≤◌, ◌==◌, ◌&&◌, ◌||◌, nat_lt, nat_le, not, Bool, true, false, cond, List, [], ◌∷◌, length}
+use Rattle.std.proofs.Common.{◌≡◌, ◌⊎◌, ℕ, zero, suc, ◌+◌, ◌%◌, ◌<◌, ◌≤◌, ◌&&◌, ◌||◌, nat_lt, nat_le, not, Bool, true, false, cond, List, [], ◌∷◌, length}
 use Rattle.std.proofs.Common.{Option, Some, None, slice_get, IsTrue, refl, sym, ap, subst, ◌∙◌, arith, inl, inr, if◌then◌else◌}
 use Rattle.std.specs.Prelude.{option_and_then, option_map, ⊤}
 use Rattle.std.proofs.lemmas.Bool.{cases_lt, eq-eqb, lt-ltb, le-leb}
@@ -10,7 +10,7 @@ use Rattle.description_parts.specs.Tables.{eit_place, table_kinds, table_kind, t
 use Rattle.description_parts.specs.declared.table_kind.TableKind.{TableKind}
 use Rattle.description_parts.specs.declared.table_kind.TableKind.TheVariants as kind
 use Rattle.description.specs.SectionBytes.{table_bytes}
-use Rattle.description.specs.SubTables.{sub_table_count, sub_table_number, numbered_sub_table, scheduled_places, sub_table_in, sub_table_of, number_in, number_of}
+use Rattle.description.specs.SubTables.{sub_table_count, sub_table_number, scheduled_places, sub_table_in, sub_table_of, number_in, number_of}
 use Rattle.description.specs.SubTables.{version_of, section_of, shows_same}
 use Rattle.description.specs.Versions.{shown_version}
 use Rattle.description.specs.declared.sub_table.SubTable.{SubTable}
@@ -18,7 +18,6 @@ use Rattle.description.specs.declared.sub_table.SubTable.TheVariants.{Pat, Nit, 
 use Rattle.description.proofs.Counted.{counted_law, count_law}
 use Rattle.description.proofs.SameTables.{same_tables_law}
 use Rattle.description.proofs.Versions.{numbered_law, versioned_law}
-use Rattle.changed_texts.specs.TextFaults.{IsTextOf}
 use Rattle.changed_texts.specs.Versions.{changed, next_texts}
 use Rattle.changed_texts.proofs.Counts.{has_place, numbered_number, number_below}
 use Rattle.changed_texts.proofs.TextLaws.{text_law}
@@ -26,10 +25,10 @@ use Rattle.changed_texts.proofs.VersionLaws.{next_version_law, stays_law}
 use Rattle.slot_plan.specs.Schedule.{slot_of}
 use Rattle.table_rounds.specs.Tables.{moment_before}
 use Rattle.mux_core.specs.Scheduled.{Scheduled}
-use Rattle.mux_core.specs.Histories.{Change, text_at, last_texts, table_of}
+use Rattle.mux_core.specs.Histories.{Change, text_at, last_texts, table_over}
 use Rattle.mux_core.specs.TextChanges.{ChangesFit, IsMade, AreMade, changed_history, since_of, sub_table_there, is_numbered, begins_at, begins_in, began_since, sent_of}
 use Rattle.mux_core.specs.TextChanges.{events_moment}
-use Rattle.mux_core.specs.TextLaws.{is_timeless, SectionBegins, section_at, changes_between, VersionLaw}
+use Rattle.mux_core.specs.TextLaws.{is_timeless, SectionBegins, changes_between, VersionLaw}
 use Rattle.mux_core.proofs.TextChanges.{text_before, since_within, began_more, or_true}
 
 -- A sub-table without moments
@@ -255,12 +254,12 @@ next_of : (d : Scheduled) (change : Change) (earlier : List Change) (slot t j s 
     IsInRange d.description → ChangesFit d.description slot (change ∷ earlier) → s < change.from → change.from ≤ last →
     j < section_count d.description t → sub_table_of d.description t j ≡ Some x → is_timeless x ≡ true → SectionBegins d t j s →
     Next d change earlier t j s last x
-    (shows_same (last_texts d.description earlier) made.texts x (events_moment d change.from))
+    (shows_same (last_texts d.description earlier) made.texts x (events_moment d earlier change.from))
     (sent_of d (changed_history earlier change.from) (sub_table_number x))
 next_of d change earlier slot t j s last x made ranges fit lt le within of still begins =
     let f = d.description in
     let old = last_texts d.description earlier in
-    let m = events_moment d change.from in
+    let m = events_moment d earlier change.from in
     let h = changed_history earlier change.from in
     let n = sub_table_number x in
     let next = next_texts old made.texts m (sent_of d h) in
@@ -297,9 +296,9 @@ next_of d change earlier slot t j s last x made ranges fit lt le within of still
 since_from : (d : Scheduled) (change : Change) (earlier : List Change) (n : ℕ) → IsMade d change earlier → ChangesFit d.description change.from earlier →
     change.since n ≤ change.from
 since_from d change earlier n made fit =
-    let is : change.since n ≡ cond (changed (last_texts d.description earlier) made.texts (events_moment d change.from) n) change.from (since_of earlier n) =
+    let is : change.since n ≡ cond (changed (last_texts d.description earlier) made.texts (events_moment d earlier change.from) n) change.from (since_of earlier n) =
     ap (λ (c : Change). c.since n) made.is in
-    let le = either (changed (last_texts d.description earlier) made.texts (events_moment d change.from) n) change.from (since_of earlier n)
+    let le = either (changed (last_texts d.description earlier) made.texts (events_moment d earlier change.from) n) change.from (since_of earlier n)
     (since_within d.description change.from n earlier fit) in
     omega (arith, is, le)
   where
@@ -321,7 +320,7 @@ went : (d : Scheduled) (changes : List Change) (slot t j s last : ℕ) (x : SubT
 went d [] slot t j s last x ranges fit made up within of still begins = inl (record { since = omega arith; bytes = refl; version = refl })
 went d (change ∷ earlier) slot t j s last x ranges fit made up within of still begins = elim (cases_lt s change.from) [
   | inl lt ↦ went_on d change earlier t j s last x
-      (shows_same (last_texts d.description earlier) made.0.texts x (events_moment d change.from))
+      (shows_same (last_texts d.description earlier) made.0.texts x (events_moment d earlier change.from))
       (sent_of d (changed_history earlier change.from) (sub_table_number x))
       (next_of d change earlier slot t j s last x made.0 ranges fit lt up within of still begins)
       (went d earlier change.from t j s last x ranges fit.1 made.1 (up_to d.description change.from last earlier fit.1 up) within of still begins)
@@ -392,8 +391,8 @@ version_law d changes slots t j first last x ranges fit made within of still beg
     let b = text_at f changes last in
     let likes_a = like_at f slots first changes ranges fit in
     let likes_b = like_at f slots last changes ranges fit in
-    let one = shown_by a t j (moment_before (table_of d t) (suc first)) x likes_a.ranges still (there f a t j x likes_a within of still).of in
-    let other = shown_by b t j (moment_before (table_of d t) (suc last)) x likes_b.ranges still (there f b t j x likes_b within of still).of in
+    let one = shown_by a t j (moment_before (table_over d changes t) (suc first)) x likes_a.ranges still (there f a t j x likes_a within of still).of in
+    let other = shown_by b t j (moment_before (table_over d changes t) (suc last)) x likes_b.ranges still (there f b t j x likes_b within of still).of in
     one.bytes
     ∙ one_version d changes slots t j first last x ranges fit made within of still begins le few (sym (one.version some) ∙ same ∙ other.version more)
     ∙ sym other.bytes

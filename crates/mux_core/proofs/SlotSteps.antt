@@ -1,5 +1,5 @@
 -- One slot: the state gives the packet of the history, and the next state represents the history with one more slot.
-use Rattle.std.specs.Prelude.{ℕ, suc, ◌<◌, ◌==◌, ◌&&◌, ◌||◌, Bool, true, false, List, [], length, slice_index_or, Option, Some, None, slice_get, option_map, option_and_then}
+use Rattle.std.specs.Prelude.{ℕ, suc, ◌<◌, ◌==◌, ◌&&◌, ◌||◌, Bool, true, false, List, [], length, slice_index_or, Option, Some, None, slice_get, option_map}
 use Rattle.std.proofs.Common.{◌≡◌, ◌≢◌, inl, inr, refl, sym, ◌∙◌, ap, subst, arith}
 use Rattle.std.proofs.lemmas.Bool.{eq-eqb, ne_eqb, cases_eq}
 use Rattle.std.proofs.lemmas.Option.{slice_get_within}
@@ -18,13 +18,13 @@ use Rattle.slot_plan.specs.Schedule.{slot_of, owned}
 use Rattle.unit_queue.specs.Queues.{Queue}
 use Rattle.unit_queue.specs.QueueSteps.{sent_in}
 use Rattle.unit_queue.specs.Laws.{StreamSlotLaw, OtherStreamSlotLaw}
-use Rattle.table_rounds.specs.Carousels.{Carousel, CarouselHolds, next_section, carousel_after}
+use Rattle.table_rounds.specs.Carousels.{Carousel, CarouselHolds, next_section, carousel_content, carousel_after}
 use Rattle.table_rounds.specs.Tables.{place_at}
 use Rattle.table_rounds.specs.Laws.{HasPlaces, IsSourceOf, TableSlotLaw, OtherTableSlotLaw}
 use Rattle.mux_core.specs.Rooms.{room_in}
 use Rattle.mux_core.specs.Scheduled.{Scheduled}
 use Rattle.mux_core.specs.Histories.{History, text_at, last_texts, owned_stream, table_over, stream_in, table_in, content_in, next_slot}
-use Rattle.mux_core.specs.TextChanges.{ChangesFit, AreMade, since_of, sub_table_there, is_numbered, begins_at, begins_in, began_since}
+use Rattle.mux_core.specs.TextChanges.{ChangesFit, AreMade, since_of, is_numbered, begins_at, begins_in, began_since}
 use Rattle.mux_core.specs.MuxStates.{MuxState, Represents, QueueRepresents, CarouselRepresents}
 use Rattle.mux_core.specs.SlotSteps.{queue_sends, queues_after, carousel_sends, carousels_after, section_bytes, number_there, sent_after, sends, after}
 use Rattle.mux_core.specs.declared.room.Room.{Room}
@@ -96,10 +96,11 @@ streams_idle law d h capacity queues idle st k = stream_other law d h capacity k
 abbrev tables_represent : Scheduled → History → List Carousel → Type 0
 tables_represent d h carousels = (t : ℕ) → CarouselRepresents d h t (slice_get carousels t) (slice_get (table_kinds d.description) t)
 
--- Each table has its places, and its sections are its source.
+-- Each table has its places, and its sections are its source; slot 0 began, by the slot, when the texts say.
 pub record TablesKnown (d : Scheduled) (h : History) (texts : Described) : Type 0 where
   pub places : (t : ℕ) (kind : TableKind) → slice_get (table_kinds d.description) t ≡ Some kind → HasPlaces (table_over d h.changes t)
   pub sources : (t : ℕ) (kind : TableKind) → slice_get (table_kinds d.description) t ≡ Some kind → IsSourceOf (table_over d h.changes t) h.slots (section_bytes texts t)
+  pub start : (text_at d.description h.changes h.slots).start ≡ texts.start
 
 table_other : OtherTableSlotLaw → (d : Scheduled) (h : History) (t : ℕ) (carousel : Option Carousel) (kind : Option TableKind) →
     owned d.schedule (TableItem t) h.slots ≡ false → CarouselRepresents d h t carousel kind → CarouselRepresents d (next_slot h) t carousel kind
@@ -111,8 +112,9 @@ table_other law d h t None None idle st = st
 table_own : TableSlotLaw → (d : Scheduled) (h : History) (texts : Described) (t : ℕ) (carousel : Option Carousel) (kind : Option TableKind) → TablesKnown d h texts →
     slice_get (table_kinds d.description) t ≡ kind →
     owned d.schedule (TableItem t) h.slots ≡ true → CarouselRepresents d h t carousel kind →
-    CarouselRepresents d (next_slot h) t (option_map (carousel_after (section_bytes texts t) h.slots) carousel) kind
+    CarouselRepresents d (next_slot h) t (option_map (carousel_after (section_bytes texts t) texts.start h.slots) carousel) kind
 table_own law d h texts t (Some carousel) (Some kind) known is own st =
+    subst (λ (start : ℕ). CarouselHolds (table_over d h.changes t) (suc h.slots) (carousel_after (section_bytes texts t) start h.slots carousel)) known.start
     (law (table_over d h.changes t) h.slots (section_bytes texts t) carousel (known.places t kind is) (known.sources t kind is) own st).holds
 table_own law d h texts t (Some carousel) None known is own st = st
 table_own law d h texts t None (Some kind) known is own st = st
@@ -121,41 +123,42 @@ table_own law d h texts t None None known is own st = st
 table_sends : TableSlotLaw → (d : Scheduled) (h : History) (texts : Described) (t : ℕ) (carousel : Option Carousel) (kind : Option TableKind) → TablesKnown d h texts →
     slice_get (table_kinds d.description) t ≡ kind →
     owned d.schedule (TableItem t) h.slots ≡ true → CarouselRepresents d h t carousel kind →
-    packet_of (carousel_sends (section_bytes texts t) h.slots carousel) ≡ packet_of (table_in d h.changes h.slots t kind)
+    packet_of (carousel_sends (section_bytes texts t) texts.start h.slots carousel) ≡ packet_of (table_in d h.changes h.slots t kind)
 unfolding carousel_sends table_in
 table_sends law d h texts t (Some carousel) (Some kind) known is own st =
-    (law (table_over d h.changes t) h.slots (section_bytes texts t) carousel (known.places t kind is) (known.sources t kind is) own st).packet
+    sym (ap (λ (start : ℕ). packet_of (carousel_content (section_bytes texts t) start h.slots carousel)) known.start)
+    ∙ (law (table_over d h.changes t) h.slots (section_bytes texts t) carousel (known.places t kind is) (known.sources t kind is) own st).packet
 table_sends law d h texts t (Some carousel) None known is own st = absurd st
 table_sends law d h texts t None (Some kind) known is own st = absurd st
 table_sends law d h texts t None None known is own st = refl
 
-carousel_same : (source : ℕ → ℕ → List ℕ) (slot t : ℕ) (carousels : List Carousel) (o : Option Carousel) → slice_get carousels t ≡ o →
-    slice_get (carousels_after source slot carousels t o) t ≡ option_map (carousel_after source slot) o
+carousel_same : (source : ℕ → ℕ → List ℕ) (start slot t : ℕ) (carousels : List Carousel) (o : Option Carousel) → slice_get carousels t ≡ o →
+    slice_get (carousels_after source start slot carousels t o) t ≡ option_map (carousel_after source start slot) o
 unfolding carousels_after
-carousel_same source slot t carousels None e = e
-carousel_same source slot t carousels (Some carousel) e =
-    slice_get-set_same carousels t (carousel_after source slot carousel) (slice_get_within carousels t carousel e)
+carousel_same source start slot t carousels None e = e
+carousel_same source start slot t carousels (Some carousel) e =
+    slice_get-set_same carousels t (carousel_after source start slot carousel) (slice_get_within carousels t carousel e)
 
-carousel_other : (source : ℕ → ℕ → List ℕ) (slot j t : ℕ) (carousels : List Carousel) (o : Option Carousel) → j ≢ t →
-    slice_get (carousels_after source slot carousels t o) j ≡ slice_get carousels j
+carousel_other : (source : ℕ → ℕ → List ℕ) (start slot j t : ℕ) (carousels : List Carousel) (o : Option Carousel) → j ≢ t →
+    slice_get (carousels_after source start slot carousels t o) j ≡ slice_get carousels j
 unfolding carousels_after
-carousel_other source slot j t carousels None ne = refl
-carousel_other source slot j t carousels (Some carousel) ne = slice_get-set_other carousels t j (carousel_after source slot carousel) ne
+carousel_other source start slot j t carousels None ne = refl
+carousel_other source start slot j t carousels (Some carousel) ne = slice_get-set_other carousels t j (carousel_after source start slot carousel) ne
 
 tables_on : TableSlotLaw → OtherTableSlotLaw → (d : Scheduled) (h : History) (texts : Described) (t : ℕ) (carousels : List Carousel) → TablesKnown d h texts →
     slot_of d.schedule h.slots ≡ Table t → tables_represent d h carousels →
-    tables_represent d (next_slot h) (carousels_after (section_bytes texts t) h.slots carousels t (slice_get carousels t))
+    tables_represent d (next_slot h) (carousels_after (section_bytes texts t) texts.start h.slots carousels t (slice_get carousels t))
 tables_on own_law other_law d h texts t carousels known is st j = elim (cases_eq j t) [
   | inl e ↦ subst
       (λ (n : ℕ). CarouselRepresents d (next_slot h) n
-      (slice_get (carousels_after (section_bytes texts t) h.slots carousels t (slice_get carousels t)) n)
+      (slice_get (carousels_after (section_bytes texts t) texts.start h.slots carousels t (slice_get carousels t)) n)
       (slice_get (table_kinds d.description) n))
       (sym e) (subst (λ (o : Option Carousel). CarouselRepresents d (next_slot h) t o (slice_get (table_kinds d.description) t))
-      (sym (carousel_same (section_bytes texts t) h.slots t carousels (slice_get carousels t) refl))
+      (sym (carousel_same (section_bytes texts t) texts.start h.slots t carousels (slice_get carousels t) refl))
       (table_own own_law d h texts t (slice_get carousels t) (slice_get (table_kinds d.description) t) known refl (ap (is_own (TableItem t)) is ∙ eq-eqb t t refl)
       (st t)))
   | inr ne ↦ subst (λ (o : Option Carousel). CarouselRepresents d (next_slot h) j o (slice_get (table_kinds d.description) j))
-      (sym (carousel_other (section_bytes texts t) h.slots j t carousels (slice_get carousels t) ne))
+      (sym (carousel_other (section_bytes texts t) texts.start h.slots j t carousels (slice_get carousels t) ne))
       (table_other other_law d h j (slice_get carousels j) (slice_get (table_kinds d.description) j) (ap (is_own (TableItem j)) is ∙ ne_eqb j t ne) (st j))
 ]
 
@@ -293,7 +296,7 @@ slot_advances laws h d texts sent queues carousels capacity (Table t) known is s
   packet = table_sends laws.own_table d h texts t (slice_get carousels t) (slice_get (table_kinds d.description) t) known refl
       (ap (is_own (TableItem t)) is ∙ eq-eqb t t refl) (tables t);
   represents = slot_represents h d texts (sent_after texts t sent (slice_get carousels t)) queues
-      (carousels_after (section_bytes texts t) h.slots carousels t (slice_get carousels t)) capacity
+      (carousels_after (section_bytes texts t) texts.start h.slots carousels t (slice_get carousels t)) capacity
       (streams_idle laws.other_stream d h capacity queues (λ k. ap (is_own (StreamItem k)) is) streams)
       (tables_on laws.own_table laws.other_table d h texts t carousels known is tables)
       (texts_on d h texts sent t (slice_get carousels t) (slice_get (table_kinds d.description) t) same is refl (tables t));

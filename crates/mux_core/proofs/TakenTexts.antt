@@ -1,5 +1,5 @@
 -- A multiplexer takes or refuses texts exactly as the history says, and then represents the history with one more change.
-use Rattle.std.proofs.Common.{◌≡◌, ℕ, ◌+◌, ◌<◌, ◌≤◌, ◌&&◌, nat_lt, Bool, true, false, cond, List, ◌∷◌, length, get_or, slice_get, Option, Some, None, Result, Ok, Err}
+use Rattle.std.proofs.Common.{◌≡◌, ℕ, ◌≤◌, ◌&&◌, Bool, true, false, cond, List, ◌∷◌, get_or, slice_get, Option, Some, None, Result, Ok, Err}
 use Rattle.std.proofs.Common.{OnOk, OnErr, refl, sym, ap, subst, ◌∙◌, arith, inl, inr}
 use Rattle.std.proofs.Math.Path.{fun_ext}
 use Rattle.std.proofs.lemmas.Bool.{cases_lt, lt-ltb, le-ltb}
@@ -9,13 +9,13 @@ use Rattle.description_parts.specs.Ranges.{IsInRange}
 use Rattle.description_parts.specs.Tables.{table_kinds}
 use Rattle.description_parts.specs.declared.table_kind.TableKind.{TableKind}
 use Rattle.description.specs.SubTables.{sub_table_count}
-use Rattle.changed_texts.specs.TextFaults.{text_fault, IsTextOf, TextLaw}
+use Rattle.changed_texts.specs.TextFaults.{text_fault, TextLaw}
 use Rattle.changed_texts.specs.Versions.{next_texts, changed, NextTextLaw, NextRangeLaw}
 use Rattle.changed_texts.specs.declared.fault.TextFault.{TextFault}
 use Rattle.table_rounds.specs.Carousels.{Carousel}
-use Rattle.table_rounds.specs.Tables.{moment_before}
+use Rattle.table_rounds.specs.Tables.{last_moment}
 use Rattle.mux_core.specs.Scheduled.{Scheduled}
-use Rattle.mux_core.specs.Histories.{Change, History, last_texts, table_of, content_over, bytes_of, with_change}
+use Rattle.mux_core.specs.Histories.{Change, History, last_texts, table_over, content_over, bytes_of, with_change}
 use Rattle.mux_core.specs.TextChanges.{text_cause, since_of, began_since, sent_of, events_table, events_moment, next_change}
 use Rattle.mux_core.specs.MuxStates.{MuxState, Represents, CarouselRepresents, Changes, text_refusal}
 use Rattle.mux_core.specs.SlotSteps.{sent_still, with_texts, moment_of_events}
@@ -31,13 +31,13 @@ pub record TextLaws : Type 0 where
 moment_in : (d : Scheduled) (h : History) (carousel : Option Carousel) (kind : Option TableKind) →
     CarouselRepresents d h (events_table d.description) carousel kind →
     ◌≡◌ {A = ℕ} (elim carousel [ None ↦ d.description.start | Some c ↦ c.moment ])
-    (elim kind [ None ↦ d.description.start | Some k ↦ moment_before (table_of d (events_table d.description)) h.slots ])
+    (elim kind [ None ↦ d.description.start | Some k ↦ last_moment (table_over d h.changes (events_table d.description)) h.slots ])
 moment_in d h (Some carousel) (Some kind) st = st.moment
 moment_in d h (Some carousel) None st = absurd st
 moment_in d h None (Some kind) st = absurd st
 moment_in d h None None st = refl
 
-moment_is : (h : History) (m : MuxState) → Represents h m → moment_of_events m ≡ events_moment m.schedule h.slots
+moment_is : (h : History) (m : MuxState) → Represents h m → moment_of_events m ≡ events_moment m.schedule h.changes h.slots
 moment_is h m st = moment_in m.schedule h (slice_get m.carousels (events_table m.schedule.description))
     (slice_get (table_kinds m.schedule.description) (events_table m.schedule.description)) (st.tables (events_table m.schedule.description))
 
@@ -54,7 +54,7 @@ next_is : (h : History) (m : MuxState) (texts : Described) → Represents h m �
 next_is h m texts st =
     ap (λ (now : Described). next_texts now texts (moment_of_events m) (λ n. get_or m.sent n false)) st.texts
     ∙ ap (λ (x : ℕ). next_texts (last_texts m.schedule.description h.changes) texts x (λ n. get_or m.sent n false)) (moment_is h m st)
-    ∙ ap (next_texts (last_texts m.schedule.description h.changes) texts (events_moment m.schedule h.slots)) (fun_ext (sent_at h m st))
+    ∙ ap (next_texts (last_texts m.schedule.description h.changes) texts (events_moment m.schedule h.changes h.slots)) (fun_ext (sent_at h m st))
 
 since_is : (h : History) (m : MuxState) (texts : Described) (x : ℕ) → Represents h m →
     (next_change m.schedule h texts).since x ≡ cond (changed m.texts texts (moment_of_events m) x) h.slots (since_of h.changes x)
@@ -81,10 +81,10 @@ takes_texts laws h m texts ranges st none = record {
   changes = (
     record {
       from = omega arith;
-      since = λ x. since_late (changed (last_texts m.schedule.description h.changes) texts (events_moment m.schedule h.slots) x) h.slots
+      since = λ x. since_late (changed (last_texts m.schedule.description h.changes) texts (events_moment m.schedule h.changes h.slots) x) h.slots
           (since_of h.changes x) (since_within m.schedule.description h.slots x h.changes st.changes);
-      ranges = laws.range (last_texts m.schedule.description h.changes) texts (events_moment m.schedule h.slots) (sent_of m.schedule h) ranges;
-      texts = laws.next m.schedule.description (last_texts m.schedule.description h.changes) texts (events_moment m.schedule h.slots)
+      ranges = laws.range (last_texts m.schedule.description h.changes) texts (events_moment m.schedule h.changes h.slots) (sent_of m.schedule h) ranges;
+      texts = laws.next m.schedule.description (last_texts m.schedule.description h.changes) texts (events_moment m.schedule h.changes h.slots)
           (sent_of m.schedule h) (laws.text m.schedule.description (last_texts m.schedule.description h.changes) texts none);
     },
     st.changes,

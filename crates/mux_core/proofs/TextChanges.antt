@@ -1,15 +1,16 @@
 -- A change of texts: what was written before it stays, and carousels and marks go on over it.
-use Rattle.std.proofs.Common.{◌≡◌, ◌≢◌, ℕ, zero, suc, ◌+◌, ◌*◌, ◌/◌, ◌%◌, ◌<◌, ◌≤◌, ◌==◌, ◌&&◌, ◌||◌, nat_le, nat_lt, not, Bool, true, false, cond, List, [], ◌∷◌, map}
+use Rattle.std.proofs.Common.{◌≡◌, ℕ, zero, suc, ◌+◌, ◌*◌, ◌/◌, ◌%◌, ◌<◌, ◌≤◌, ◌==◌, ◌&&◌, ◌||◌, nat_le, nat_lt, not, Bool, true, false, cond, List, [], ◌∷◌, map}
 use Rattle.std.proofs.Common.{set, length, get_or, Option, Some, None, slice_get, refl, sym, ap, subst, ◌∙◌, arith, inl, inr, get_or-set_same, get_or-set_other}
-use Rattle.std.specs.Prelude.{option_and_then, option_map, ⊤}
+use Rattle.std.specs.Prelude.{option_and_then, option_map}
 use Rattle.std.specs.List.{range_with_len}
 use Rattle.std.proofs.Math.Nat.{zero-mod}
-use Rattle.std.proofs.lemmas.Bool.{cases_eq, eq-eqb, ne_eqb, le-leb, lt-leb}
+use Rattle.std.proofs.lemmas.Bool.{cases_eq, cases_lt, eq-eqb, ne_eqb, le-leb, lt-leb}
 use Rattle.std.proofs.lemmas.List.{length-set}
 use Rattle.std.proofs.lemmas.List.FromFn.{get_or-map-range_with_len, length-map-range_with_len}
+use Rattle.clock27.specs.Units.{slot_seconds_at_1bps}
 use Rattle.own_slots.specs.Slots.{own_before}
 use Rattle.pes_packet.specs.AccessUnits.{AccessUnit}
-use Rattle.slot_contents.specs.Contents.{Content, Piece}
+use Rattle.slot_contents.specs.Contents.{Piece}
 use Rattle.description_parts.specs.Described.{Described}
 use Rattle.description_parts.specs.Tables.{table_kinds, table_count, section_count}
 use Rattle.description_parts.specs.declared.table_kind.TableKind.{TableKind}
@@ -21,7 +22,8 @@ use Rattle.slot_plan.specs.declared.slot.Slot.{Slot}
 use Rattle.slot_plan.specs.declared.slot.Slot.TheVariants.{Stream, Pcr, Table, Null}
 use Rattle.slot_plan.specs.Schedule.{slot_of}
 use Rattle.table_rounds.specs.Parts.{part_of, part_content}
-use Rattle.table_rounds.specs.Tables.{Table as TableSlots, SectionPlace, place_in, place_at, round_places, begin_before, moment_before, bytes_at, part_at, one_if_some, payloads_before, table_content}
+use Rattle.table_rounds.specs.Tables.{Table as TableSlots, SectionPlace, place_in, place_at, round_places, round_before, begin_before, moment_before}
+use Rattle.table_rounds.specs.Tables.{last_moment, part_at, one_if_some, payloads_before, table_content}
 use Rattle.table_rounds.specs.Carousels.{Carousel, CarouselHolds, next_section}
 use Rattle.table_rounds.proofs.Places.{place_first}
 use Rattle.mux_core.specs.Scheduled.{Scheduled}
@@ -86,6 +88,46 @@ begins_same d changes others t zero = refl
 begins_same d changes others t (suc s) =
     ap (λ (n : ℕ). cond ((table_over d changes t).own s && ((place_at (table_over d changes t) s).part == 0)) s n) (begins_same d changes others t s)
 
+-- the last round began before a slot in which the table had one
+round_within : (own : ℕ → Bool) (k s : ℕ) → round_before own k (suc s) ≤ s
+unfolding round_before
+round_within own k zero = by (own 0 && (own_before own 0 % k == 0))
+  where
+    by : (b : Bool) → cond b 0 0 ≤ 0
+    by true = omega arith
+    by false = omega arith
+round_within own k (suc s) = by (own (suc s) && (own_before own (suc s) % k == 0)) (round_within own k s)
+  where
+    by : (b : Bool) → round_before own k (suc s) ≤ s → cond b (suc s) (round_before own k (suc s)) ≤ suc s
+    by true le = omega arith
+    by false le = omega (arith, le)
+
+round_began : (own : ℕ → Bool) (k s : ℕ) → 0 < own_before own s → round_before own k s < s
+unfolding own_before
+round_began own k zero some = absurd (omega (arith, some))
+round_began own k (suc s) some = let within : round_before own k (suc s) ≤ s = round_within own k s in omega (arith, within)
+
+-- its moment, by the texts of that slot
+moment_stays : (d : Scheduled) (change : Change) (earlier : List Change) (t s : ℕ) →
+    round_before (table_over d earlier t).own (round_places (table_over d earlier t).lengths) s < change.from →
+    moment_before (table_over d (change ∷ earlier) t) s ≡ moment_before (table_over d earlier t) s
+moment_stays d change earlier t s lt =
+    let r = round_before (table_over d earlier t).own (round_places (table_over d earlier t).lengths) s in
+    ap (λ (e : Described). e.start + r * slot_seconds_at_1bps / d.description.rate) (text_before d.description change earlier r lt)
+
+last_stays : (d : Scheduled) (change : Change) (earlier : List Change) (t : ℕ) →
+    last_moment (table_over d (change ∷ earlier) t) change.from ≡ last_moment (table_over d earlier t) change.from
+last_stays d change earlier t = elim (cases_lt 0 (own_before (table_over d earlier t).own change.from)) [
+  | inl some ↦ ap (λ (m : ℕ). cond (own_before (table_over d earlier t).own change.from == 0) d.description.start m)
+      (moment_stays d change earlier t change.from
+      (round_began (table_over d earlier t).own (round_places (table_over d earlier t).lengths) change.from some))
+  | inr none ↦
+      let zero_before : (own_before (table_over d earlier t).own change.from == 0) ≡ true =
+      eq-eqb (own_before (table_over d earlier t).own change.from) 0 (omega (arith, none)) in
+      ap (λ (b : Bool). cond b d.description.start (moment_before (table_over d (change ∷ earlier) t) change.from)) zero_before
+      ∙ sym (ap (λ (b : Bool). cond b d.description.start (moment_before (table_over d earlier t) change.from)) zero_before)
+]
+
 -- the text of the section under way in a slot before the change
 text_stays : (d : Scheduled) (change : Change) (earlier : List Change) (t s section moment : ℕ) → begin_before (table_over d earlier t) s < change.from →
     (table_over d (change ∷ earlier) t).bytes (begin_before (table_over d (change ∷ earlier) t) s) section moment
@@ -98,7 +140,11 @@ part_stays : (d : Scheduled) (change : Change) (earlier : List Change) (t s : �
     part_at (table_over d (change ∷ earlier) t) s ≡ part_at (table_over d earlier t) s
 part_stays d change earlier t s lt =
     let within : begin_before (table_over d earlier t) (suc s) ≤ s = begin_within (table_over d earlier t) s in
-    ap (λ (l : List ℕ). part_of l (place_at (table_over d earlier t) s).part)
+    let round = round_within (table_over d earlier t).own (round_places (table_over d earlier t).lengths) s in
+    ap (λ (m : ℕ). part_of ((table_over d (change ∷ earlier) t).bytes (begin_before (table_over d (change ∷ earlier) t) (suc s))
+    (place_at (table_over d earlier t) s).section m) (place_at (table_over d earlier t) s).part)
+    (moment_stays d change earlier t (suc s) (omega (arith, round, lt)))
+    ∙ ap (λ (l : List ℕ). part_of l (place_at (table_over d earlier t) s).part)
     (text_stays d change earlier t (suc s) (place_at (table_over d earlier t) s).section (moment_before (table_over d earlier t) (suc s))
     (omega (arith, within, lt)))
 
@@ -155,20 +201,35 @@ began table zero some =
     absurd (omega (arith, some, first))
 began table (suc s) some = let within : begin_before table (suc s) ≤ s = begin_within table s in omega (arith, within)
 
+had_slot : (table : TableSlots) (s : ℕ) → 0 < (place_at table s).part → 0 < own_before table.own s
+had_slot table s some = elim (cases_lt 0 (own_before table.own s)) [
+  | inl had ↦ had
+  | inr none ↦
+      let zero_before : own_before table.own s ≡ 0 = omega (arith, none) in
+      let first : (place_at table s).part ≡ 0 =
+      ap (λ (n : ℕ). (place_in 0 table.lengths (n % round_places table.lengths)).part) zero_before
+      ∙ ap (λ (n : ℕ). (place_in 0 table.lengths n).part) (zero-mod (round_places table.lengths)) ∙ first_part_zero table.lengths in
+      absurd (omega (arith, some, first))
+]
+
 pub carousel_goes_on : (d : Scheduled) (change : Change) (earlier : List Change) (t : ℕ) (carousel : Carousel) →
     CarouselHolds (table_over d earlier t) change.from carousel → CarouselHolds (table_over d (change ∷ earlier) t) change.from carousel
 carousel_goes_on d change earlier t carousel h = record {
   pid = h.pid;
   rate = h.rate;
-  start = h.start;
   packets_per_section = h.packets_per_section;
   place = h.place;
-  moment = h.moment;
+  moment = h.moment ∙ sym (last_stays d change earlier t);
   bytes = λ lt.
       let part : (place_at (table_over d earlier t) change.from).part ≡ carousel.part = ap (λ (p : SectionPlace). p.part) h.place in
+      let later : 0 < (place_at (table_over d earlier t) change.from).part = omega (arith, part, lt) in
       h.bytes lt
-      ∙ sym (text_stays d change earlier t change.from carousel.section (moment_before (table_over d earlier t) change.from)
-      (began (table_over d earlier t) change.from (omega (arith, part, lt))));
+      ∙ sym (ap (λ (m : ℕ). (table_over d (change ∷ earlier) t).bytes (begin_before (table_over d (change ∷ earlier) t) change.from) carousel.section m)
+      (moment_stays d change earlier t change.from
+      (round_began (table_over d earlier t).own (round_places (table_over d earlier t).lengths) change.from
+      (had_slot (table_over d earlier t) change.from later)))
+      ∙ text_stays d change earlier t change.from carousel.section (moment_before (table_over d earlier t) change.from)
+      (began (table_over d earlier t) change.from later));
   counter = h.counter ∙ ap (λ (n : ℕ). n % 256) (sym (payloads_stay d change earlier t change.from (omega arith)));
 }
 

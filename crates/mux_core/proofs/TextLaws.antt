@@ -1,16 +1,15 @@
 -- Which packets a change of texts leaves as they are.
-use Rattle.std.proofs.Common.{◌≡◌, ◌⊎◌, ℕ, zero, suc, ◌+◌, ◌/◌, ◌<◌, ◌≤◌, nat_le, Bool, true, false, cond, List, [], ◌∷◌, length, get_or, Option, Some, None, slice_get, option_map, refl, ap}
+use Rattle.std.proofs.Common.{◌≡◌, ◌⊎◌, ℕ, zero, suc, ◌+◌, ◌<◌, ◌≤◌, Bool, false, cond, List, [], ◌∷◌, length, get_or, Option, Some, None, slice_get, option_map, refl, ap}
 use Rattle.std.proofs.Common.{sym, subst, ◌∙◌, arith, inl, inr}
-use Rattle.std.proofs.Math.Path.{fun_ext}
 use Rattle.std.proofs.lemmas.Bool.{cases_Bool, cases_eq, cases_lt, le-leb}
 use Rattle.std.proofs.lemmas.Option.{slice_get_within}
 use Rattle.pes_packet.specs.AccessUnits.{AccessUnit}
 use Rattle.ts_packet.specs.PidList.{Entry, is_of_pid, pid_list}
-use Rattle.slot_contents.specs.Contents.{Content, view_of, run_bytes, entry_at, entries_in}
+use Rattle.slot_contents.specs.Contents.{Content, Piece, view_of, run_bytes, entry_at, entries_in}
 use Rattle.slot_contents.proofs.Runs.{run_pid_list}
 use Rattle.description_parts.specs.Described.{Described}
 use Rattle.description_parts.specs.Ranges.{IsInRange}
-use Rattle.description_parts.specs.Tables.{table_kinds, table_kind, table_count, table_pid, section_count, section_lengths, section_packets}
+use Rattle.description_parts.specs.Tables.{table_kinds, table_kind, table_pid, section_count, section_lengths, section_packets}
 use Rattle.description_parts.specs.declared.table_kind.TableKind.{TableKind}
 use Rattle.description.specs.SectionBytes.{table_bytes}
 use Rattle.description.proofs.SectionBounds.{table_bytes_fit}
@@ -18,11 +17,10 @@ use Rattle.slot_plan.specs.declared.slot.Slot.{Slot}
 use Rattle.slot_plan.specs.declared.slot.Slot.TheVariants.{Stream, Pcr, Table, Null}
 use Rattle.slot_plan.specs.Schedule.{slot_of}
 use Rattle.slot_plan.specs.SlotPids.{slot_pid}
-use Rattle.table_rounds.specs.Parts.{places_of}
-use Rattle.table_rounds.specs.Tables.{Table as TableSlots, table_content}
+use Rattle.table_rounds.specs.Parts.{places_of, part_of, part_content}
+use Rattle.table_rounds.specs.Tables.{place_at, begin_before, moment_before, part_at, one_if_some, payloads_before}
 use Rattle.mux_core.specs.Scheduled.{Scheduled}
-use Rattle.mux_core.specs.Histories.{Change, text_at, last_texts, table_of, table_over, table_in, content_in, content_at, content_over}
-use Rattle.mux_core.specs.TextChanges.{ChangesFit}
+use Rattle.mux_core.specs.Histories.{Change, text_at, table_of, table_over, table_in, content_in, content_at, content_over}
 use Rattle.mux_core.specs.Headline.{UnitsKept}
 use Rattle.mux_core.specs.TextLaws.{IsOfNoTable, OthersUntouchedLaw, SameTableLaw, WholeSectionsLaw}
 use Rattle.mux_core.proofs.ContentPids.{names_over, silent}
@@ -87,21 +85,32 @@ others_untouched d changes units slots pid r kept below none =
 
 -- A table with the same sections
 
-tables_same : (d : Scheduled) (changes : List Change) (t : ℕ) →
-    ((s j moment : ℕ) → table_bytes (text_at d.description changes s) t j moment ≡ table_bytes d.description t j moment) →
-    table_over d changes t ≡ table_of d t
-tables_same d changes t same =
-    ap (λ (bytes : ℕ → ℕ → ℕ → List ℕ). let table : TableSlots = record (table_of d t) { bytes = bytes } in table)
-    (fun_ext (λ s. fun_ext (λ j. fun_ext (λ moment. same s j moment))))
+abbrev SameSections : Scheduled → List Change → ℕ → Type 0
+SameSections d changes t = (b s j : ℕ) → table_bytes (text_at d.description changes b) t j (moment_before (table_over d changes t) s)
+    ≡ table_bytes d.description t j (moment_before (table_of d t) s)
 
-table_slot_same : (d : Scheduled) (changes : List Change) (s t : ℕ) (o : Option TableKind) → table_over d changes t ≡ table_of d t →
+part_same : (d : Scheduled) (changes : List Change) (t s : ℕ) → SameSections d changes t → part_at (table_over d changes t) s ≡ part_at (table_of d t) s
+part_same d changes t s same = ap (λ (l : List ℕ). part_of l (place_at (table_of d t) s).part)
+    (same (begin_before (table_over d changes t) (suc s)) (suc s) (place_at (table_of d t) s).section)
+
+payloads_same : (d : Scheduled) (changes : List Change) (t s : ℕ) → SameSections d changes t →
+    payloads_before (table_over d changes t) s ≡ payloads_before (table_of d t) s
+unfolding payloads_before
+payloads_same d changes t zero same = refl
+payloads_same d changes t (suc s) same =
+    ap (λ (n : ℕ). n + cond ((table_of d t).own s) (one_if_some (part_at (table_over d changes t) s)) 0) (payloads_same d changes t s same)
+    ∙ ap (λ (o : Option Piece). payloads_before (table_of d t) s + cond ((table_of d t).own s) (one_if_some o) 0) (part_same d changes t s same)
+
+table_slot_same : (d : Scheduled) (changes : List Change) (s t : ℕ) (o : Option TableKind) → SameSections d changes t →
     table_in d changes s t o ≡ table_in d [] s t o
 unfolding table_in
 table_slot_same d changes s t None same = refl
-table_slot_same d changes s t (Some kind) same = ap (λ (table : TableSlots). table_content table s) same
+table_slot_same d changes s t (Some kind) same =
+    ap (λ (n : ℕ). part_content (table_of d t).pid n (part_at (table_over d changes t) s)) (payloads_same d changes t s same)
+    ∙ ap (λ (o : Option Piece). part_content (table_of d t).pid (payloads_before (table_of d t) s) o) (part_same d changes t s same)
 
 own_same : (d : Scheduled) (changes : List Change) (units : ℕ → List AccessUnit) (s t : ℕ) → slot_of d.schedule s ≡ Table t →
-    table_over d changes t ≡ table_of d t → content_over d changes units s ≡ content_at d units s
+    SameSections d changes t → content_over d changes units s ≡ content_at d units s
 unfolding content_over content_in
 own_same d changes units s t is same =
     ap (content_in d changes units s) is ∙ table_slot_same d changes s t (slice_get (table_kinds d.description) t) same
@@ -123,7 +132,7 @@ same_table d changes units slots t r kept lt same =
     let k = there (table_kinds d.description) t lt in
     let name = named d t k.0 k.1 in
     same_lists d changes units slots (table_pid d.description t) r kept (λ s. elim (is_table t (slot_of d.schedule s)) [
-      | inl is ↦ inl (own_same d changes units s t is (tables_same d changes t same))
+      | inl is ↦ inl (own_same d changes units s t is same)
       | inr other ↦ inr (
         silent d changes units s (table_pid d.description t) (Table t) r name other,
         silent d [] units s (table_pid d.description t) (Table t) r name other,

@@ -74,7 +74,7 @@ pcr_content d slot None = NullContent
 pcr_content d slot (Some pid) = PcrContent pid (pcr_at d.rate d.base0 (188 * slot + 10))
 
 -- a table on its own slots: its sections with their greatest lengths, and their bytes by the moment, from the texts in force in the slot in which a section
--- begins
+-- begins; the moment of a round by the `start` of the texts in force in the slot in which the round begins
 abbrev pub table_over : Scheduled → List Change → ℕ → TableSlots
 table_over d changes t = record {
   own = owned d.schedule (TableItem t);
@@ -82,7 +82,8 @@ table_over d changes t = record {
   lengths = section_lengths d.description t;
   bytes = λ slot. table_bytes (text_at d.description changes slot) t;
   rate = d.description.rate;
-  start = d.description.start;
+  start = λ slot. (text_at d.description changes slot).start;
+  first = d.description.start;
 }
 
 -- the same without a change

@@ -34,20 +34,20 @@ queues_after slot queues k (Some q) = set queues k (sent_in slot q)
 abbrev pub section_bytes : Described → ℕ → ℕ → ℕ → List ℕ
 section_bytes d t j moment = cond (nat_lt t (table_count d)) (cond (nat_lt j (section_count d t)) (table_bytes d t j moment) []) []
 
--- what a table puts into its slot, and the carousels after it
-unfoldable pub carousel_sends : (ℕ → ℕ → List ℕ) → ℕ → Option Carousel → Content
-carousel_sends source slot None = NullContent
-carousel_sends source slot (Some carousel) = carousel_content source slot carousel
+-- what a table puts into its slot by the moment `start` of slot 0, and the carousels after it
+unfoldable pub carousel_sends : (ℕ → ℕ → List ℕ) → ℕ → ℕ → Option Carousel → Content
+carousel_sends source start slot None = NullContent
+carousel_sends source start slot (Some carousel) = carousel_content source start slot carousel
 
-unfoldable pub carousels_after : (ℕ → ℕ → List ℕ) → ℕ → List Carousel → ℕ → Option Carousel → List Carousel
-carousels_after source slot carousels t None = carousels
-carousels_after source slot carousels t (Some carousel) = set carousels t (carousel_after source slot carousel)
+unfoldable pub carousels_after : (ℕ → ℕ → List ℕ) → ℕ → ℕ → List Carousel → ℕ → Option Carousel → List Carousel
+carousels_after source start slot carousels t None = carousels
+carousels_after source start slot carousels t (Some carousel) = set carousels t (carousel_after source start slot carousel)
 
 -- what the next slot carries, if it is of this kind
 unfoldable pub sends : MuxState → Slot → Content
 sends m (Stream k) = queue_sends m.slots (slice_get m.queues k)
 sends m (Pcr p) = pcr_content m.schedule.description m.slots (slot_pid m.schedule.description (Pcr p))
-sends m (Table t) = carousel_sends (section_bytes m.texts t) m.slots (slice_get m.carousels t)
+sends m (Table t) = carousel_sends (section_bytes m.texts t) m.texts.start m.slots (slice_get m.carousels t)
 sends m Null = NullContent
 
 -- the texts after the last change, or else the first
@@ -85,7 +85,7 @@ unfoldable pub after : MuxState → Slot → MuxState
 after m (Stream k) = later m m.sent (queues_after m.slots m.queues k (slice_get m.queues k)) m.carousels
 after m (Pcr p) = later m m.sent m.queues m.carousels
 after m (Table t) = later m (sent_after m.texts t m.sent (slice_get m.carousels t)) m.queues
-    (carousels_after (section_bytes m.texts t) m.slots m.carousels t (slice_get m.carousels t))
+    (carousels_after (section_bytes m.texts t) m.texts.start m.slots m.carousels t (slice_get m.carousels t))
 after m Null = later m m.sent m.queues m.carousels
 
 -- ---- a unit fed

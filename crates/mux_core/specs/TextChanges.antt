@@ -1,6 +1,6 @@
 -- Changes of the texts: which may come, which sub-tables they change from which slot on, and whether a section of a sub-table began since.
-use Rattle.std.specs.Prelude.{◌≡◌, ◌≤◌, ◌<◌, ℕ, zero, suc, ◌+◌, ◌==◌, ◌&&◌, ◌||◌, nat_lt, nat_le, Bool, true, false, cond, List, [], ◌∷◌, length, Option, Some, None}
-use Rattle.std.specs.Prelude.{slice_get, option_and_then, is_some, ⊤}
+use Rattle.std.specs.Prelude.{◌≡◌, ◌≤◌, ℕ, zero, suc, ◌+◌, ◌==◌, ◌&&◌, ◌||◌, nat_lt, nat_le, Bool, false, cond, List, [], ◌∷◌, length, Option, Some, None}
+use Rattle.std.specs.Prelude.{slice_get, is_some, ⊤}
 use Rattle.description_parts.specs.Described.{Described}
 use Rattle.description_parts.specs.Ranges.{IsInRange}
 use Rattle.description_parts.specs.Tables.{only_if, table_kinds, table_count, section_count}
@@ -13,9 +13,9 @@ use Rattle.changed_texts.specs.declared.fault.TextFault.{TextFault}
 use Rattle.slot_plan.specs.declared.slot.Slot.{Slot}
 use Rattle.slot_plan.specs.declared.slot.Slot.TheVariants.{Stream, Pcr, Table, Null}
 use Rattle.slot_plan.specs.Schedule.{slot_of}
-use Rattle.table_rounds.specs.Tables.{SectionPlace, place_at, moment_before}
+use Rattle.table_rounds.specs.Tables.{SectionPlace, place_at, last_moment}
 use Rattle.mux_core.specs.Scheduled.{Scheduled}
-use Rattle.mux_core.specs.Histories.{Change, History, text_at, last_texts, table_of}
+use Rattle.mux_core.specs.Histories.{Change, History, text_at, last_texts, table_of, table_over}
 
 -- a change up to this slot: its texts are in their ranges, and differ from the description in nothing but texts
 pub record ChangeFits (d : Described) (slot : ℕ) (change : Change) : Type 0 where
@@ -76,19 +76,19 @@ sent_of d h x = nat_lt x sub_table_count && began_since d h.changes x (since_of 
 abbrev pub events_table : Described → ℕ
 events_table d = 1 + length d.programs + length (only_if (is_some d.network) Nit) + length (only_if d.has_sdt Sdt)
 
--- the moment for which it shows its events: that of its last round
-abbrev pub events_moment : Scheduled → ℕ → ℕ
-events_moment d slots = elim (slice_get (table_kinds d.description) (events_table d.description)) [
+-- the moment for which it shows its events: that of its last round; before its first round that of slot 0 by the description
+abbrev pub events_moment : Scheduled → List Change → ℕ → ℕ
+events_moment d changes slots = elim (slice_get (table_kinds d.description) (events_table d.description)) [
   | None ↦ d.description.start
-  | Some kind ↦ moment_before (table_of d (events_table d.description)) slots
+  | Some kind ↦ last_moment (table_over d changes (events_table d.description)) slots
 ]
 
 -- the change to these texts in the next slot: each sub-table that changes has another version, if a section of the version before was sent
 abbrev pub next_change : Scheduled → History → Described → Change
 next_change d h texts = record {
   from = h.slots;
-  texts = next_texts (last_texts d.description h.changes) texts (events_moment d h.slots) (sent_of d h);
-  since = λ x. cond (changed (last_texts d.description h.changes) texts (events_moment d h.slots) x) h.slots (since_of h.changes x);
+  texts = next_texts (last_texts d.description h.changes) texts (events_moment d h.changes h.slots) (sent_of d h);
+  since = λ x. cond (changed (last_texts d.description h.changes) texts (events_moment d h.changes h.slots) x) h.slots (since_of h.changes x);
 }
 
 -- the history of changes alone, up to a slot

@@ -30,11 +30,12 @@ OthersUntouchedLaw = (d : Scheduled) (changes : List Change) (units : ℕ → Li
     pid < 8191 → IsOfNoTable d.description pid →
     pid_list pid (run_bytes (content_over d changes units) 0 slots) ≡ pid_list pid (run_bytes (content_at d units) 0 slots)
 
--- so are the packets of a table whose sections are as they were
+-- so are the packets of a table whose sections, at the moments of its rounds, are as they were
 abbrev pub SameTableLaw : Type 0
 SameTableLaw = (d : Scheduled) (changes : List Change) (units : ℕ → List AccessUnit) (slots t : ℕ) → IsInRange d.description → UnitsKept d units →
     t < table_count d.description →
-    ((s j moment : ℕ) → table_bytes (text_at d.description changes s) t j moment ≡ table_bytes d.description t j moment) →
+    ((b s j : ℕ) → table_bytes (text_at d.description changes b) t j (moment_before (table_over d changes t) s)
+    ≡ table_bytes d.description t j (moment_before (table_of d t) s)) →
     pid_list (table_pid d.description t) (run_bytes (content_over d changes units) 0 slots)
     ≡ pid_list (table_pid d.description t) (run_bytes (content_at d units) 0 slots)
 
@@ -58,7 +59,7 @@ pub record SectionBegins (d : Scheduled) (t j slot : ℕ) : Type 0 where
 
 -- the section as it is if it begins in this slot
 abbrev pub section_at : Scheduled → List Change → ℕ → ℕ → ℕ → List ℕ
-section_at d changes t j slot = (table_over d changes t).bytes slot j (moment_before (table_of d t) (suc slot))
+section_at d changes t j slot = (table_over d changes t).bytes slot j (moment_before (table_over d changes t) (suc slot))
 
 -- how many changes come after a slot, up to another
 abbrev pub changes_between : List Change → ℕ → ℕ → ℕ

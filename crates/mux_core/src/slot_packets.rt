@@ -34,6 +34,14 @@ pub(crate) fn write_stream<A: Allocator>(
     queue.write_next(slot, packet);
 }
 
+// Returns the moment of slot 0, by a description.
+fn start_of(description: &Description) -> u32
+    ensures { result ≡ description.now.start }
+{
+    description.keeps_ranges();
+    description.start() as u32
+}
+
 /// Writes the next packet of a table, from its carousel. It stays a call of its own: otherwise every slot would
 /// prepare the stack that a section's text needs.
 #[inline(never)]
@@ -48,11 +56,12 @@ pub(crate) fn write_table<A: Allocator>(
 )
     requires { slot < 2 ^ 40 }
     ensures packet { packet.new ≡ packet_of
-        (carousel_sends (section_bytes (texts_in texts.old.changed description.now) t) slot
-        (slice_get carousels.old.items t)) }
+        (carousel_sends (section_bytes (texts_in texts.old.changed description.now) t)
+        (texts_in texts.old.changed description.now).start slot (slice_get carousels.old.items t)) }
     ensures carousels { carousels.new.items ≡ carousels_after
-        (section_bytes (texts_in texts.old.changed description.now) t) slot
-        carousels.old.items t (slice_get carousels.old.items t) }
+        (section_bytes (texts_in texts.old.changed description.now) t)
+        (texts_in texts.old.changed description.now).start slot carousels.old.items t
+        (slice_get carousels.old.items t) }
     ensures sent { texts.new.sent ≡ sent_after (texts_in texts.old.changed description.now) t
         texts.old.sent (slice_get carousels.old.items t) }
     ensures texts { texts.new.changed ≡ texts.old.changed }
@@ -61,11 +70,12 @@ pub(crate) fn write_table<A: Allocator>(
         return write_null(packet);
     };
     texts.mark(description, t as usize, carousel.next_section());
+    let description = texts.texts(description);
     let sections = DescribedSections {
-        description: texts.texts(description),
+        description,
         table: t as usize,
     };
-    carousel.write_next(&sections, slot, packet);
+    carousel.write_next(&sections, start_of(description), slot, packet);
 }
 
 /// Writes the clock reference of a program: the time of byte 10 of the packet (ISO/IEC 13818-1, 2.4.3.5). Writes the

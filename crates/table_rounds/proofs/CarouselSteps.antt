@@ -4,14 +4,14 @@ use Rattle.std.proofs.Common.{slice_index_or, Option, Some, None, is_some, refl,
 use Rattle.std.proofs.lemmas.Bool.{cases_lt, ne_eqb}
 use Rattle.std.proofs.lemmas.List.{length-map}
 use Rattle.std.proofs.lemmas.Nat.{mod_below}
-use Rattle.std.proofs.Math.Nat.{mod-eq_of_lt, mod_self, mod-add-mod, zero-div}
+use Rattle.std.proofs.Math.Nat.{mod-eq_of_lt, mod_self, mod-add-mod}
 use Rattle.clock27.specs.Units.{slot_seconds_at_1bps}
 use Rattle.own_slots.specs.Slots.{own_before}
 use Rattle.own_slots.proofs.Counts.{own_before_own, own_before_other}
 use Rattle.slot_contents.specs.Contents.{packet_of, Piece}
 use Rattle.table_rounds.specs.Parts.{places_of, part_of, part_content}
-use Rattle.table_rounds.specs.Tables.{Table, SectionPlace, round_places, place_in, place_at, round_before, begin_before, moment_of, moment_before, bytes_at, part_at}
-use Rattle.table_rounds.specs.Tables.{one_if_some, payloads_before}
+use Rattle.table_rounds.specs.Tables.{Table, SectionPlace, round_places, place_in, place_at, round_before, begin_before, moment_of, moment_before, last_moment}
+use Rattle.table_rounds.specs.Tables.{bytes_at, part_at, one_if_some, payloads_before}
 use Rattle.table_rounds.specs.Carousels.{Carousel, CarouselHolds, moment_now, begun, section_advanced, advanced, counted}
 use Rattle.table_rounds.specs.Laws.{HasPlaces, IsSourceOf, FirstCarouselLaw, TableSlotLaw, OtherTableSlotLaw}
 use Rattle.table_rounds.proofs.Places.{NumberedPlace, numbered_place, place_first}
@@ -43,6 +43,10 @@ section_other : (table : Table) (s : ℕ) → table.own s ≡ false → begin_be
 unfolding begin_before
 section_other table s n = rw n refl
 
+-- The moment of a table that had a slot
+pub last_is : (table : Table) (s : ℕ) → 0 < own_before table.own s → last_moment table s ≡ moment_before table s
+last_is table s some = ap (λ (b : Bool). cond b table.first (moment_before table s)) (not_zero (own_before table.own s) some)
+
 -- A round with a place has a section.
 has_section : (ls : List ℕ) → 0 < round_places ls → 0 < length ls
 has_section [] some = absurd (omega (arith, some))
@@ -54,19 +58,15 @@ unfolding own_before payloads_before round_before
 first_carousel_holds table some = record {
   pid = refl;
   rate = refl;
-  start = refl;
   packets_per_section = refl;
   place = ap (place_in 0 table.lengths) zero_place ∙ place_first 0 table.lengths (has_section table.lengths some);
-  moment = first_moment;
+  moment = refl;
   bytes = λ lt. absurd (omega (arith, lt));
   counter = refl;
 }
   where
     zero_place : 0 % round_places table.lengths ≡ 0
     zero_place = mod-eq_of_lt some
-
-    first_moment : table.start ≡ table.start + 0 * slot_seconds_at_1bps / table.rate
-    first_moment = let e : 0 * slot_seconds_at_1bps / table.rate ≡ 0 = zero-div table.rate in omega (arith, e)
 
 -- The state after a slot that is not the table's own
 pub other_slot : OtherTableSlotLaw
@@ -80,10 +80,10 @@ other_slot table s carousel n h =
     record {
       pid = h.pid;
       rate = h.rate;
-      start = h.start;
       packets_per_section = h.packets_per_section;
       place = ap (λ (i : ℕ). place_in 0 table.lengths (i % round_places table.lengths)) before ∙ h.place;
-      moment = h.moment ∙ ap (moment_of table) (sym round);
+      moment = h.moment ∙ ap (λ (i : ℕ). cond (i == 0) table.first (moment_before table s)) (sym before)
+          ∙ ap (λ (r : ℕ). cond (own_before table.own (suc s) == 0) table.first (moment_of table r)) (sym round);
       bytes = λ lt. h.bytes lt ∙ ap (λ (r : ℕ). table.bytes (begin_before table s) carousel.section (moment_of table r)) (sym round)
           ∙ ap (λ (b : ℕ). table.bytes b carousel.section (moment_before table (suc s))) (sym (section_other table s n));
       counter = h.counter ∙ ap (λ (i : ℕ). i % 256) (sym count);
@@ -94,7 +94,6 @@ other_slot table s carousel n h =
 record Ready (table : Table) (s : ℕ) (b : Carousel) : Type 0 where
   pid : b.pid ≡ table.pid
   rate : b.rate ≡ table.rate
-  start : b.start ≡ table.start
   packets_per_section : b.packets_per_section ≡ map places_of table.lengths
   place : place_at table s ≡ record { section = b.section; part = b.part }
   moment : b.moment ≡ moment_before table (suc s)
@@ -102,16 +101,15 @@ record Ready (table : Table) (s : ℕ) (b : Carousel) : Type 0 where
   counter : b.counter ≡ payloads_before table (suc s) % 256
 
 -- The state at the next place
-placed : (table : Table) (s section part : ℕ) (b : Carousel) → Ready table s b → place_at table (suc s) ≡ record { section = section; part = part } →
+placed : (table : Table) (s section part : ℕ) (b : Carousel) → 0 < own_before table.own (suc s) → Ready table s b → place_at table (suc s) ≡ record { section = section; part = part } →
     (0 < part → section ≡ b.section)
     → CarouselHolds table (suc s) (record b { section = section; part = part })
-placed table s section part b r place same = record {
+placed table s section part b some r place same = record {
   pid = r.pid;
   rate = r.rate;
-  start = r.start;
   packets_per_section = r.packets_per_section;
   place = place;
-  moment = r.moment;
+  moment = r.moment ∙ sym (last_is table (suc s) some);
   bytes = λ lt. r.bytes ∙ ap (λ (j : ℕ). table.bytes (begin_before table (suc s)) j (moment_before table (suc s))) (sym (same lt));
   counter = r.counter;
 }
@@ -124,7 +122,7 @@ next_holds table s b some y r = elim (cases_lt (b.part + 1) (slice_index_or b.pa
       lt-ltb (b.part + 1) (slice_index_or b.packets_per_section b.section 0) m in
       let n = st.more (omega (arith, m, size, part)) in
       let f : advanced b ≡ record b { section = b.section; part = b.part + 1 } = rw e refl in
-      subst (CarouselHolds table (suc s)) (sym f) (placed table s b.section (b.part + 1) b r
+      subst (CarouselHolds table (suc s)) (sym f) (placed table s b.section (b.part + 1) b counted_one r
       (onward (st.q + 1) (0 + st.i) n.0 n.1 ∙ ap (λ (j : ℕ). record { section = j; part = st.q + 1 }) section
       ∙ ap (λ (q : ℕ). record { section = b.section; part = q + 1 }) part) (λ lt. refl))
   | inr done ↦
@@ -135,13 +133,13 @@ next_holds table s b some y r = elim (cases_lt (b.part + 1) (slice_index_or b.pa
             let g : nat_lt (b.section + 1) (length b.packets_per_section) ≡ true = lt-ltb (b.section + 1) (length b.packets_per_section) m in
             let n = st.next (omega (arith, done, size, part)) (omega (arith, m, sections, section)) in
             let f : advanced b ≡ record b { section = b.section + 1; part = 0 } = rw (e, g) refl in
-            subst (CarouselHolds table (suc s)) (sym f) (placed table s (b.section + 1) 0 b r
+            subst (CarouselHolds table (suc s)) (sym f) (placed table s (b.section + 1) 0 b counted_one r
             (onward 0 (0 + st.i + 1) n.0 n.1 ∙ ap (λ (j : ℕ). record { section = j + 1; part = 0 }) section) (λ lt. absurd (omega (arith, lt))))
         | inr end ↦
             let g : nat_lt (b.section + 1) (length b.packets_per_section) ≡ false = le-ltb (b.section + 1) (length b.packets_per_section) end in
             let n = st.last (omega (arith, done, size, part)) (omega (arith, end, sections, section)) in
             let f : advanced b ≡ record b { section = 0; part = 0 } = rw (e, g) refl in
-            subst (CarouselHolds table (suc s)) (sym f) (placed table s 0 0 b r (around n) (λ lt. absurd (omega (arith, lt))))
+            subst (CarouselHolds table (suc s)) (sym f) (placed table s 0 0 b counted_one r (around n) (λ lt. absurd (omega (arith, lt))))
       ]
 ]
   where
@@ -173,6 +171,9 @@ next_holds table s b some y r = elim (cases_lt (b.part + 1) (slice_index_or b.pa
     count : own_before table.own (suc s) ≡ i + 1
     count = own_before_own table.own s y
 
+    counted_one : 0 < own_before table.own (suc s)
+    counted_one = omega (arith, count)
+
     onward : (q j : ℕ) → i % k + 1 < k → place_in 0 table.lengths (i % k + 1) ≡ record { section = j; part = q } →
         place_at table (suc s) ≡ record { section = j; part = q }
     onward q j lt e = ap (λ (n : ℕ). place_in 0 table.lengths (n % k)) count ∙ ap (place_in 0 table.lengths) (sym (mod-add-mod i k 1) ∙ mod-eq_of_lt lt) ∙ e
@@ -189,20 +190,21 @@ made carousel moment bytes = record carousel { moment = moment; bytes = bytes }
 -- At an own slot the state has the moment of the round and the bytes of the section.
 begun_is : (table : Table) (s : ℕ) (source : ℕ → ℕ → List ℕ) (carousel : Carousel) → HasPlaces table → IsSourceOf table s source → table.own s ≡ true →
     CarouselHolds table s carousel
-    → begun source s carousel ≡ made carousel (moment_before table (suc s)) (table.bytes (begin_before table (suc s)) carousel.section (moment_before table (suc s)))
+    → begun source (table.start s) s carousel ≡ made carousel (moment_before table (suc s)) (table.bytes (begin_before table (suc s)) carousel.section (moment_before table (suc s)))
 unfolding begun
 begun_is table s source carousel some is y h = elim (cases_lt 0 carousel.part) [
   | inl later ↦
       let e : (carousel.part == 0) ≡ false = not_zero carousel.part later in
-      let f : begun source s carousel ≡ carousel = rw e refl in
+      let f : begun source (table.start s) s carousel ≡ carousel = rw e refl in
       let n : 0 < i % k = inside later in
-      f ∙ remade (h.moment ∙ ap (moment_of table) (sym (round_stays table.own k s y n)))
+      f ∙ remade (h.moment ∙ last_is table s (had n) ∙ ap (moment_of table) (sym (round_stays table.own k s y n)))
       (h.bytes later ∙ ap (λ (r : ℕ). table.bytes (begin_before table s) carousel.section (moment_of table r)) (sym (round_stays table.own k s y n))
       ∙ ap (λ (b : ℕ). table.bytes b carousel.section (moment_before table (suc s))) (sym (section_stays table s y (under_way later))))
   | inr first ↦
       let z : carousel.part ≡ 0 = omega (arith, first) in
       let e : (carousel.part == 0) ≡ true = eq-eqb carousel.part 0 z in
-      let f : begun source s carousel ≡ made carousel (moment_now s carousel) (source carousel.section (moment_now s carousel)) = rw e refl in
+      let f : begun source (table.start s) s carousel
+      ≡ made carousel (moment_now (table.start s) s carousel) (source carousel.section (moment_now (table.start s) s carousel)) = rw e refl in
       f ∙ ap (λ (m : ℕ). made carousel m (source carousel.section m)) (moment z)
       ∙ ap (made carousel (moment_before table (suc s))) (is carousel.section (moment_before table (suc s)) within
       ∙ ap (λ (b : ℕ). table.bytes b carousel.section (moment_before table (suc s))) (sym (section_at table s y (here ∙ z))))
@@ -232,6 +234,9 @@ begun_is table s source carousel some is y h = elim (cases_lt 0 carousel.part) [
     within : carousel.section < length table.lengths
     within = omega (arith, section, st.section)
 
+    at_zero : i ≡ 0 → i % k ≡ 0
+    at_zero z = ap (λ (n : ℕ). n % k) z ∙ mod-eq_of_lt some
+
     remade : {m : ℕ} {t : List ℕ} → carousel.moment ≡ m → carousel.bytes ≡ t → carousel ≡ made carousel m t
     remade {m} {t} a b = ap (λ (x : ℕ). made carousel x carousel.bytes) a ∙ ap (made carousel m) b
 
@@ -250,18 +255,23 @@ begun_is table s source carousel some is y h = elim (cases_lt 0 carousel.part) [
         let d : sum_by places_of (take st.i table.lengths) ≡ 0 = ap (λ (j : ℕ). sum_by places_of (take j table.lengths)) c in
         omega (arith, st.number, d, part, b)
 
-    moment : carousel.part ≡ 0 → moment_now s carousel ≡ moment_before table (suc s)
+    -- past the first place of a round the table had a slot
+    had : 0 < i % k → 0 < i
+    had n = elim (cases_lt 0 i) [ inl x ↦ x | inr x ↦ absurd (omega (arith, n, at_zero (omega (arith, x)))) ]
+
+    moment : carousel.part ≡ 0 → moment_now (table.start s) s carousel ≡ moment_before table (suc s)
     moment z = elim (cases_lt 0 (i % k)) [
       | inl n ↦
           let e : (carousel.section == 0) ≡ false =
           not_zero carousel.section (elim (cases_lt 0 carousel.section) [ inl x ↦ x | inr x ↦ absurd (omega (arith, n, at_first (omega (arith, x)) z)) ]) in
-          ap (λ (b : Bool). cond b (carousel.start + s * slot_seconds_at_1bps / carousel.rate) carousel.moment) e ∙ h.moment
+          ap (λ (b : Bool). cond b (table.start s + s * slot_seconds_at_1bps / carousel.rate) carousel.moment) e ∙ h.moment
+          ∙ last_is table s (had n)
           ∙ ap (moment_of table) (sym (round_stays table.own k s y n))
       | inr n ↦
           let zero_place : i % k ≡ 0 = omega (arith, n) in
           let e : (carousel.section == 0) ≡ true = eq-eqb carousel.section 0 (first_place_zero zero_place).0 in
-          ap (λ (b : Bool). cond b (carousel.start + s * slot_seconds_at_1bps / carousel.rate) carousel.moment) e
-          ∙ ap (λ (a : ℕ). a + s * slot_seconds_at_1bps / carousel.rate) h.start ∙ ap (λ (a : ℕ). table.start + s * slot_seconds_at_1bps / a) h.rate
+          ap (λ (b : Bool). cond b (table.start s + s * slot_seconds_at_1bps / carousel.rate) carousel.moment) e
+          ∙ ap (λ (a : ℕ). table.start s + s * slot_seconds_at_1bps / a) h.rate
           ∙ ap (moment_of table) (sym (round_at table.own k s y zero_place))
     ]
 
@@ -276,7 +286,6 @@ ready table s carousel None y h e =
     record {
       pid = h.pid;
       rate = h.rate;
-      start = h.start;
       packets_per_section = h.packets_per_section;
       place = h.place;
       moment = refl;
@@ -291,7 +300,6 @@ ready table s carousel (Some p) y h e =
     record {
       pid = h.pid;
       rate = h.rate;
-      start = h.start;
       packets_per_section = h.packets_per_section;
       place = h.place;
       moment = refl;
@@ -309,7 +317,7 @@ same_packet pid number counter (Some p) e = let f : counter % 16 ≡ number % 16
 
 pub own_slot : TableSlotLaw
 own_slot table s source carousel some is y h =
-    let b : begun source s carousel ≡ made carousel (moment_before table (suc s)) (table.bytes (begin_before table (suc s)) carousel.section (moment_before table (suc s))) =
+    let b : begun source (table.start s) s carousel ≡ made carousel (moment_before table (suc s)) (table.bytes (begin_before table (suc s)) carousel.section (moment_before table (suc s))) =
     begun_is table s source carousel some is y h in
     let bytes : bytes_at table s ≡ table.bytes (begin_before table (suc s)) carousel.section (moment_before table (suc s)) =
     ap (λ (p : SectionPlace). table.bytes (begin_before table (suc s)) p.section (moment_before table (suc s))) h.place in

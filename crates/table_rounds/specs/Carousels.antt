@@ -3,13 +3,12 @@ use Rattle.std.specs.Prelude.{◌≡◌, ℕ, ◌+◌, ◌*◌, ◌/◌, ◌%◌
 use Rattle.clock27.specs.Units.{slot_seconds_at_1bps}
 use Rattle.slot_contents.specs.Contents.{Content, Piece}
 use Rattle.table_rounds.specs.Parts.{places_of, part_of, part_content}
-use Rattle.table_rounds.specs.Tables.{Table, place_at, begin_before, moment_before, payloads_before}
+use Rattle.table_rounds.specs.Tables.{Table, place_at, begin_before, moment_before, last_moment, payloads_before}
 
 -- the next place, the moment of the round, the bytes of the current section, and the number of payloads sent modulo 256
 pub record Carousel : Type 0 where
   pub pid : ℕ
   pub rate : ℕ
-  pub start : ℕ
   pub packets_per_section : List ℕ
   pub section : ℕ
   pub part : ℕ
@@ -21,30 +20,29 @@ pub record Carousel : Type 0 where
 pub record CarouselHolds (table : Table) (slots : ℕ) (carousel : Carousel) : Type 0 where
   pub pid : carousel.pid ≡ table.pid
   pub rate : carousel.rate ≡ table.rate
-  pub start : carousel.start ≡ table.start
   pub packets_per_section : carousel.packets_per_section ≡ map places_of table.lengths
   pub place : place_at table slots ≡ record { section = carousel.section; part = carousel.part }
-  pub moment : carousel.moment ≡ moment_before table slots
+  pub moment : carousel.moment ≡ last_moment table slots
   pub bytes : 0 < carousel.part → carousel.bytes ≡ table.bytes (begin_before table slots) carousel.section (moment_before table slots)
   pub counter : carousel.counter ≡ payloads_before table slots % 256
 
--- a table's state before slot 0: before the first round the moment is that of slot 0
+-- a table's state before slot 0, with the moment before the first round
 abbrev pub first_carousel : ℕ → ℕ → ℕ → List ℕ → Carousel
-first_carousel pid rate start lengths =
-    record { pid = pid; rate = rate; start = start; packets_per_section = map places_of lengths; section = 0; part = 0; moment = start; counter = 0; bytes = [] }
+first_carousel pid rate first lengths =
+    record { pid = pid; rate = rate; packets_per_section = map places_of lengths; section = 0; part = 0; moment = first; counter = 0; bytes = [] }
 
 -- the section that begins in the next own slot, if one begins there
 abbrev pub next_section : Carousel → Option ℕ
 next_section carousel = cond (carousel.part == 0) (Some carousel.section) None
 
--- the moment of the round in slot s: section 0 takes the time of the slot, other sections keep the moment
-abbrev pub moment_now : ℕ → Carousel → ℕ
-moment_now s carousel = cond (carousel.section == 0) (carousel.start + s * slot_seconds_at_1bps / carousel.rate) carousel.moment
+-- the moment of the round in slot s, by the moment `start` of slot 0: section 0 takes the time of the slot, other sections keep the moment
+abbrev pub moment_now : ℕ → ℕ → Carousel → ℕ
+moment_now start s carousel = cond (carousel.section == 0) (start + s * slot_seconds_at_1bps / carousel.rate) carousel.moment
 
 -- at the first place of a section its bytes are made, and with section 0 the moment of the round is taken
-unfoldable pub begun : (ℕ → ℕ → List ℕ) → ℕ → Carousel → Carousel
-begun source s carousel =
-    cond (carousel.part == 0) (record carousel { moment = moment_now s carousel; bytes = source carousel.section (moment_now s carousel) }) carousel
+unfoldable pub begun : (ℕ → ℕ → List ℕ) → ℕ → ℕ → Carousel → Carousel
+begun source start s carousel =
+    cond (carousel.part == 0) (record carousel { moment = moment_now start s carousel; bytes = source carousel.section (moment_now start s carousel) }) carousel
 
 -- the next section; after the last section the first
 unfoldable pub section_advanced : Carousel → Carousel
@@ -69,9 +67,9 @@ abbrev pub content_now : Carousel → Content
 content_now carousel = part_content carousel.pid carousel.counter (part_now carousel)
 
 -- what the own slot s carries, by the state
-abbrev pub carousel_content : (ℕ → ℕ → List ℕ) → ℕ → Carousel → Content
-carousel_content source s carousel = content_now (begun source s carousel)
+abbrev pub carousel_content : (ℕ → ℕ → List ℕ) → ℕ → ℕ → Carousel → Content
+carousel_content source start s carousel = content_now (begun source start s carousel)
 
 -- the state after the own slot s
-abbrev pub carousel_after : (ℕ → ℕ → List ℕ) → ℕ → Carousel → Carousel
-carousel_after source s carousel = advanced (counted (is_some (part_now (begun source s carousel))) (begun source s carousel))
+abbrev pub carousel_after : (ℕ → ℕ → List ℕ) → ℕ → ℕ → Carousel → Carousel
+carousel_after source start s carousel = advanced (counted (is_some (part_now (begun source start s carousel))) (begun source start s carousel))

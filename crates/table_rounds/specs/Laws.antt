@@ -15,12 +15,12 @@ IsSourceOf table s source = (j moment : ℕ) → j < length table.lengths → so
 
 -- the first state represents the table before slot 0
 abbrev pub FirstCarouselLaw : Type 0
-FirstCarouselLaw = (table : Table) → HasPlaces table → CarouselHolds table 0 (first_carousel table.pid table.rate table.start table.lengths)
+FirstCarouselLaw = (table : Table) → HasPlaces table → CarouselHolds table 0 (first_carousel table.pid table.rate table.first table.lengths)
 
--- at an own slot the state gives the packet of the slot, and represents the table in the next slot
+-- at an own slot the state gives, by the clock of the slot, the packet of the slot, and represents the table in the next slot
 pub record TableSlot (table : Table) (s : ℕ) (source : ℕ → ℕ → List ℕ) (carousel : Carousel) : Type 0 where
-  pub packet : packet_of (carousel_content source s carousel) ≡ packet_of (table_content table s)
-  pub holds : CarouselHolds table (suc s) (carousel_after source s carousel)
+  pub packet : packet_of (carousel_content source (table.start s) s carousel) ≡ packet_of (table_content table s)
+  pub holds : CarouselHolds table (suc s) (carousel_after source (table.start s) s carousel)
 
 abbrev pub TableSlotLaw : Type 0
 TableSlotLaw = (table : Table) (s : ℕ) (source : ℕ → ℕ → List ℕ) (carousel : Carousel) → HasPlaces table → IsSourceOf table s source → table.own s ≡ true →

@@ -15,9 +15,12 @@ pub record Table : Type 0 where
   pub lengths : List ℕ
   -- the bytes of a section that begins in a slot, for a moment, in seconds since 1970: the texts may be others from a slot on
   pub bytes : ℕ → ℕ → ℕ → List ℕ
-  -- bits a second of the output, and the moment at which slot 0 begins
+  -- bits a second of the output
   pub rate : ℕ
-  pub start : ℕ
+  -- the moment at which slot 0 begins, by the clock of a slot: the clock may be set from a slot on
+  pub start : ℕ → ℕ
+  -- the moment before the first round
+  pub first : ℕ
 
 -- the index of a section, and a place of the section, each counted from 0
 pub record SectionPlace : Type 0 where
@@ -47,13 +50,17 @@ unfoldable pub begin_before : Table → ℕ → ℕ
 begin_before table zero = 0
 begin_before table (suc s) = cond (table.own s && ((place_at table s).part == 0)) s (begin_before table s)
 
--- the moment at which slot s begins: a slot lasts 1,504 / rate seconds
+-- the moment at which slot s begins, by its own clock: a slot lasts 1,504 / rate seconds
 abbrev pub moment_of : Table → ℕ → ℕ
-moment_of table s = table.start + s * slot_seconds_at_1bps / table.rate
+moment_of table s = table.start s + s * slot_seconds_at_1bps / table.rate
 
--- the moment of the last round that began before slot s
+-- the moment of the last round that began before slot s, by the clock of the slot in which it began
 abbrev pub moment_before : Table → ℕ → ℕ
 moment_before table s = moment_of table (round_before table.own (round_places table.lengths) s)
+
+-- the same, if the table had a slot before slot s; else the moment before the first round
+abbrev pub last_moment : Table → ℕ → ℕ
+last_moment table s = cond (own_before table.own s == 0) table.first (moment_before table s)
 
 -- the bytes of the section in the own slot s, and the part of the section there
 abbrev pub bytes_at : Table → ℕ → List ℕ

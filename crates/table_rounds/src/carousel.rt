@@ -17,7 +17,6 @@ use std::marker::Model;
 pub struct TableCarousel {
     pid: u16,
     rate: Rate,
-    start: u32,
     packets_per_section: ArrayVec<u16, 128>,
     section: u8,
     part: u16,
@@ -35,7 +34,6 @@ impl Model for TableCarousel {
     ghost view = { λ t. record {
       pid = t.pid;
       rate = t.rate;
-      start = t.start;
       packets_per_section = t.packets_per_section.items;
       section = t.section;
       part = t.part;
@@ -75,21 +73,20 @@ fn moment_at(rate: Rate, start: u32, slot: u64) -> u64
 }
 
 impl TableCarousel {
-    /// Returns a table before slot 0 of an output of this rate, which begins at the moment `start`, in seconds since
-    /// 1970-01-01T00:00:00 UTC. `lengths` has the greatest length of each section over all moments, in bytes.
-    pub fn new(pid: u16, rate: Rate, start: u32, lengths: &[u16]) -> TableCarousel
+    /// Returns a table before slot 0 of an output of this rate. Before the first round its moment is `first`, in seconds
+    /// since 1970-01-01T00:00:00 UTC. `lengths` has the greatest length of each section over all moments, in bytes.
+    pub fn new(pid: u16, rate: Rate, first: u32, lengths: &[u16]) -> TableCarousel
         requires pid { pid < 2 ^ 13 }
         requires sections { length lengths.now ≤ 128 }
-        ensures { result ≡ spec.first_carousel pid rate start lengths.now }
+        ensures { result ≡ spec.first_carousel pid rate first lengths.now }
     {
         TableCarousel {
             pid,
             rate,
-            start,
             packets_per_section: places_of_each(lengths),
             section: 0,
             part: 0,
-            moment: start as u64,
+            moment: first as u64,
             counter: 0,
             bytes: ArrayVec::new(),
         }
@@ -106,7 +103,7 @@ impl TableCarousel {
         }
     }
 
-    /// Returns the moment of the last round that began, before the first round the moment of slot 0.
+    /// Returns the moment of the last round that began, before the first round the one that `new` took.
     pub fn moment(&self) -> u64
         ensures { result ≡ self.now.moment }
     {
@@ -114,24 +111,30 @@ impl TableCarousel {
     }
 
     /// Returns the packet of an own slot: a part of the current section, or the null packet if the section is shorter
-    /// than its places.
-    pub fn next<T: SectionSource>(&mut self, source: &T, slot: u64) -> [u8; 188]
+    /// than its places. A round that begins there has the moment of the slot, if slot 0 began at the moment `start`.
+    pub fn next<T: SectionSource>(&mut self, source: &T, start: u32, slot: u64) -> [u8; 188]
         requires { slot < 2 ^ 40 }
-        ensures packet { result ≡ packet_of (spec.carousel_content (T.bytes source.now) slot self.old) }
-        ensures state { self.new ≡ spec.carousel_after (T.bytes source.now) slot self.old }
+        ensures packet { result ≡ packet_of (spec.carousel_content (T.bytes source.now) start slot self.old) }
+        ensures state { self.new ≡ spec.carousel_after (T.bytes source.now) start slot self.old }
     {
         let mut packet = [0; 188];
-        self.write_next(source, slot, &mut packet);
+        self.write_next(source, start, slot, &mut packet);
         packet
     }
 
     /// Writes the same over the bytes of `packet`.
-    pub fn write_next<T: SectionSource>(&mut self, source: &T, slot: u64, packet: &mut [u8; 188])
+    pub fn write_next<T: SectionSource>(
+        &mut self,
+        source: &T,
+        start: u32,
+        slot: u64,
+        packet: &mut [u8; 188],
+    )
         requires { slot < 2 ^ 40 }
-        ensures packet { packet.new ≡ packet_of (spec.carousel_content (T.bytes source.now) slot self.old) }
-        ensures state { self.new ≡ spec.carousel_after (T.bytes source.now) slot self.old }
+        ensures packet { packet.new ≡ packet_of (spec.carousel_content (T.bytes source.now) start slot self.old) }
+        ensures state { self.new ≡ spec.carousel_after (T.bytes source.now) start slot self.old }
     {
-        self.begin(source, slot);
+        self.begin(source, start, slot);
         let sent = write_section_packet(
             packet,
             self.pid,
@@ -146,23 +149,23 @@ impl TableCarousel {
     #[tactic(auto, unfolding(crate::specs::Carousels::begun))]
     // Takes the moment of the round at its first place, and makes the bytes of a section at the first place of the
     // section.
-    fn begin<T: SectionSource>(&mut self, source: &T, slot: u64)
+    fn begin<T: SectionSource>(&mut self, source: &T, start: u32, slot: u64)
         requires { slot < 2 ^ 40 }
-        ensures { self.new ≡ spec.begun (T.bytes source.now) slot self.old }
+        ensures { self.new ≡ spec.begun (T.bytes source.now) start slot self.old }
     {
         if self.part == 0 {
-            self.moment = self.moment_now(slot);
+            self.moment = self.moment_now(start, slot);
             source.write_section(self.section as usize, self.moment, &mut self.bytes);
         }
     }
 
     // Returns the moment of the round: the moment of its first slot.
-    fn moment_now(&self, slot: u64) -> u64
+    fn moment_now(&self, start: u32, slot: u64) -> u64
         requires { slot < 2 ^ 40 }
-        ensures { result ≡ spec.moment_now slot self.now }
+        ensures { result ≡ spec.moment_now start slot self.now }
     {
         if self.section == 0 {
-            moment_at(self.rate, self.start, slot)
+            moment_at(self.rate, start, slot)
         } else {
             self.moment
         }

@@ -20,17 +20,17 @@ impl SectionSource for Moments {
     }
 }
 
-/// Slots, and the first bytes of their packets: a round has one moment, and the null packet if a section is shorter
-/// than its places.
-static PACKETS: [(u64, &[u8]); 4] = [
-    (1000, b"\x47\x40\x12\x10\x00\x08"),
-    (3000, b"\x47\x40\x12\x11\x00\x08"),
-    (4000, b"\x47\x1f\xff\x10"),
-    (5000, b"\x47\x40\x12\x12\x00\x0c"),
+/// The moment of slot 0, slots, and the first bytes of their packets: a round has one moment, by the moment of slot 0
+/// when it begins, and the null packet if a section is shorter than its places.
+static PACKETS: [(u32, u64, &[u8]); 4] = [
+    (7, 1000, b"\x47\x40\x12\x10\x00\x08"),
+    (9, 3000, b"\x47\x40\x12\x11\x00\x08"),
+    (9, 4000, b"\x47\x1f\xff\x10"),
+    (9, 5000, b"\x47\x40\x12\x12\x00\x0e"),
 ];
 
-fn is_next(turn: &mut TableCarousel, slot: u64, front: &[u8]) -> bool {
-    slot < 1 << 40 && turn.next(&Moments, slot) == packet_of(front)
+fn is_next(turn: &mut TableCarousel, start: u32, slot: u64, front: &[u8]) -> bool {
+    slot < 1 << 40 && turn.next(&Moments, start, slot) == packet_of(front)
 }
 
 #[test]
@@ -39,7 +39,7 @@ fn a_round_has_one_moment(rt: HostRuntime) {
         return;
     };
     let mut turn = TableCarousel::new(0x12, rate, 7, &[1, 300]);
-    for (slot, front) in &PACKETS {
-        assert!(rt; is_next(&mut turn, *slot, front));
+    for (start, slot, front) in &PACKETS {
+        assert!(rt; is_next(&mut turn, *start, *slot, front));
     }
 }
