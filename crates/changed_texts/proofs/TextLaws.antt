@@ -35,18 +35,18 @@ else_none : {X : Type 0} (b : Bool) (x : X) → (if b then None else Some x) ≡
 else_none true x h = refl
 else_none false x h = absurd (cc)
 
--- The rate, the clocks and the names
+-- The rate, the clock and the names
 record IsSameWhole (frame e : Described) : Type 0 where
   rate : frame.rate ≡ e.rate
-  clocks : (frame.base0 == e.base0 && frame.start == e.start) ≡ true
+  clock : (frame.base0 == e.base0) ≡ true
   names : (frame.transport_stream_id == e.transport_stream_id && frame.original_network_id == e.original_network_id) ≡ true
 
 same_whole : (frame e : Described) → whole_fault frame e ≡ None → IsSameWhole frame e
 same_whole frame e h =
     let rates = no_if _ _ _ h in
-    let clocks = no_if _ _ _ rates.1 in
-    let names = no_if _ _ _ clocks.1 in
-    record { rate = eqb-true _ _ rates.0; clocks = clocks.0; names = names.0 }
+    let clock = no_if _ _ _ rates.1 in
+    let names = no_if _ _ _ clock.1 in
+    record { rate = eqb-true _ _ rates.0; clock = clock.0; names = names.0 }
 
 -- The kinds of the tables
 numbers_map : {X Y : Type 0} (f : X → Y) (n : ℕ) (xs : List X) → numbers_from n (map f xs) ≡ numbers_from n xs
@@ -167,7 +167,6 @@ parts_alike : (frame e : Described) → IsSameWhole frame e → map fixed_progra
     → map fixed_stream e.streams ≡ map fixed_stream frame.streams → map fixed_table e.tables ≡ map fixed_table frame.tables
     → has_same_tables frame e ≡ true → shape_fault frame e ≡ None → IsTextOf frame e
 parts_alike frame e whole programs streams tables h shape =
-    let clocks = and_parts _ _ whole.clocks in
     let names = and_parts _ _ whole.names in
     let front = and_parts _ _ h in
     let shared = and_parts _ _ front.0 in
@@ -175,8 +174,7 @@ parts_alike frame e whole programs streams tables h shape =
     let kinds = same_kinds frame e programs tables flags.0 in
     record {
       rate = sym whole.rate;
-      base0 = sym (eqb-true _ _ clocks.0);
-      start = sym (eqb-true _ _ clocks.1);
+      base0 = sym (eqb-true _ _ whole.clock);
       transport_stream_id = sym (eqb-true _ _ names.0);
       original_network_id = sym (eqb-true _ _ names.1);
       is_transponder = sym (same_bool _ _ flags.1);

@@ -178,7 +178,6 @@ text_alike : (frame new next : Described) → without_versions next ≡ without_
 text_alike frame new next same tables text = record {
   rate = ap (λ d. d.rate) same ∙ text.rate;
   base0 = ap (λ d. d.base0) same ∙ text.base0;
-  start = ap (λ d. d.start) same ∙ text.start;
   transport_stream_id = ap (λ d. d.transport_stream_id) same ∙ text.transport_stream_id;
   original_network_id = ap (λ d. d.original_network_id) same ∙ text.original_network_id;
   is_transponder = ap (λ d. d.is_transponder) same ∙ text.is_transponder;

@@ -15,11 +15,11 @@ use Rattle.changed_texts.specs.Fixed.{first_difference}
 use Rattle.changed_texts.specs.declared.fault.TextFault.{TextFault}
 use Rattle.changed_texts.specs.declared.fault.TextFault.TheVariants as fault
 
--- the whole: the rate, the clocks of the output and of the tables, and the names of the transport stream
+-- the whole: the rate, the clock of the output, and the names of the transport stream
 abbrev pub whole_fault : Described → Described → Option TextFault
 whole_fault frame e =
     if not (frame.rate == e.rate) then Some fault.Rate
-    else (if not (frame.base0 == e.base0 && frame.start == e.start) then Some fault.Clock
+    else (if not (frame.base0 == e.base0) then Some fault.Clock
     else (if not (frame.transport_stream_id == e.transport_stream_id && frame.original_network_id == e.original_network_id)
     then Some fault.Stream else None))
 
@@ -102,7 +102,6 @@ text_fault frame now e = option_or (frame_fault frame e) (option_or (shape_fault
 pub record IsTextOf (frame e : Described) : Type 0 where
   pub rate : e.rate ≡ frame.rate
   pub base0 : e.base0 ≡ frame.base0
-  pub start : e.start ≡ frame.start
   pub transport_stream_id : e.transport_stream_id ≡ frame.transport_stream_id
   pub original_network_id : e.original_network_id ≡ frame.original_network_id
   pub is_transponder : e.is_transponder ≡ frame.is_transponder

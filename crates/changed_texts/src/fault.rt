@@ -20,7 +20,7 @@ use thiserror::Error;
 pub enum TextFault {
     #[error("the rate differs")]
     Rate,
-    #[error("base0 or start differs")]
+    #[error("base0 differs")]
     Clock,
     #[error("transport_stream_id or original_network_id differs")]
     Stream,
@@ -36,14 +36,14 @@ pub enum TextFault {
     Private(usize),
 }
 
-// Returns a fault of the rate, of the clocks or of the names of the transport stream.
+// Returns a fault of the rate, of the clock or of the names of the transport stream.
 fn whole_fault(frame: &Description, texts: &Description) -> Option<TextFault>
     ensures { result ≡ spec.whole_fault frame.now texts.now }
 {
     if frame.rate().bits_per_second() != texts.rate().bits_per_second() {
         return Some(TextFault::Rate);
     }
-    if frame.base0() != texts.base0() || frame.start() != texts.start() {
+    if frame.base0() != texts.base0() {
         return Some(TextFault::Clock);
     }
     let is_same_stream = frame.transport_stream_id() == texts.transport_stream_id();

@@ -9,7 +9,7 @@ part_words name n sentence = name ++ codes " " ++ decimal n ++ codes ": " ++ sen
 
 unfoldable pub text_words : TextFault → List ℕ
 text_words Rate = codes "rate: it has to be that of the first description\n"
-text_words Clock = codes "clock: base0 and start have to be those of the first description\n"
+text_words Clock = codes "clock: base0 has to be that of the first description\n"
 text_words Stream = codes "stream: transport_stream_id and original_network_id have to be those of the first description\n"
 text_words (Program p) = part_words (codes "program") p (codes "only its texts may differ: not number, pmt_pid, pcr_pid and pcr_limit, and no program may come or go")
 text_words (Elementary k) =

@@ -22,9 +22,9 @@ pub fn write_text_fault(fault: TextFault, text: &mut String) -> Result<(), Alloc
 {
     match fault {
         TextFault::Rate => text.push_str("rate: it has to be that of the first description\n"),
-        TextFault::Clock => text.push_str(
-            "clock: base0 and start have to be those of the first description\n",
-        ),
+        TextFault::Clock => {
+            text.push_str("clock: base0 has to be that of the first description\n")
+        }
         TextFault::Stream => text.push_str(
             "stream: transport_stream_id and original_network_id have to be those of the first description\n",
         ),
