@@ -38,7 +38,7 @@ program_pcr_limit = integer_or 40 (codes "pcr_limit") (pos 1) (pos 100)
 abbrev pub program_descriptors : Data → Option (List ℕ)
 program_descriptors = descriptors_or_none 700 (codes "descriptors")
 
--- service_type (EN 300 468, 6.2.34): 1 is digital television
+-- service_type (EN 300 468, 6.2.33): 1 is digital television
 abbrev pub program_service_type : Data → Option ℕ
 program_service_type = integer_or 1 (codes "service_type") (pos 0) (pos 255)
 

@@ -5,6 +5,8 @@ use Rattle.std.specs.Prelude.{Option, None, Some, codes, is_some, option_and_the
 use Rattle.std.specs.List.{list_all, starts_with}
 use Rattle.toml.specs.Data.{Data, as_str, get}
 use Rattle.description_values.specs.Values.{array_in, elements}
+use Rattle.description_keys.specs.declared.version_keys.NamedTable.{NamedTable}
+use Rattle.description_keys.specs.declared.version_keys.NamedTable.TheVariants.{Pat, Nit, Sdt, Pmt, Eit}
 use Rattle.description_keys.specs.declared.version_keys.NamedVersion.{NamedVersion}
 
 -- the number that decimal digits write after a number n: 65,536 for all numbers from there on
@@ -24,21 +26,20 @@ abbrev pub number_within : ℕ → ℕ → List ℕ → Option ℕ
 number_within low high [] = None
 number_within low high (c ∷ text) = option_and_then (if_within low high) (number_after 0 (c ∷ text))
 
--- a table by its number, the program's number, and the version: PAT, NIT and SDT have the numbers 0 to 2 and belong to no program, whose
--- number is 0; PMT and EIT have 3 and 4
-abbrev pub new_version : ℕ → ℕ → ℕ → NamedVersion
+-- a table, the program's number, and the version: PAT, NIT and SDT belong to no program, whose number is 0
+abbrev pub new_version : NamedTable → ℕ → ℕ → NamedVersion
 new_version table program version = record { table = table; program = program; version = version }
 
 -- the version after the table's name
-abbrev pub version_of_stream : ℕ → List ℕ → Option NamedVersion
+abbrev pub version_of_stream : NamedTable → List ℕ → Option NamedVersion
 version_of_stream table text = option_map (new_version table 0) (number_within 0 31 text)
 
 -- the program's number and the version after the table's name, with a space between them
-abbrev pub numbered_version : ℕ → Option ℕ → Option ℕ → Option NamedVersion
+abbrev pub numbered_version : NamedTable → Option ℕ → Option ℕ → Option NamedVersion
 numbered_version table (Some program) (Some version) = Some (new_version table program version)
 numbered_version table _ _ = None
 
-abbrev pub version_of_program : ℕ → List ℕ → Option NamedVersion
+abbrev pub version_of_program : NamedTable → List ℕ → Option NamedVersion
 version_of_program table text = elim (position (λ c. c == 32) text) [
   | None ↦ None
   | Some i ↦ numbered_version table (number_within 1 65535 (take i text)) (number_within 0 31 (drop (i + 1) text))
@@ -48,15 +49,15 @@ abbrev pub begins : List ℕ → List ℕ → Bool
 begins text name = starts_with nat_eq text name
 
 -- the table's name, a table of the stream or of a program, and a space
-abbrev pub stream_table : List ℕ → Option ℕ
-stream_table text = if begins text (codes "PAT ") then Some 0 else if begins text (codes "NIT ") then Some 1
-    else if begins text (codes "SDT ") then Some 2 else None
+abbrev pub stream_table : List ℕ → Option NamedTable
+stream_table text = if begins text (codes "PAT ") then Some Pat else if begins text (codes "NIT ") then Some Nit
+    else if begins text (codes "SDT ") then Some Sdt else None
 
-abbrev pub program_table : List ℕ → Option ℕ
-program_table text = if begins text (codes "PMT ") then Some 3 else if begins text (codes "EIT ") then Some 4 else None
+abbrev pub program_table : List ℕ → Option NamedTable
+program_table text = if begins text (codes "PMT ") then Some Pmt else if begins text (codes "EIT ") then Some Eit else None
 
 -- what follows the name
-abbrev pub version_after : Option ℕ → Option ℕ → List ℕ → Option NamedVersion
+abbrev pub version_after : Option NamedTable → Option NamedTable → List ℕ → Option NamedVersion
 version_after (Some table) _ text = version_of_stream table text
 version_after None (Some table) text = version_of_program table text
 version_after None None text = None
@@ -67,20 +68,28 @@ version_in text = if nat_le 4 (length text) then version_after (stream_table tex
 abbrev pub named_version : Data → Option NamedVersion
 named_version d = option_and_then version_in (as_str d)
 
--- the version that a text names for a table
-abbrev pub is_version_of : ℕ → ℕ → NamedVersion → Bool
-is_version_of table program v = v.table == table && v.program == program
+-- a kind of table by its number
+abbrev pub table_number : NamedTable → ℕ
+table_number Pat = 0
+table_number Nit = 1
+table_number Sdt = 2
+table_number Pmt = 3
+table_number Eit = 4
 
-abbrev pub version_if : ℕ → ℕ → Data → Option ℕ
+-- the version that a text names for a table
+abbrev pub is_version_of : NamedTable → ℕ → NamedVersion → Bool
+is_version_of table program v = table_number v.table == table_number table && v.program == program
+
+abbrev pub version_if : NamedTable → ℕ → Data → Option ℕ
 version_if table program d =
     option_and_then (λ v. if is_version_of table program v then Some v.version else None) (named_version d)
 
 -- the first of the texts for the table; 0 if there is no such text
-abbrev pub first_version : ℕ → ℕ → List Data → ℕ
+abbrev pub first_version : NamedTable → ℕ → List Data → ℕ
 first_version table program [] = 0
 first_version table program (d ∷ ds) = unwrap_or (version_if table program d) (first_version table program ds)
 
-abbrev pub version_at : ℕ → ℕ → Data → ℕ
+abbrev pub version_at : NamedTable → ℕ → Data → ℕ
 version_at table program document = first_version table program (elements (codes "versions") document)
 
 -- refused: no list, or a text of another form

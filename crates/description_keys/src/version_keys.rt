@@ -9,11 +9,36 @@ ghost use Rattle.description_keys.specs.VersionKeys as spec;
 use description_values::arrays::{array_in, elements};
 use toml::Value;
 
-/// A table, the number of its program, and the version that a text names. The table has a number: the PAT 0, the NIT 1, the
-/// SDT 2, and the program number 0; a program's PMT 3, its EIT 4.
+/// A table that a text names: of the transport stream, or the PMT or the EIT of a program.
+#[derive(Clone, Copy)]
+pub enum NamedTable {
+    Pat,
+    Nit,
+    Sdt,
+    Pmt,
+    Eit,
+}
+
+impl NamedTable {
+    // Returns its number.
+    fn number(self) -> u8
+        ensures { result ≡ spec.table_number self }
+    {
+        match self {
+            NamedTable::Pat => 0,
+            NamedTable::Nit => 1,
+            NamedTable::Sdt => 2,
+            NamedTable::Pmt => 3,
+            NamedTable::Eit => 4,
+        }
+    }
+}
+
+/// A table, the number of its program, and the version that a text names; a table of the transport stream has the program
+/// number 0.
 #[derive(Clone, Copy)]
 pub struct NamedVersion {
-    pub table: u8,
+    pub table: NamedTable,
     pub program: u16,
     pub version: u8,
 }
@@ -64,7 +89,7 @@ fn number_within(low: u32, high: u32, text: &[u8]) -> Option<u32>
     }
 }
 
-fn version_of_stream(table: u8, text: &[u8]) -> Option<NamedVersion>
+fn version_of_stream(table: NamedTable, text: &[u8]) -> Option<NamedVersion>
     ensures { result ≡ spec.version_of_stream table text.now }
 {
     match number_within(0, 31, text) {
@@ -77,7 +102,11 @@ fn version_of_stream(table: u8, text: &[u8]) -> Option<NamedVersion>
     }
 }
 
-fn numbered_version(table: u8, program: Option<u32>, version: Option<u32>) -> Option<NamedVersion>
+fn numbered_version(
+    table: NamedTable,
+    program: Option<u32>,
+    version: Option<u32>,
+) -> Option<NamedVersion>
     requires program { IfSome program (λ n. n ≤ 65535) }
     requires version { IfSome version (λ n. n ≤ 31) }
     ensures { result ≡ spec.numbered_version table program version }
@@ -98,7 +127,7 @@ fn space_in(text: &[u8]) -> Option<usize>
     text.iter().position(|byte| *byte == 32)
 }
 
-fn version_of_program(table: u8, text: &[u8]) -> Option<NamedVersion>
+fn version_of_program(table: NamedTable, text: &[u8]) -> Option<NamedVersion>
     ensures { result ≡ spec.version_of_program table text.now }
 {
     match space_in(text) {
@@ -110,33 +139,37 @@ fn version_of_program(table: u8, text: &[u8]) -> Option<NamedVersion>
     }
 }
 
-fn stream_table(text: &[u8]) -> Option<u8>
+fn stream_table(text: &[u8]) -> Option<NamedTable>
     ensures { result ≡ spec.stream_table text.now }
 {
     if text.starts_with(b"PAT ") {
-        Some(0)
+        Some(NamedTable::Pat)
     } else if text.starts_with(b"NIT ") {
-        Some(1)
+        Some(NamedTable::Nit)
     } else if text.starts_with(b"SDT ") {
-        Some(2)
+        Some(NamedTable::Sdt)
     } else {
         None
     }
 }
 
-fn program_table(text: &[u8]) -> Option<u8>
+fn program_table(text: &[u8]) -> Option<NamedTable>
     ensures { result ≡ spec.program_table text.now }
 {
     if text.starts_with(b"PMT ") {
-        Some(3)
+        Some(NamedTable::Pmt)
     } else if text.starts_with(b"EIT ") {
-        Some(4)
+        Some(NamedTable::Eit)
     } else {
         None
     }
 }
 
-fn version_after(stream: Option<u8>, program: Option<u8>, text: &[u8]) -> Option<NamedVersion>
+fn version_after(
+    stream: Option<NamedTable>,
+    program: Option<NamedTable>,
+    text: &[u8],
+) -> Option<NamedVersion>
     ensures { result ≡ spec.version_after stream program text.now }
 {
     match stream {
@@ -167,16 +200,22 @@ fn named_version(value: &Value) -> Option<NamedVersion>
     }
 }
 
-fn version_if(table: u8, program: u16, value: &Value) -> Option<u8>
+fn is_version_of(table: NamedTable, program: u16, named: NamedVersion) -> bool
+    ensures { result ≡ spec.is_version_of table program named }
+{
+    named.table.number() == table.number() && named.program == program
+}
+
+fn version_if(table: NamedTable, program: u16, value: &Value) -> Option<u8>
     ensures { result ≡ spec.version_if table program (view value.now) }
 {
     match named_version(value) {
-        Some(named) if named.table == table && named.program == program => Some(named.version),
+        Some(named) if is_version_of(table, program, named) => Some(named.version),
         _ => None,
     }
 }
 
-fn first_version(table: u8, program: u16, values: &[Value]) -> u8
+fn first_version(table: NamedTable, program: u16, values: &[Value]) -> u8
     ensures { result ≡ spec.first_version table program (map view values.now) }
 {
     for value in values {
@@ -187,9 +226,9 @@ fn first_version(table: u8, program: u16, values: &[Value]) -> u8
     0
 }
 
-/// Returns the version that the first text for a table names, 0 if no text does: of the PAT 0, the NIT 1 or the SDT 2 with the
-/// program number 0, of the PMT 3 or the EIT 4 of the program of a number.
-pub fn version_at(table: u8, program: u16, document: &Value) -> u8
+/// Returns the version that the first text for a table names, 0 if no text does: of a table of the transport stream with the
+/// program number 0, or of the PMT or the EIT of the program of a number.
+pub fn version_at(table: NamedTable, program: u16, document: &Value) -> u8
     ensures { result ≡ spec.version_at table program (view document.now) }
 {
     first_version(table, program, elements(document, "versions"))

@@ -37,6 +37,7 @@ use Rattle.description_parts.proofs.ChannelRanges.{channels_are, two_are}
 use Rattle.description_parts.proofs.Counts.{HasLength}
 use Rattle.description_parts.proofs.LoopRanges.{event_loop_is, network_loop_is, service_loop_is}
 use Rattle.description_parts.proofs.VersionRanges.{version_at-is}
+use Rattle.description_keys.specs.declared.version_keys.NamedTable.TheVariants as table
 
 pid_is : (key : List ℕ) (d : Data) → IsPid (unwrap_or (integer_at key (pos 32) (pos 8190) d) 32)
 pid_is key d = let w = integer_at-within key 32 8190 32 d (omega arith) (omega arith) in record { low = w.least; high = w.most }
@@ -112,8 +113,8 @@ program_is document d =
       most_limit = limit.most;
       some_packets = packets.least;
       most_packets = packets.most;
-      pmt_version = version_at-is 3 (described_number d) document;
-      eit_count = version_at-is 4 (described_number d) document;
+      pmt_version = version_at-is table.Pmt (described_number d) document;
+      eit_count = version_at-is table.Eit (described_number d) document;
       descriptors = descriptors-is 700 (codes "descriptors") d;
       service_descriptors = service_loop_is d;
       running_status = omega (arith, status.most);

@@ -6,6 +6,7 @@ use Rattle.description_values.specs.Values.{elements}
 use Rattle.description_keys.specs.VersionKeys.{first_version, if_within, is_version_of, named_version, new_version, number_after, number_within, numbered_version}
 use Rattle.description_keys.specs.VersionKeys.{program_table, stream_table, version_after, version_at, version_if, version_in, version_of_program}
 use Rattle.description_keys.specs.VersionKeys.{version_of_stream}
+use Rattle.description_keys.specs.declared.version_keys.NamedTable.{NamedTable}
 use Rattle.description_keys.specs.declared.version_keys.NamedVersion.{NamedVersion}
 use Rattle.description_parts.proofs.KeyRanges.{Within, tested, then_all, map_all}
 use Rattle.std.proofs.lemmas.Bool.Decides.{nat_tests}
@@ -20,17 +21,17 @@ number_is : (low high : ℕ) (text : List ℕ) → IfSome (number_within low hig
 number_is low high [] = tt
 number_is low high (c ∷ text) = then_all (Within low high) (if_within low high) (number_after 0 (c ∷ text)) (within_is low high)
 
-stream_is : (table : ℕ) (text : List ℕ) → IfSome (version_of_stream table text) IsSmall
+stream_is : (table : NamedTable) (text : List ℕ) → IfSome (version_of_stream table text) IsSmall
 stream_is table text =
     map_all IsSmall (Within 0 31) (new_version table 0) (number_within 0 31 text) (λ n w. omega (arith, w.most)) (number_is 0 31 text)
 
-numbered_is : (table : ℕ) (program version : Option ℕ) → IfSome version (Within 0 31) → IfSome (numbered_version table program version) IsSmall
+numbered_is : (table : NamedTable) (program version : Option ℕ) → IfSome version (Within 0 31) → IfSome (numbered_version table program version) IsSmall
 numbered_is table None None h = tt
 numbered_is table None (Some v) h = tt
 numbered_is table (Some p) None h = tt
 numbered_is table (Some p) (Some v) h = omega (arith, h.most)
 
-split_is : (table : ℕ) (text : List ℕ) (o : Option ℕ) → IfSome (elim o as (λ _. Option NamedVersion) [
+split_is : (table : NamedTable) (text : List ℕ) (o : Option ℕ) → IfSome (elim o as (λ _. Option NamedVersion) [
   | None ↦ None
   | Some i ↦ numbered_version table (number_within 1 65535 (take i text)) (number_within 0 31 (drop (i + 1) text))
 ]) IsSmall
@@ -38,7 +39,7 @@ split_is table text None = tt
 split_is table text (Some i) = numbered_is table (number_within 1 65535 (take i text)) (number_within 0 31 (drop (i + 1) text))
     (number_is 0 31 (drop (i + 1) text))
 
-after_is : (stream program : Option ℕ) (text : List ℕ) → IfSome (version_after stream program text) IsSmall
+after_is : (stream program : Option NamedTable) (text : List ℕ) → IfSome (version_after stream program text) IsSmall
 after_is (Some table) program text = stream_is table text
 after_is None (Some table) text = split_is table text (position (λ c. c == 32) text)
 after_is None None text = tt
@@ -59,7 +60,7 @@ small_if : (b : Bool) (v : NamedVersion) → IsSmall v → IfSome (if b then Som
 small_if true v h = h
 small_if false v h = tt
 
-of_named : (table program : ℕ) (o : Option NamedVersion) → IfSome o IsSmall
+of_named : (table : NamedTable) (program : ℕ) (o : Option NamedVersion) → IfSome o IsSmall
     → IfSome (option_and_then (λ v. if is_version_of table program v then Some v.version else None) o) (λ n. n < 32)
 of_named table program None h = tt
 of_named table program (Some v) h = small_if (is_version_of table program v) v h
@@ -68,10 +69,10 @@ or_small : (o : Option ℕ) (rest : ℕ) → IfSome o (λ n. n < 32) → rest < 
 or_small None rest h k = k
 or_small (Some n) rest h k = h
 
-first_is : (table program : ℕ) (ds : List Data) → first_version table program ds < 32
+first_is : (table : NamedTable) (program : ℕ) (ds : List Data) → first_version table program ds < 32
 first_is table program [] = omega arith
 first_is table program (d ∷ ds) =
     or_small (version_if table program d) (first_version table program ds) (of_named table program (named_version d) (named_is d)) (first_is table program ds)
 
-pub version_at-is : (table program : ℕ) (document : Data) → version_at table program document < 32
+pub version_at-is : (table : NamedTable) (program : ℕ) (document : Data) → version_at table program document < 32
 version_at-is table program document = first_is table program (elements (codes "versions") document)

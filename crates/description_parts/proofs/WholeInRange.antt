@@ -36,6 +36,7 @@ use Rattle.description_parts.proofs.Distinct.{IsDistinct-is, most_events}
 use Rattle.description_parts.proofs.TableNumbers.{table_kind-pmt}
 use Rattle.description_parts.proofs.RoomLengths.{room_least, rooms_are}
 use Rattle.description_parts.proofs.VersionRanges.{version_at-is}
+use Rattle.description_keys.specs.declared.version_keys.NamedTable.TheVariants as table
 
 -- The parts together cause no refusal.
 pub record NoJointFault (d : Described) : Type 0 where
@@ -222,7 +223,7 @@ described-in_range document keys joint =
       transport_stream_id = (integer_at-within (codes "ts_id") 0 65535 0 document (omega arith) (omega arith)).most;
       original_network_id = (integer_at-within (codes "original_network_id") 0 65535 0 document (omega arith) (omega arith)).most;
       rooms = rooms_are document;
-      versions = record { pat = version_at-is 0 0 document; sdt = version_at-is 2 0 document; nit = version_at-is 1 0 document };
+      versions = record { pat = version_at-is table.Pat 0 document; sdt = version_at-is table.Sdt 0 document; nit = version_at-is table.Nit 0 document };
       network = network_in_range document (network_of document);
       some_programs = counts.some_programs;
       most_programs = counts.most_programs;

@@ -12,6 +12,7 @@ use Rattle.description_parts.specs.Described.{Described, DescribedNetwork, Descr
 use Rattle.description_values.specs.Values.{elements, section_in}
 use Rattle.description_keys.specs.TopKeys as top
 use Rattle.description_keys.specs.VersionKeys.{version_at}
+use Rattle.description_keys.specs.declared.version_keys.NamedTable.TheVariants as table
 use Rattle.description_keys.specs.NetworkKeys.{has_name, network_id, network_name, network_descriptors, other_descriptors, other_network_id, other_stream_id, own_descriptors}
 use Rattle.description_keys.specs.ProgramKeys.{program_number, program_pmt_pid, clock_pid_in, program_pcr_limit, program_descriptors, program_eit_schedule, program_free_ca}
 use Rattle.description_keys.specs.ProgramKeys.{has_service_loop, program_service_type, program_service_descriptors, program_running_status, program_provider, program_name}
@@ -51,7 +52,7 @@ described_network document network = record {
 abbrev pub no_language : List ℕ
 no_language = codes "und"
 
--- the loop of an event: the declared one, or the descriptor of its name and text (EN 300 468, 6.2.38)
+-- the loop of an event: the declared one, or the descriptor of its name and text (EN 300 468, 6.2.37)
 abbrev pub short_event : Data → List ℕ
 short_event event =
     short_event_descriptor (unwrap_or (event_language event) no_language) (unwrap_or (event_name event) []) (unwrap_or (event_text event) [])
@@ -73,7 +74,7 @@ described_events number events = map described_event (filter (is_owned_by number
 abbrev pub described_number : Data → ℕ
 described_number program = unwrap_or (program_number program) 1
 
--- the loop of a service: the declared one, or the descriptor of its type, provider and name (EN 300 468, 6.2.34)
+-- the loop of a service: the declared one, or the descriptor of its type, provider and name (EN 300 468, 6.2.33)
 abbrev pub named_service : Data → List ℕ
 named_service program =
     service_descriptor (unwrap_or (program_service_type program) 0) (unwrap_or (program_provider program) []) (unwrap_or (program_name program) [])
@@ -90,8 +91,8 @@ described_program document program = record {
   pcr_limit = unwrap_or (program_pcr_limit program) 1;
   pmt_packets = unwrap_or (program_pmt_packets program) 1;
   is_on_air = unwrap_or (program_on_air program) true;
-  pmt_version = version_at 3 (described_number program) document;
-  eit_count = version_at 4 (described_number program) document;
+  pmt_version = version_at table.Pmt (described_number program) document;
+  eit_count = version_at table.Eit (described_number program) document;
   descriptors = unwrap_or (program_descriptors program) [];
   service_descriptors = service_loop program;
   running_status = unwrap_or (program_running_status program) 0;
@@ -153,7 +154,7 @@ described_rooms document = record {
 
 -- the versions that no program has: 0 without a text
 abbrev pub described_versions : Data → Versions
-described_versions document = record { pat = version_at 0 0 document; sdt = version_at 2 0 document; nit = version_at 1 0 document }
+described_versions document = record { pat = version_at table.Pat 0 document; sdt = version_at table.Sdt 0 document; nit = version_at table.Nit 0 document }
 
 abbrev pub described : Data → Described
 described document = record {

@@ -180,7 +180,7 @@ named_pids d = map (λ p. p.pmt_pid) d.programs ++ map (λ p. p.pcr_pid) (filter
 abbrev pub program_numbers : Described → List ℕ
 program_numbers d = map (λ p. p.number) d.programs
 
--- a section of at most this many bytes has a section_length of at most 1,021 (ISO/IEC 13818-1, 2.4.4.4)
+-- a section of at most this many bytes has a section_length of at most 1,021 (ISO/IEC 13818-1, 2.4.4.5, 2.4.4.9)
 abbrev pub longest_section : ℕ
 longest_section = 1024
 

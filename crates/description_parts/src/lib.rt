@@ -19,6 +19,7 @@ mod versions;
 
 // Tables: their numbers, the lengths of their sections, the services of the SDT. Whose clock references programs have.
 mod clocks;
+mod event_lengths;
 pub mod laws;
 mod nit_parts;
 mod numbers;
@@ -31,6 +32,7 @@ pub mod table_kind;
 pub mod building;
 mod channels;
 pub mod consistency;
+mod networks;
 
 pub use contents::Contents;
 pub use event::EventDescription;

@@ -9,7 +9,7 @@ use crate::key_line::{
 };
 use std::alloc::{AllocError, Allocator};
 
-/// A program and its service in a description (ISO/IEC 13818-1, 2.4.4.8; EN 300 468, 5.2.3 and 6.2.34).
+/// A program and its service in a description (ISO/IEC 13818-1, 2.4.4.8; EN 300 468, 5.2.3 and 6.2.33).
 #[derive(Clone, Copy)]
 pub struct ProgramPart<'a> {
     /// program_number, and service_id.

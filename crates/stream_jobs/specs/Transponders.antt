@@ -6,7 +6,7 @@ use Rattle.job_programs.specs.Information.{JobInformationView, NamedServiceView}
 use Rattle.job_programs.specs.JobStreams.{TimedStreamView}
 use Rattle.job_inputs.specs.JobInput.{JobInputView}
 
--- the bytes of a service in a service description section (EN 300 468, 5.2.3 and 6.2.34)
+-- the bytes of a service in a service description section (EN 300 468, 5.2.3 and 6.2.33)
 unfoldable pub loop_size : Option (List ℕ) → NamedServiceView → ℕ
 loop_size None s = 5 + (length (text_bytes s.provider) + length (text_bytes s.name))
 loop_size (Some descriptors) s = length descriptors

@@ -1,6 +1,6 @@
 use Rattle.std.proofs.Common.{◌≡◌, ◌≤◌, ◌+◌, ◌++◌, map, filter, drop, length}
 use Rattle.description_parts.specs.Tables.{is_scheduled, schedule_length}
-use Rattle.description_parts.proofs.section_lengths.push_eit_lengths.Given as goal
+use Rattle.description_parts.proofs.event_lengths.push_eit_lengths.Given as goal
 
 abbrev pub invariant-loop-program : goal.invariant-loop-program
 invariant-loop-program l = record {

@@ -1,6 +1,6 @@
 use Rattle.std.proofs.Common.{◌≡◌, ◌≤◌, ◌*◌, ◌++◌, filter, drop, length}
 use Rattle.description_parts.specs.Tables.{is_scheduled, eit_lengths}
-use Rattle.description_parts.proofs.section_lengths.eit_lengths.Given as goal
+use Rattle.description_parts.proofs.event_lengths.eit_lengths.Given as goal
 
 abbrev pub invariant-loop-program : goal.invariant-loop-program
 invariant-loop-program l = record {

@@ -1,6 +1,6 @@
 use Rattle.std.proofs.Common.{◌≡◌, ◌≤◌, max, drop}
 use Rattle.description_parts.specs.Tables.{longest_event}
-use Rattle.description_parts.proofs.section_lengths.longest_event.Given as goal
+use Rattle.description_parts.proofs.event_lengths.longest_event.Given as goal
 
 abbrev pub invariant-loop-event : goal.invariant-loop-event
 invariant-loop-event l = record {
