@@ -104,10 +104,13 @@ section_of d (Events p) version number moment =
 abbrev pub unnumbered : Described → SubTable → ℕ → ℕ → List ℕ
 unnumbered d x moment number = section_of d x 0 number moment
 
--- two descriptions have the same sections of a sub-table at a moment, but for their versions
+-- two descriptions have the same sections of a sub-table of each at a moment, but for their versions, and so of one sub-table
 abbrev pub same_below : (ℕ → List ℕ) → (ℕ → List ℕ) → ℕ → Bool
 same_below f g zero = true
 same_below f g (suc n) = same_below f g n && bytes_eq (f n) (g n)
 
+abbrev pub says_same : Described → SubTable → Described → SubTable → ℕ → Bool
+says_same d x e y moment = (sections_in d x == sections_in e y) && same_below (unnumbered d x moment) (unnumbered e y moment) (sections_in d x)
+
 abbrev pub shows_same : Described → Described → SubTable → ℕ → Bool
-shows_same d e x moment = (sections_in d x == sections_in e x) && same_below (unnumbered d x moment) (unnumbered e x moment) (sections_in d x)
+shows_same d e x moment = says_same d x e x moment

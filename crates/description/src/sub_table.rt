@@ -243,18 +243,19 @@ impl Description {
 
     fn has_same_section(
         &self,
-        other: &Description,
         sub_table: SubTable,
+        other: &Description,
+        theirs: SubTable,
         number: u8,
         moment: u64,
     ) -> bool
         ensures { result ≡ bytes_eq (spec.unnumbered self.now sub_table moment number)
-            (spec.unnumbered other.now sub_table moment number) }
+            (spec.unnumbered other.now theirs moment number) }
     {
         let mut own = ArrayVec::new();
         let mut others = ArrayVec::new();
         self.write_section(sub_table, 0, number, moment, &mut own);
-        other.write_section(sub_table, 0, number, moment, &mut others);
+        other.write_section(theirs, 0, number, moment, &mut others);
         own.as_slice() == others.as_slice()
     }
 
@@ -263,12 +264,26 @@ impl Description {
     pub fn shows_same(&self, other: &Description, sub_table: SubTable, moment: u64) -> bool
         ensures { result ≡ spec.shows_same self.now other.now sub_table moment }
     {
+        self.says_same(sub_table, other, sub_table, moment)
+    }
+
+    /// Returns whether a sub-table has the same sections as another one of the other description, but for their versions
+    /// and check words. Takes no memory.
+    pub fn says_same(
+        &self,
+        sub_table: SubTable,
+        other: &Description,
+        theirs: SubTable,
+        moment: u64,
+    ) -> bool
+        ensures { result ≡ spec.says_same self.now sub_table other.now theirs moment }
+    {
         let count = self.sections_in(sub_table);
         let mut same = true;
         for number in 0..count {
-            let alike = self.has_same_section(other, sub_table, number, moment);
+            let alike = self.has_same_section(sub_table, other, theirs, number, moment);
             same = same && alike;
         }
-        count == other.sections_in(sub_table) && same
+        count == other.sections_in(theirs) && same
     }
 }

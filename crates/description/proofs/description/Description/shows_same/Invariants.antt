@@ -1,7 +1,0 @@
-use Rattle.std.proofs.Common.{◌≡◌}
-use Rattle.description.specs.SubTables.{same_below, unnumbered}
-use Rattle.description.proofs.description.Description.shows_same.Given as goal
-
-abbrev pub invariant-loop-number : goal.invariant-loop-number
-invariant-loop-number l =
-    l.same ≡ same_below (unnumbered l.self l.sub_table l.moment) (unnumbered l.other l.sub_table l.moment) l.number
