@@ -9,8 +9,8 @@ use unit_timing::allowance::Allowance;
 use unit_timing::framing::{FrameDeclaration, LastBytes};
 use unit_timing::multiplexing_buffer::MultiplexingBuffer;
 
-// Returns whether two programs are alike but for their texts.
-fn is_same_program(one: &ProgramDescription, other: &ProgramDescription) -> bool
+/// Returns whether two programs are alike but for their texts.
+pub fn is_same_program(one: &ProgramDescription, other: &ProgramDescription) -> bool
     ensures { result ≡ spec.is_same_program one.now other.now }
 {
     one.number() == other.number()
@@ -117,15 +117,15 @@ fn is_same_size(one: &StreamDescription, other: &StreamDescription) -> bool
         && are_same_framings(one.framing, other.framing)
 }
 
-// Returns whether two streams are alike but for their texts.
-fn is_same_stream(one: &StreamDescription, other: &StreamDescription) -> bool
+/// Returns whether two streams are alike but for their texts.
+pub fn is_same_stream(one: &StreamDescription, other: &StreamDescription) -> bool
     ensures { result ≡ spec.is_same_stream one.now other.now }
 {
     is_same_pace(one, other) && is_same_size(one, other)
 }
 
-// Returns whether two private tables are alike but for their sections.
-fn is_same_table(one: &PrivateTable, other: &PrivateTable) -> bool
+/// Returns whether two private tables are alike but for their sections.
+pub fn is_same_table(one: &PrivateTable, other: &PrivateTable) -> bool
     ensures { result ≡ spec.is_same_table one.now other.now }
 {
     one.pid() == other.pid() && one.limit() == other.limit()

@@ -18,5 +18,6 @@ mod versions;
 pub mod laws;
 
 pub use fault::{TextFault, text_fault};
+pub use fixed::{is_same_program, is_same_stream, is_same_table};
 pub use reading::read_description;
-pub use versions::{changed, next_texts};
+pub use versions::{changed, next_texts, set_counts};

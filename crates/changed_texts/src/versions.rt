@@ -81,8 +81,8 @@ pub fn changed(now: &Description, texts: &Description, moment: u64) -> [bool; 13
     }
 }
 
-// Gives each sub-table its number.
-fn set_counts(texts: &mut Description, counts: &[u8])
+/// Gives each sub-table its number.
+pub fn set_counts(texts: &mut Description, counts: &[u8])
     requires each { length counts.now ≡ sub_table_count }
     requires five_bits { (n : ℕ) → slice_index_or counts.now n 0 < 32 }
     ensures { texts.new ≡ spec.with_counts texts.old (λ n. slice_index_or counts.now n 0) }
