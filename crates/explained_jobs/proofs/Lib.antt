@@ -1,1 +1,2 @@
 mod Explained
+pub mod TextRecords

@@ -3,3 +3,4 @@ pub mod JobWords
 pub mod FaultLines
 pub mod TextWords
 pub mod TextAnswers
+pub mod TextRecords

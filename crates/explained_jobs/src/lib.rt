@@ -4,14 +4,16 @@
 //! plan; `fault_words` for a second plan that may not follow the first, and for bytes that are no record; `unit_words`
 //! for a refused unit or record on air (`specs/UnitWords`), by what its stream declares (`unit_limits`); `text_words`
 //! for a description that is no text of the one on air (`specs/TextWords`), and `text_answers` whether one is
-//! (`specs/TextAnswers`). `whole_jobs` reads a job in memory, and finds the first refused unit by the multiplexer. `fault_lines` has the line of a fault that a program has found
-//! (`specs/FaultLines`).
+//! (`specs/TextAnswers`); `text_records` has the record that puts it on air (`specs/TextRecords`). `whole_jobs` reads a
+//! job in memory, and finds the first refused unit by the multiplexer. `fault_lines` has the line of a fault that a
+//! program has found (`specs/FaultLines`).
 #![tactic(auto)]
 
 mod explaining;
 mod fault_lines;
 mod fault_words;
 mod text_answers;
+mod text_records;
 mod text_words;
 mod unit_limits;
 mod unit_words;
@@ -20,6 +22,7 @@ mod whole_jobs;
 pub use explaining::explain_job;
 pub use fault_lines::fault_line;
 pub use text_answers::text_answer;
+pub use text_records::{texts_begin, texts_record};
 pub use text_words::write_text_fault;
 pub use unit_limits::{UnitLimits, stream_limits};
 pub use unit_words::write_air;

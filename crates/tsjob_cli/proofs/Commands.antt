@@ -1,19 +1,20 @@
 -- The program, for the words of a command line.
-use Rattle.std.proofs.Common.{◌≡◌, ◌∙◌, ℕ, Bool, true, false, List, Option, Some, None, inl, inr, refl, sym, ap, subst}
+use Rattle.std.proofs.Common.{◌≡◌, ◌∙◌, ℕ, Bool, true, false, List, Option, Some, None, inl, inr, sym, ap, subst}
 use Rattle.std.specs.Prelude.{◌⊎◌, codes}
-use Rattle.word_faults.specs.CommandLine.{Text}
+use Rattle.word_faults.specs.CommandLine.{CommandLine, Text}
+use Rattle.word_faults.specs.Commands as commands
 use Rattle.word_faults.specs.SortedWords.{are_taken}
 use Rattle.word_faults.specs.UsageReport.{AnswersWords}
 use Rattle.devices.specs.Devices.{Device, IsUntouched, Port, between}
 use Rattle.devices.specs.Files.{Files, IsAsKnown}
 use Rattle.devices.specs.declared.files.FileFault.{FileFault}
 use Rattle.devices.specs.Saving.{AreNone, ReportsText, uncreated_text}
-use Rattle.tsjob_cli.specs.Command.{Answers, Commands, LacksWords, MakesFile, Outputs, PerformsWords, Saves, ToFile, WritesTo, explains_files, is_next, known_words}
+use Rattle.tsjob_cli.specs.Command.{Answers, Commands, LacksWords, MakesFile, Outputs, PerformsWords, Saves, ToFile, WritesTo, explains_files, is_next, known_words, sorted_by, sorting_for}
 use Rattle.tsjob_cli.specs.Command.{output_file, words_but_output}
 use Rattle.tsjob_cli.specs.Explaining.{ExplainsFiles}
-use Rattle.tsjob_cli.specs.FileWords.{file_words}
+use Rattle.tsjob_cli.specs.FileWords.{file_words, option_words}
 use Rattle.tsjob_cli.specs.MadeJobs.{MakesJob}
-use Rattle.tsjob_cli.specs.NextTexts.{AnswersNext}
+use Rattle.tsjob_cli.specs.NextTexts.{AnswersNext, record_asked}
 use Rattle.tsjob_cli.specs.Options.{usage_text}
 
 both : (b : Bool) → b ≡ true → b ≡ false → ⊥
@@ -68,7 +69,8 @@ not_explained outputs words files input output faults status other isnt p =
     }
 
 pub next_answered : (outputs : Outputs) (words : List Text) (files : Files) (input output faults : Device) (status : ℕ) → is_next words ≡ true →
-    IsUntouched input → AnswersNext files (file_words words) output faults status → Answers outputs words files input output faults status
+    IsUntouched input → AnswersNext files outputs.creates outputs.keeps (record_asked (option_words words)) (file_words words) output faults status →
+    Answers outputs words files input output faults status
 next_answered outputs words files input output faults status is unread a = record {
   next = λ yes. (a, unread);
   explains = λ no yes. absurd (both (is_next words) is no);
@@ -82,3 +84,10 @@ pub commanded : (outputs : Outputs) (shown sorted : List Text) (files : Files) (
     Commands outputs sorted files input output faults status
 commanded outputs shown sorted files input output faults status same taken other =
     subst (λ (words : List Text). Commands outputs words files input output faults status) same (record { taken = taken; other = λ no. inl (other no) })
+
+-- Words are sorted by the options of their subcommand.
+pub sorted_is : (long : List Text) (known : CommandLine) (first second : List Text) → known ≡ sorting_for first → first ≡ long → second ≡ long →
+    commands.sorted_command known second ≡ sorted_by long
+sorted_is long known first second by one other =
+    ap (λ (c : CommandLine). commands.sorted_command c second) (by ∙ ap sorting_for one)
+    ∙ ap (λ (ws : List Text). commands.sorted_command (sorting_for long) ws) other

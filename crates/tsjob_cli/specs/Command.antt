@@ -15,7 +15,7 @@ use Rattle.word_faults.specs.SortedWords.{are_taken, value_given, words_without}
 use Rattle.word_faults.specs.UsageReport.{AnswersWords}
 use Rattle.tsjob_cli.specs.Explaining.{ExplainsFiles}
 use Rattle.tsjob_cli.specs.FileWords.{file_words, marked_names, option_words}
-use Rattle.tsjob_cli.specs.NextTexts.{AnswersNext}
+use Rattle.tsjob_cli.specs.NextTexts.{AnswersNext, record_asked}
 use Rattle.tsjob_cli.specs.MadeJobs.{MakesJob, RunsJob, is_kept}
 use Rattle.tsjob_cli.specs.Options.{explain_words, known_for, next_words, sorting_words, usage_text}
 use Rattle.tsjob_cli.specs.declared.command.TheConstants.{SHORT_NAMES}
@@ -28,11 +28,7 @@ output_word = codes "--output"
 abbrev pub shorts : List commands.Short
 shorts = map commands.constant_short SHORT_NAMES
 
--- with long names of options: the subcommand, the options, then the names of files after `--`
-abbrev pub sorted_words : List Text → List Text
-sorted_words words = commands.sorted_command sorting_words (commands.long_words shorts words)
-
--- sorted words ask for an explanation, or about new texts; all other words are known as for `run`
+-- words ask for an explanation, or about new texts; all other words are known as for `run`
 abbrev pub is_explain_word : Option Text → Bool
 is_explain_word None = false
 is_explain_word (Some w) = bytes_eq w (codes "explain")
@@ -46,6 +42,16 @@ is_next_word (Some w) = bytes_eq w (codes "next")
 
 abbrev pub is_next : List Text → Bool
 is_next words = is_next_word (commands.command_of sorting_words words)
+
+-- with long names of options: the subcommand, the options, then the names of files after `--`; the options are those of the subcommand
+abbrev pub sorting_for : List Text → CommandLine
+sorting_for words = if is_next words then next_words else sorting_words
+
+abbrev pub sorted_by : List Text → List Text
+sorted_by long = commands.sorted_command (sorting_for long) long
+
+abbrev pub sorted_words : List Text → List Text
+sorted_words words = sorted_by (commands.long_words shorts words)
 
 abbrev pub known_words : List Text → CommandLine
 known_words words = if is_explained words then explain_words else (if is_next words then next_words else known_for words)
@@ -154,7 +160,8 @@ abbrev pub explains_files : List Text → Bool
 explains_files words = is_explained words && not (length (file_words words) == 0)
 
 pub record Answers (outputs : Outputs) (words : List Text) (files : Files) (input output faults : Device) (status : ℕ) : Type 0 where
-  pub next : is_next words ≡ true → AnswersNext files (file_words words) output faults status × IsUntouched input
+  pub next : is_next words ≡ true →
+      AnswersNext files outputs.creates outputs.keeps (record_asked (option_words words)) (file_words words) output faults status × IsUntouched input
   pub explains : is_next words ≡ false → explains_files words ≡ true → ExplainsFiles files (file_words words) output faults status × IsUntouched input
   pub performs : is_next words ≡ false → explains_files words ≡ false → PerformsWords outputs words files input output faults status
 

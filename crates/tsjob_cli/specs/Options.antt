@@ -9,7 +9,7 @@ use Rattle.job_run.specs.declared.job_arguments.Subcommand.{Subcommand}
 use Rattle.job_run.specs.declared.job_arguments.Subcommand.TheVariants.{Units}
 use Rattle.tsjob_cli.specs.FileMark.{has_mark}
 use Rattle.tsjob_cli.specs.Subcommands.{subcommand_of}
-use Rattle.tsjob_cli.specs.declared.options.TheConstants.{EXPLAIN_OPTIONS, OPTIONS}
+use Rattle.tsjob_cli.specs.declared.options.TheConstants.{EXPLAIN_OPTIONS, NEXT_OPTIONS, OPTIONS}
 
 abbrev pub options : List OptionRow
 options = map constant_view OPTIONS
@@ -33,15 +33,18 @@ known_words takes_stream = known_but_one (barred_word takes_stream)
 abbrev pub sorting_words : CommandLine
 sorting_words = known_words true
 
--- an explanation has no options, nor has a question about new texts
+-- an explanation has no options; a question about new texts has those of a record
 abbrev pub explain_options : List OptionRow
 explain_options = map constant_view EXPLAIN_OPTIONS
 
 abbrev pub explain_words : CommandLine
 explain_words = known_by explain_options (codes "explain" ∷ codes "--" ∷ []) (codes "-V" ∷ []) None
 
+abbrev pub next_options : List OptionRow
+next_options = map constant_view NEXT_OPTIONS
+
 abbrev pub next_words : CommandLine
-next_words = known_by explain_options (codes "next" ∷ codes "--" ∷ []) (codes "-V" ∷ []) None
+next_words = known_by next_options (codes "next" ∷ codes "--" ∷ []) (codes "-V" ∷ []) None
 
 -- the file of a description can be named with units, and with no names of files
 abbrev pub is_units : Option Subcommand → Bool
@@ -62,7 +65,7 @@ abbrev pub usage_front : Text
 usage_front =
     codes "usage: tsjob [describe|units|why] [OPTIONS] [FILE..|-] [-o OUT]\n"
     ++ (codes "       tsjob units --stream DESCRIPTION < PACKETS > RECORDS\n"
-    ++ (codes "       tsjob explain [DESCRIPTION [PLAN [RECORDS]]]\n" ++ codes "       tsjob next JOB TEXTS\n"))
+    ++ (codes "       tsjob explain [DESCRIPTION [PLAN [RECORDS]]]\n" ++ codes "       tsjob next JOB TEXTS [--at YYYY-MM-DDThh:mm:ss --to RECORD [--wait T]]\n"))
 
 -- the usage, with a line for each option
 abbrev pub usage_text : List ℕ

@@ -49,14 +49,6 @@ pub const SHORT_NAMES: [ShortName; 3] = [
     },
 ];
 
-// Returns the words with long names of options: the subcommand, the options, then the names of files after `--`.
-fn sorted_words<'a>(alloc: Global, words: &[&'a str]) -> Result<Vec<&'a str>, AllocError>
-    ensures { IfOk result (λ sorted. map (λ s. s.now) sorted.items ≡ spec.sorted_words (map (λ s. s.now) words.now)) }
-{
-    let long = long_words(alloc, &SHORT_NAMES, words)?;
-    sorted_command(alloc, sorting_words(), &long)
-}
-
 // Returns whether these sorted words ask for an explanation.
 fn is_explained(words: &[&str]) -> bool
     ensures { result ≡ spec.is_explained (map (λ s. s.now) words.now) }
@@ -67,7 +59,7 @@ fn is_explained(words: &[&str]) -> bool
     }
 }
 
-// Returns whether these sorted words ask about new texts.
+// Returns whether these words ask about new texts.
 fn is_next(words: &[&str]) -> bool
     ensures { result ≡ spec.is_next (map (λ s. s.now) words.now) }
 {
@@ -75,6 +67,25 @@ fn is_next(words: &[&str]) -> bool
         Some("next") => true,
         _ => false,
     }
+}
+
+// Returns the options and words known before words with long names of options are sorted.
+fn sorting_for(words: &[&str]) -> KnownWords
+    ensures { known_of result ≡ spec.sorting_for (map (λ s. s.now) words.now) }
+{
+    if is_next(words) {
+        next_words()
+    } else {
+        sorting_words()
+    }
+}
+
+// Returns the words with long names of options: the subcommand, the options, then the names of files after `--`.
+fn sorted_words<'a>(alloc: Global, words: &[&'a str]) -> Result<Vec<&'a str>, AllocError>
+    ensures { IfOk result (λ sorted. map (λ s. s.now) sorted.items ≡ spec.sorted_words (map (λ s. s.now) words.now)) }
+{
+    let long = long_words(alloc, &SHORT_NAMES, words)?;
+    sorted_command(alloc, sorting_for(&long), &long)
 }
 
 // Returns the options and words that sorted words may have.
@@ -259,7 +270,7 @@ fn answer<F: NamedFiles + OutputFiles, R: Source, W: Sink, E: Sink>(
 {
     let names = file_words(words);
     if is_next(words) {
-        answer_next(alloc, files, names, output, faults)
+        answer_next(alloc, files, option_words(words), names, output, faults)
     } else if is_explained(words) && !names.is_empty() {
         explain_files(alloc, files, names, output, faults)
     } else {

@@ -11,7 +11,7 @@ use crate::rows::{
     VERBOSE, VERSION, WITHOUT,
 };
 use job_run::Subcommand;
-use word_faults::{KnownWords, OptionRow, ValueKind, word_beside};
+use word_faults::{KnownWords, OptionRow, Scale, ValueKind, word_beside};
 
 /// The options and the subcommand. The reader, the first faulty word and the usage follow these rows.
 pub(crate) const OPTIONS: [OptionRow; 28] = [
@@ -66,15 +66,50 @@ pub(crate) const OPTIONS: [OptionRow; 28] = [
     HELP,
 ];
 
-/// The options beside the words `explain` and `next`.
+/// The options beside the word `explain`.
 pub(crate) const EXPLAIN_OPTIONS: [OptionRow; 2] = [VERSION, HELP];
+
+/// The options beside the word `next`: for a record of the texts.
+pub(crate) const NEXT_OPTIONS: [OptionRow; 5] = [
+    OptionRow {
+        name: "at",
+        value: ValueKind::Moment,
+        form: "YYYY-MM-DDThh:mm:ss",
+        unit: "UTC, in the years 1970 to 2037",
+        apart: "",
+        help: "the moment from which the texts are in force",
+    },
+    OptionRow {
+        name: "to",
+        value: ValueKind::File,
+        form: "RECORD",
+        unit: "",
+        apart: "",
+        help: "the file that the record of the texts is written to",
+    },
+    OptionRow {
+        name: "wait",
+        value: ValueKind::Scaled {
+            scale: Scale::Ticks,
+            least: 0,
+            greatest: 8_100_000,
+            default: Some(180_000),
+        },
+        form: "",
+        unit: "units of 90 kHz, or with ms or s",
+        apart: "",
+        help: "--wait of tsair, in units of 90 kHz; else 180000",
+    },
+    VERSION,
+    HELP,
+];
 
 /// The usage, written to the first writer if the words ask for help, to the second on a usage error: a line for each
 /// option of the table.
 const USAGE: &str = "usage: tsjob [describe|units|why] [OPTIONS] [FILE..|-] [-o OUT]
        tsjob units --stream DESCRIPTION < PACKETS > RECORDS
        tsjob explain [DESCRIPTION [PLAN [RECORDS]]]
-       tsjob next JOB TEXTS
+       tsjob next JOB TEXTS [--at YYYY-MM-DDThh:mm:ss --to RECORD [--wait T]]
   --rate 100000..100000000       bits a second; else the first tried rate with a plan
   --program N,..                 the programs that are taken
   --without PID,..               PIDs that are left out
@@ -158,7 +193,7 @@ pub(crate) fn next_words() -> KnownWords
     ensures { known_of result ≡ spec.next_words }
 {
     KnownWords {
-        options: &EXPLAIN_OPTIONS,
+        options: &NEXT_OPTIONS,
         words: &["next", "--"],
         names: false,
         alone: &["-V"],

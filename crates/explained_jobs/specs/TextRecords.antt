@@ -1,0 +1,31 @@
+-- The record that puts new texts on air.
+use Rattle.std.specs.Prelude.{◌≡◌, ◌≤◌, ◌+◌, ◌-◌, ◌*◌, ℕ, List, length, min, Ok}
+use Rattle.clock27.specs.Release.{release}
+use Rattle.pes_packet.specs.AccessUnits.{AccessUnit}
+use Rattle.pes_packet.specs.Marks.{no_marks}
+use Rattle.description_parts.specs.Described.{Described}
+use Rattle.changed_texts.specs.Reading.{description_in}
+use Rattle.checked_jobs.specs.Jobs.{parts_of}
+use Rattle.on_air.specs.Airing.{greatest_lead, settled}
+use Rattle.unit_records.specs.Records.{record_bytes}
+use Rattle.explained_jobs.specs.JobWords.{description_part}
+
+-- when texts are due, in units of 90 kHz after the first slot, that are in force from a moment on: a run writes the slots that the greatest lead and the wait
+-- before them have settled. A moment before the first slot is that of the first slot
+abbrev pub due_at : Described → ℕ → ℕ → ℕ
+due_at d at wait = 90000 * (at - d.start) + greatest_lead d.streams + wait
+
+abbrev pub texts_unit : ℕ → List ℕ → AccessUnit
+texts_unit due texts = record { dts = due; pts = due; marks = no_marks; bytes = texts }
+
+-- the record of these texts, for a job with this description
+pub record IsTextsRecord (job texts : List ℕ) (at wait : ℕ) (bytes : List ℕ) : Type 0 where
+  pub frame : Described
+  pub read : Ok frame ≡ description_in (description_part job (parts_of job))
+  pub size : length texts ≤ 4000000
+  pub is : bytes ≡ record_bytes 254 (texts_unit (due_at frame at wait) texts)
+
+-- the slots before a run puts them on air are those that begin before the moment
+abbrev pub TextsBegin : Type 0
+TextsBegin = (d : Described) (limit at wait : ℕ) →
+    settled d.rate (greatest_lead d.streams + wait) limit (due_at d at wait) ≡ min (release d.rate 0 (90000 * (at - d.start))) limit
