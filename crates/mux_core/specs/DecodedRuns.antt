@@ -34,7 +34,7 @@ use Rattle.unit_queue.specs.OwnedStreams.{pes_bytes}
 use Rattle.unit_queue.specs.Payloads.{all_pieces, all_senders}
 use Rattle.tstd.specs.Carried.{packets_on}
 use Rattle.mux_core.specs.Scheduled.{Scheduled}
-use Rattle.mux_core.specs.Histories.{Change, owned_stream, table_over}
+use Rattle.mux_core.specs.Histories.{TextsSoFar, past_of, from_of, owned_stream, table_over}
 use Rattle.mux_core.specs.Headline.{HeadlineOver}
 use Rattle.mux_core.specs.Decoder.{Follow, pieces_on, put_together}
 
@@ -120,13 +120,13 @@ pub record ProgramDecoded (d : Scheduled) (p : DescribedProgram) (slots : ℕ) (
   pub recur : Recur d.description.rate p.pcr_limit 0 (map (λ e. 188 * e.index + 10) (pid_list p.pcr_pid bytes)) (188 * slots)
 
 -- a section begins in these slots, by the texts in force there, and they recur within the limit of its table
-pub record SectionComes (d : Scheduled) (changes : List Change) (t j slots : ℕ) (bytes : List ℕ) : Type 0 where
+pub record SectionComes (d : Scheduled) (changes : TextsSoFar) (t j slots : ℕ) (bytes : List ℕ) : Type 0 where
   pub starts : List ℕ
   pub begins : All (λ s. Begins (table_over d changes t) j s bytes) starts
   pub recur : Recur d.description.rate (table_limit d.description t) 0 (map (λ s. 188 * s) starts) (188 * slots)
 
 -- the promises for table number t
-pub record TableDecoded (d : Scheduled) (changes : List Change) (t slots : ℕ) (bytes : List ℕ) : Type 0 where
+pub record TableDecoded (d : Scheduled) (changes : TextsSoFar) (t slots : ℕ) (bytes : List ℕ) : Type 0 where
   -- no counter breaks on its PID
   pub follow : Follow (pid_list (table_pid d.description t) bytes)
   pub sections : (j : ℕ) → j < section_count d.description t → SectionComes d changes t j slots bytes
@@ -143,7 +143,7 @@ pub record IsClear (d : Described) (packet : PacketView) : Type 0 where
   pub clock : has_pcr packet.adaptation ≡ true → (i : ℕ) × (slot_pid d (Pcr i) ≡ Some packet.header.pid)
 
 -- the promises for the whole run, over these changes of its texts
-pub record IsDecoded (d : Scheduled) (changes : List Change) (units : ℕ → List AccessUnit) (slots : ℕ) (bytes : List ℕ) : Type 0 where
+pub record IsDecoded (d : Scheduled) (changes : TextsSoFar) (units : ℕ → List AccessUnit) (slots : ℕ) (bytes : List ℕ) : Type 0 where
   -- each slot is a readable packet, and no packet has the transport_error_indicator
   pub read : length (entries_of bytes) ≡ slots
   pub unmarked : All (λ e. e.packet.header.transport_error_indicator ≡ false) (entries_of bytes)
@@ -156,5 +156,6 @@ pub record IsDecoded (d : Scheduled) (changes : List Change) (units : ℕ → Li
   pub tables : (t : ℕ) → t < table_count d.description → TableDecoded d changes t slots bytes
 
 abbrev pub DecodedLaw : Type 0
-DecodedLaw = (d : Scheduled) (changes : List Change) (units : ℕ → List AccessUnit) (slots : ℕ) (bytes : List ℕ) → IsInRange d.description →
+DecodedLaw = (d : Scheduled) (changes : TextsSoFar) (units : ℕ → List AccessUnit) (slots : ℕ) (bytes : List ℕ) → ((t : ℕ) → from_of (past_of changes) t ≡ None) →
+    IsInRange d.description →
     HeadlineOver d changes units slots bytes → IsDecoded d changes units slots bytes

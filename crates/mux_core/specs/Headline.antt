@@ -30,12 +30,13 @@ use Rattle.unit_timing.specs.VideoBuffers.{multiplexing_left, multiplexing_fulln
 use Rattle.unit_timing.specs.SystemBuffer.{system_tb_fullness, bsys_fullness}
 use Rattle.unit_timing.specs.Transport.{slots_of, tb_fullness, pes_left}
 use Rattle.unit_queue.specs.Payloads.{piece_in, all_pieces, all_senders, IsReleased}
+use Rattle.table_rounds.specs.Tables.{not_yet}
 use Rattle.table_rounds.specs.Payloads.{TableCarried, Begins}
 use Rattle.tstd.specs.Carried.{carries, timed_pes_packets, packets_on, table_packets}
 use Rattle.tstd.specs.Measured.{late_of}
 use Rattle.mux_core.specs.Scheduled.{Scheduled}
 use Rattle.mux_core.specs.FramesKept.{FramesKept}
-use Rattle.mux_core.specs.Histories.{Change, History, parameters_of, owned_stream, table_over, content_over}
+use Rattle.mux_core.specs.Histories.{TextsSoFar, History, unchanged, past_of, from_of, parameters_of, owned_stream, table_over, content_over}
 use Rattle.mux_core.specs.MuxStates.{MuxState, Represents}
 use Rattle.description_parts.specs.Ranges.{IsInRange}
 use Rattle.slot_plan.specs.Promised.{Promised}
@@ -100,12 +101,12 @@ pub record ProgramKept (d : Scheduled) (p : DescribedProgram) (slots : ℕ) (byt
   pub system_buffer : (x : ℕ) → bsys_fullness d.description.rate x (table_packets p.pmt_pid bytes) ≤ 1536
 
 -- the promises for table number t, over these changes of its texts
-pub record TableKeptOver (d : Scheduled) (changes : List Change) (t slots : ℕ) (bytes : List ℕ) : Type 0 where
+pub record TableKeptOver (d : Scheduled) (changes : TextsSoFar) (t slots : ℕ) (bytes : List ℕ) : Type 0 where
   -- its sections, each with the contents of the moment of its round by the texts in force where it begins, with consecutive counters
   pub sections : TableCarried (table_over d changes t) slots bytes
-  -- in each slot that is the first place of a section, a packet begins that section
-  pub begins : (j s : ℕ) → j < section_count d.description t → s < slots → section_starts d.description d.schedule t j s ≡ true →
-      Begins (table_over d changes t) j s bytes
+  -- in each slot that is the first place of a section, from the slot on in which the table came on air, a packet begins that section
+  pub begins : (j s : ℕ) → j < section_count d.description t → not_yet (from_of (past_of changes) t) s ≡ false → s < slots →
+      section_starts d.description d.schedule t j s ≡ true → Begins (table_over d changes t) j s bytes
   -- these slots recur within the table's limit, from the begin to the end of the run
   pub sections_recur : (j : ℕ) → j < section_count d.description t →
       Recur d.description.rate (table_limit d.description t) 0 (map (λ s. 188 * s) (own_slots (section_starts d.description d.schedule t j) 0 slots))
@@ -116,7 +117,7 @@ pub record TableKeptOver (d : Scheduled) (changes : List Change) (t slots : ℕ)
 
 -- the same without a change
 abbrev pub TableKept : Scheduled → ℕ → ℕ → List ℕ → Type 0
-TableKept d t slots bytes = TableKeptOver d [] t slots bytes
+TableKept d t slots bytes = TableKeptOver d unchanged t slots bytes
 
 -- 188 bytes are a packet, by the standard's table of fields (ISO/IEC 13818-1, 2.4.3.2)
 abbrev pub IsTransportPacket : List ℕ → Type 0
@@ -143,7 +144,7 @@ pub record IsClockAlone (d : Described) (packet : PacketView) : Type 0 where
   pub alone : packet ≡ pcr_view packet.header.pid reference
 
 -- the promises for the whole output, over these changes of its texts
-pub record HeadlineOver (d : Scheduled) (changes : List Change) (units : ℕ → List AccessUnit) (slots : ℕ) (bytes : List ℕ) : Type 0 where
+pub record HeadlineOver (d : Scheduled) (changes : TextsSoFar) (units : ℕ → List AccessUnit) (slots : ℕ) (bytes : List ℕ) : Type 0 where
   -- 188 bytes a slot
   pub size : length bytes ≡ 188 * slots
   -- each 188 bytes are a packet
@@ -160,7 +161,7 @@ pub record HeadlineOver (d : Scheduled) (changes : List Change) (units : ℕ →
 
 -- the same without a change
 abbrev pub Headline : Scheduled → (ℕ → List AccessUnit) → ℕ → List ℕ → Type 0
-Headline d units slots bytes = HeadlineOver d [] units slots bytes
+Headline d units slots bytes = HeadlineOver d unchanged units slots bytes
 
 -- the numbers of each stream are in their ranges, and its units are within its declaration
 pub record UnitsKept (d : Scheduled) (units : ℕ → List AccessUnit) : Type 0 where
@@ -169,7 +170,7 @@ pub record UnitsKept (d : Scheduled) (units : ℕ → List AccessUnit) : Type 0 
 
 -- the promises of a run: its schedule keeps the conditions, and its units were accepted
 abbrev pub HeadlineLaw : Type 0
-HeadlineLaw = (d : Scheduled) (changes : List Change) (units : ℕ → List AccessUnit) (slots : ℕ) → IsInRange d.description →
+HeadlineLaw = (d : Scheduled) (changes : TextsSoFar) (units : ℕ → List AccessUnit) (slots : ℕ) → IsInRange d.description →
     Promised d.description d.schedule → UnitsKept d units → HeadlineOver d changes units slots (run_bytes (content_over d changes units) 0 slots)
 
 -- the same promises for the history that a multiplexer represents, as far as its bytes go

@@ -1,5 +1,5 @@
--- A history: the units that were accepted, the changes of the tables' texts, and the number of slots written. The bytes of a run depend on nothing else.
-use Rattle.std.specs.Prelude.{ℕ, suc, ◌+◌, ◌*◌, nat_eq, nat_le, cond, List, [], ◌∷◌, ◌++◌, Option, Some, None, slice_get}
+-- A history: the units that were accepted, what the tables carried, and the number of slots written. The bytes of a run depend on nothing else.
+use Rattle.std.specs.Prelude.{ℕ, suc, ◌+◌, ◌*◌, nat_eq, nat_lt, nat_le, cond, List, [], ◌∷◌, ◌++◌, Option, Some, None, slice_get}
 use Rattle.clock27.specs.Reference.{pcr_at}
 use Rattle.pes_packet.specs.AccessUnits.{AccessUnit}
 use Rattle.slot_contents.specs.Contents.{Content, PcrContent, NullContent, run_bytes}
@@ -25,25 +25,73 @@ pub record Change : Type 0 where
   pub texts : Described
   pub since : ℕ → ℕ
 
--- for each stream, by its number, the accepted units in order; the changes of the texts, the last one first; and the number of slots written
+-- what the tables of a description carried before it came on air: the slot in which it came; for each table, by its number, the slot in which the table came
+-- on air, none for slot 0; the `start` of a round of a table that began in a slot before `until`; the bytes of a section of a table that began there, for a
+-- moment; and the description with the versions that follow those that were sent
+pub record Past : Type 0 where
+  pub until : ℕ
+  pub from : ℕ → Option ℕ
+  pub start : ℕ → ℕ → ℕ
+  pub bytes : ℕ → ℕ → ℕ → ℕ → List ℕ
+  pub texts : Described → Described
+
+-- the texts so far: those with which the description came on air, after a past or at the begin of the run; and those of each change, the last one first
+pub data TextsSoFar : Type 0 where
+  FirstTexts : Option Past → TextsSoFar
+  NextTexts : Change → TextsSoFar → TextsSoFar
+
+-- the texts of a run in which nothing changed
+abbrev pub unchanged : TextsSoFar
+unchanged = FirstTexts None
+
+-- the changes alone, the last one first
+abbrev pub listed_changes : TextsSoFar → List Change
+listed_changes (FirstTexts past) = []
+listed_changes (NextTexts change earlier) = change ∷ listed_changes earlier
+
+abbrev pub past_of : TextsSoFar → Option Past
+past_of (FirstTexts past) = past
+past_of (NextTexts change earlier) = past_of earlier
+
+-- the slot in which the description came on air
+abbrev pub until_of : Option Past → ℕ
+until_of None = 0
+until_of (Some past) = past.until
+
+-- the slot in which a table of the description came on air
+abbrev pub from_of : Option Past → ℕ → Option ℕ
+from_of None t = None
+from_of (Some past) t = past.from t
+
+-- the texts with which the description came on air
+abbrev pub first_texts : Option Past → Described → Described
+first_texts None d = d
+first_texts (Some past) d = past.texts d
+
+-- in a slot before its end what the past says, else what is so now
+abbrev pub by_past : {X : Type 0} → Option Past → ℕ → (Past → X) → X → X
+by_past None slot before now = now
+by_past (Some past) slot before now = cond (nat_lt slot past.until) (before past) now
+
+-- for each stream, by its number, the accepted units in order; the texts so far; and the number of slots written
 pub record History : Type 0 where
   pub units : ℕ → List AccessUnit
-  pub changes : List Change
+  pub changes : TextsSoFar
   pub slots : ℕ
 
 -- the history with one more change
 abbrev pub with_change : History → Change → History
-with_change h change = record { units = h.units; changes = change ∷ h.changes; slots = h.slots }
+with_change h change = record { units = h.units; changes = NextTexts change h.changes; slots = h.slots }
 
--- the texts in force in a slot: those of the last change up to it, before all changes the description's own
-abbrev pub text_at : Described → List Change → ℕ → Described
-text_at d [] slot = d
-text_at d (change ∷ earlier) slot = cond (nat_le change.from slot) change.texts (text_at d earlier slot)
+-- the texts in force in a slot: those of the last change up to it, before all changes those with which the description came
+abbrev pub text_at : Described → TextsSoFar → ℕ → Described
+text_at d (FirstTexts past) slot = first_texts past d
+text_at d (NextTexts change earlier) slot = cond (nat_le change.from slot) change.texts (text_at d earlier slot)
 
 -- the texts after all changes
-abbrev pub last_texts : Described → List Change → Described
-last_texts d [] = d
-last_texts d (change ∷ earlier) = change.texts
+abbrev pub last_texts : Described → TextsSoFar → Described
+last_texts d (FirstTexts past) = first_texts past d
+last_texts d (NextTexts change earlier) = change.texts
 
 -- the declaration of a stream about its units, in the output of this description
 abbrev pub parameters_of : Described → DescribedStream → StreamParameters
@@ -73,42 +121,50 @@ unfoldable pub pcr_content : Described → ℕ → Option ℕ → Content
 pcr_content d slot None = NullContent
 pcr_content d slot (Some pid) = PcrContent pid (pcr_at d.rate d.base0 (188 * slot + 10))
 
--- a table on its own slots: its sections with their greatest lengths, and their bytes by the moment, from the texts in force in the slot in which a section
--- begins; the moment of a round by the `start` of the texts in force in the slot in which the round begins
-abbrev pub table_over : Scheduled → List Change → ℕ → TableSlots
+-- the bytes of a section of a table that begins in a slot, for a moment, and the `start` of a round that begins in a slot: by the texts in force in the slot,
+-- before the past's end by the past
+abbrev pub bytes_over : Described → TextsSoFar → ℕ → ℕ → ℕ → ℕ → List ℕ
+bytes_over d changes t slot j moment = by_past (past_of changes) slot (λ past. past.bytes t slot j moment) (table_bytes (text_at d changes slot) t j moment)
+
+abbrev pub start_over : Described → TextsSoFar → ℕ → ℕ → ℕ
+start_over d changes t slot = by_past (past_of changes) slot (λ past. past.start t slot) (text_at d changes slot).start
+
+-- a table on its own slots: its sections with their greatest lengths, their bytes, and the moments of its rounds
+abbrev pub table_over : Scheduled → TextsSoFar → ℕ → TableSlots
 table_over d changes t = record {
   own = owned d.schedule (TableItem t);
   pid = table_pid d.description t;
+  from = from_of (past_of changes) t;
   lengths = section_lengths d.description t;
-  bytes = λ slot. table_bytes (text_at d.description changes slot) t;
+  bytes = bytes_over d.description changes t;
   rate = d.description.rate;
-  start = λ slot. (text_at d.description changes slot).start;
+  start = start_over d.description changes t;
   first = d.description.start;
 }
 
 -- the same without a change
 abbrev pub table_of : Scheduled → ℕ → TableSlots
-table_of d t = table_over d [] t
+table_of d t = table_over d unchanged t
 
 -- what a slot of table number t carries
-unfoldable pub table_in : Scheduled → List Change → ℕ → ℕ → Option TableKind → Content
+unfoldable pub table_in : Scheduled → TextsSoFar → ℕ → ℕ → Option TableKind → Content
 table_in d changes slot t None = NullContent
 table_in d changes slot t (Some kind) = table_content (table_over d changes t) slot
 
 -- what a slot of this kind carries
-unfoldable pub content_in : Scheduled → List Change → (ℕ → List AccessUnit) → ℕ → Slot → Content
+unfoldable pub content_in : Scheduled → TextsSoFar → (ℕ → List AccessUnit) → ℕ → Slot → Content
 content_in d changes units slot (Stream k) = stream_in d units slot k (slice_get d.description.streams k)
 content_in d changes units slot (Pcr p) = pcr_content d.description slot (slot_pid d.description (Pcr p))
 content_in d changes units slot (Table t) = table_in d changes slot t (slice_get (table_kinds d.description) t)
 content_in d changes units slot Null = NullContent
 
 -- what each slot of the run carries
-unfoldable pub content_over : Scheduled → List Change → (ℕ → List AccessUnit) → ℕ → Content
+unfoldable pub content_over : Scheduled → TextsSoFar → (ℕ → List AccessUnit) → ℕ → Content
 content_over d changes units slot = content_in d changes units slot (slot_of d.schedule slot)
 
 -- the same without a change
 abbrev pub content_at : Scheduled → (ℕ → List AccessUnit) → ℕ → Content
-content_at d units = content_over d [] units
+content_at d units = content_over d unchanged units
 
 -- the bytes of a history: 188 a slot
 abbrev pub bytes_of : Scheduled → History → List ℕ
@@ -116,7 +172,7 @@ bytes_of d h = run_bytes (content_over d h.changes h.units) 0 h.slots
 
 -- nothing accepted, nothing changed, nothing written
 abbrev pub empty_history : History
-empty_history = record { units = λ k. []; changes = []; slots = 0 }
+empty_history = record { units = λ k. []; changes = unchanged; slots = 0 }
 
 -- the history with one more slot, and with one more unit
 abbrev pub next_slot : History → History

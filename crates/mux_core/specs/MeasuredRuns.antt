@@ -11,7 +11,7 @@ use Rattle.tstd.specs.declared.fullness.SystemFullness.{SystemFullness}
 use Rattle.tstd.specs.declared.fullness.VideoFullness.{VideoFullness}
 use Rattle.unit_timing.specs.declared.multiplexing_buffer.MultiplexingBuffer.{MultiplexingBuffer}
 use Rattle.mux_core.specs.Scheduled.{Scheduled}
-use Rattle.mux_core.specs.Histories.{Change}
+use Rattle.mux_core.specs.Histories.{TextsSoFar}
 use Rattle.mux_core.specs.Headline.{HeadlineOver}
 
 -- no unit is late, and no buffer is ever fuller than its size; in a stream with a multiplexing buffer a unit is late if it is not whole in the elementary
@@ -27,7 +27,7 @@ pub record FindsNoFault (d : Described) (found : Measured) : Type 0 where
 
 -- the result of `measure` for bytes that keep their promises, however their texts changed
 abbrev pub MeasuredLaw : Type 0
-MeasuredLaw = (d : Scheduled) (changes : List Change) (units : List (ℕ × AccessUnit)) (slots : ℕ) (bytes : List ℕ) (found : Measured) →
+MeasuredLaw = (d : Scheduled) (changes : TextsSoFar) (units : List (ℕ × AccessUnit)) (slots : ℕ) (bytes : List ℕ) (found : Measured) →
     HeadlineOver d changes (λ k. units_of k units) slots bytes →
     StreamsMeasured d.description units bytes found.streams → SystemsMeasured d.description bytes found.programs →
     found.late ≡ late_unit d.description units bytes →
@@ -35,7 +35,7 @@ MeasuredLaw = (d : Scheduled) (changes : List Change) (units : List (ℕ × Acce
 
 -- the measurement is not refused if each unit names a stream and has from one byte to that stream's greatest size
 abbrev pub MeasurableLaw : Type 0
-MeasurableLaw = (d : Scheduled) (changes : List Change) (units : List (ℕ × AccessUnit)) (slots : ℕ) (bytes : List ℕ) →
+MeasurableLaw = (d : Scheduled) (changes : TextsSoFar) (units : List (ℕ × AccessUnit)) (slots : ℕ) (bytes : List ℕ) →
     HeadlineOver d changes (λ k. units_of k units) slots bytes →
     list_all (is_declared d.description) units ≡ true → cause d.description units bytes ≡ None
 

@@ -11,7 +11,7 @@ use Rattle.plan_checker.specs.Served.{Served}
 use Rattle.switch_checker.specs.Followed.{Followed}
 use Rattle.unit_queue.specs.declared.refusal.FeedError.{FeedError}
 use Rattle.mux_core.specs.Scheduled.{Scheduled}
-use Rattle.mux_core.specs.Histories.{History, content_over}
+use Rattle.mux_core.specs.Histories.{History, unchanged, content_over}
 use Rattle.mux_core.specs.MuxStates.{MuxState, Represents, feed_cause}
 use Rattle.mux_core.specs.NewMux.{is_periods}
 use Rattle.mux_core.specs.Buffer.{byte_count, Took}
@@ -44,7 +44,7 @@ capacity_for units = Units (min (max 1 (max_stream_units units)) 1048576)
 
 -- the history with all these units accepted and `slots` slots written
 abbrev pub job_history : List (ℕ × AccessUnit) → ℕ → History
-job_history units slots = record { units = λ k. units_of k units; changes = []; slots = slots }
+job_history units slots = record { units = λ k. units_of k units; changes = unchanged; slots = slots }
 
 -- ---- why nothing is written
 

@@ -3,7 +3,7 @@ use Rattle.std.specs.Prelude.{◌≡◌, ℕ, ◌+◌, ◌*◌, ◌/◌, ◌%◌
 use Rattle.clock27.specs.Units.{slot_seconds_at_1bps}
 use Rattle.slot_contents.specs.Contents.{Content, Piece}
 use Rattle.table_rounds.specs.Parts.{places_of, part_of, part_content}
-use Rattle.table_rounds.specs.Tables.{Table, place_at, begin_before, moment_before, last_moment, payloads_before}
+use Rattle.table_rounds.specs.Tables.{Table, SectionPlace, place_at, begin_before, moment_before, last_moment, held_of, payloads_before}
 
 -- the next place, the moment of the round, the bytes of the current section, and the number of payloads sent modulo 256
 pub record Carousel : Type 0 where
@@ -23,13 +23,25 @@ pub record CarouselHolds (table : Table) (slots : ℕ) (carousel : Carousel) : T
   pub packets_per_section : carousel.packets_per_section ≡ map places_of table.lengths
   pub place : place_at table slots ≡ record { section = carousel.section; part = carousel.part }
   pub moment : carousel.moment ≡ last_moment table slots
-  pub bytes : 0 < carousel.part → carousel.bytes ≡ table.bytes (begin_before table slots) carousel.section (moment_before table slots)
+  pub bytes : 0 < carousel.part → carousel.bytes ≡ held_of table (begin_before table slots) carousel.section (moment_before table slots)
   pub counter : carousel.counter ≡ payloads_before table slots % 256
+
+-- the state of a table that has sent nothing, at this place, with the moment of the last round
+abbrev pub silent_carousel : ℕ → ℕ → List ℕ → SectionPlace → ℕ → Carousel
+silent_carousel pid rate lengths place moment = record {
+  pid = pid;
+  rate = rate;
+  packets_per_section = map places_of lengths;
+  section = place.section;
+  part = place.part;
+  moment = moment;
+  counter = 0;
+  bytes = [];
+}
 
 -- a table's state before slot 0, with the moment before the first round
 abbrev pub first_carousel : ℕ → ℕ → ℕ → List ℕ → Carousel
-first_carousel pid rate first lengths =
-    record { pid = pid; rate = rate; packets_per_section = map places_of lengths; section = 0; part = 0; moment = first; counter = 0; bytes = [] }
+first_carousel pid rate first lengths = silent_carousel pid rate lengths (record { section = 0; part = 0 }) first
 
 -- the section that begins in the next own slot, if one begins there
 abbrev pub next_section : Carousel → Option ℕ

@@ -1,14 +1,13 @@
 -- What the packets of a table carry.
-use Rattle.std.specs.Prelude.{◌≡◌, ℕ, suc, ◌%◌, ◌^◌, ◌<◌, ◌==◌, true, false, List, Some, length, map, take, slice_get}
+use Rattle.std.specs.Prelude.{◌≡◌, ℕ, suc, ◌%◌, ◌^◌, ◌<◌, ◌≤◌, ◌==◌, true, false, List, Some, length, map, take, slice_get}
 use Rattle.std.specs.List.{flat_map}
 use Rattle.own_slots.specs.Slots.{own_slots}
 use Rattle.own_slots.specs.Rounds.{starts}
-use Rattle.ts_packet.specs.Beginnings.{is_start}
 use Rattle.ts_packet.specs.PidList.{Entry, is_of_pid, pid_list, payload_of}
-use Rattle.slot_contents.specs.Contents.{Content, ContentFits, view_of, run_bytes, Payload, payload_at, Piece, put}
+use Rattle.slot_contents.specs.Contents.{Content, ContentFits, view_of, run_bytes, Payload, payload_at, put}
 use Rattle.slot_contents.specs.RunLaws.{Fits}
 use Rattle.table_rounds.specs.Parts.{filled}
-use Rattle.table_rounds.specs.Tables.{Table, round_places, place_at, moment_before, part_at, table_content}
+use Rattle.table_rounds.specs.Tables.{Table, round_places, moment_before, not_yet, part_at, table_content}
 use Rattle.table_rounds.specs.Laws.{first_place}
 
 -- the payloads of a table in its own slots among n
@@ -32,11 +31,6 @@ pub record TableIsAlone (table : Table) (content : ℕ → Content) : Type 0 whe
 abbrev pub TableCarriedLaw : Type 0
 TableCarriedLaw = (table : Table) (n : ℕ) (content : ℕ → Content) → TableIsAlone table content → TableCarried table n (run_bytes content 0 n)
 
--- the first part of a section exists, whatever its length: pointer_field, and the bytes of the section
-abbrev pub FirstPartLaw : Type 0
-FirstPartLaw = (table : Table) (s j : ℕ) → place_at table s ≡ record { section = j; part = 0 } →
-    (piece : Piece) × (part_at table s ≡ Some piece) × (is_start piece.start ≡ true)
-
 -- the content of an own slot can be a packet
 abbrev pub PartFitsLaw : Type 0
 PartFitsLaw = (table : Table) (s : ℕ) → table.pid < 2 ^ 13 → ContentFits (table_content table s)
@@ -51,7 +45,8 @@ pub record Begins (table : Table) (j s : ℕ) (bytes : List ℕ) : Type 0 where
   pub start : entry.packet.header.payload_unit_start_indicator ≡ true
   pub first : payload_of entry.packet ≡ take 184 (filled (table.bytes s j (moment_before table (suc s))))
 
--- a section begins in each slot that is its first place
+-- a section begins in each slot that is its first place, from the slot on in which the table comes on air: it is never too short for that
 abbrev pub BeginsLaw : Type 0
-BeginsLaw = (table : Table) (n j s : ℕ) (content : ℕ → Content) → TableIsAlone table content → j < length table.lengths → s < n →
+BeginsLaw = (table : Table) (n j s : ℕ) (content : ℕ → Content) → TableIsAlone table content → j < length table.lengths →
+    not_yet table.from s ≡ false → s < n →
     starts table.own (round_places table.lengths) (first_place table.lengths j) s ≡ true → Begins table j s (run_bytes content 0 n)

@@ -1,7 +1,8 @@
 -- One table on its own slots. Its sections take places one after another, each as many packets as its greatest length needs; together they make a round, and
 -- the own slots of the table, counted over the run, are the places of one round after another. The sections of a round have the contents of the moment at
--- which its first slot begins.
-use Rattle.std.specs.Prelude.{ℕ, zero, suc, ◌+◌, ◌-◌, ◌*◌, ◌/◌, ◌%◌, ◌==◌, ◌&&◌, nat_lt, Bool, cond, List, [], ◌∷◌, sum_by, Option, Some, None}
+-- which its first slot begins. A table may come on air later than slot 0: its places are counted from slot 0 on all the same, and it sends the sections that
+-- begin from then on.
+use Rattle.std.specs.Prelude.{ℕ, zero, suc, ◌+◌, ◌-◌, ◌*◌, ◌/◌, ◌%◌, ◌==◌, ◌&&◌, nat_lt, Bool, false, cond, List, [], ◌∷◌, sum_by, Option, Some, None}
 use Rattle.clock27.specs.Units.{slot_seconds_at_1bps}
 use Rattle.own_slots.specs.Slots.{own_before}
 use Rattle.slot_contents.specs.Contents.{Content, Piece}
@@ -11,6 +12,8 @@ pub record Table : Type 0 where
   -- whether a slot is the table's own
   pub own : ℕ → Bool
   pub pid : ℕ
+  -- the slot in which it comes on air; none: it is on air from slot 0 on
+  pub from : Option ℕ
   -- the greatest length of each section over all moments, in bytes
   pub lengths : List ℕ
   -- the bytes of a section that begins in a slot, for a moment, in seconds since 1970: the texts may be others from a slot on
@@ -62,12 +65,21 @@ moment_before table s = moment_of table (round_before table.own (round_places ta
 abbrev pub last_moment : Table → ℕ → ℕ
 last_moment table s = cond (own_before table.own s == 0) table.first (moment_before table s)
 
--- the bytes of the section in the own slot s, and the part of the section there
+-- whether a table that comes on air in a slot is not yet on air in slot s
+abbrev pub not_yet : Option ℕ → ℕ → Bool
+not_yet None s = false
+not_yet (Some from) s = nat_lt s from
+
+-- the bytes of the section in the own slot s, and the part of the section there: none if the section's first place is before the table came on air
 abbrev pub bytes_at : Table → ℕ → List ℕ
 bytes_at table s = table.bytes (begin_before table (suc s)) (place_at table s).section (moment_before table (suc s))
 
 abbrev pub part_at : Table → ℕ → Option Piece
-part_at table s = part_of (bytes_at table s) (place_at table s).part
+part_at table s = cond (not_yet table.from (begin_before table (suc s))) None (part_of (bytes_at table s) (place_at table s).part)
+
+-- the bytes that are held of a section whose first place is in slot `begin`
+abbrev pub held_of : Table → ℕ → ℕ → ℕ → List ℕ
+held_of table begin section moment = cond (not_yet table.from begin) [] (table.bytes begin section moment)
 
 -- the number of payloads of the table before slot s, which is the number of the next payload on its PID
 abbrev pub one_if_some : Option Piece → ℕ

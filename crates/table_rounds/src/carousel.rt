@@ -1,6 +1,7 @@
 //! A table from slot to slot.
 
 ghost use Rattle.std.specs.Prelude.{◌≡◌, ◌<◌, ◌≤◌, ◌^◌, ◌+◌, ◌*◌, ◌/◌, length, map, slice_index_or};
+ghost use Rattle.table_rounds.specs.Tables.{place_in, round_places};
 ghost use Rattle.clock27.specs.Units.{slot_seconds_at_1bps};
 ghost use Rattle.slot_contents.specs.Contents.{packet_of};
 ghost use Rattle.table_rounds.specs.Parts.{places_of};
@@ -75,7 +76,7 @@ fn moment_at(rate: Rate, start: u32, slot: u64) -> u64
 impl TableCarousel {
     /// Returns a table before slot 0 of an output of this rate. Before the first round its moment is `first`, in seconds
     /// since 1970-01-01T00:00:00 UTC. `lengths` has the greatest length of each section over all moments, in bytes.
-    pub fn new(pid: u16, rate: Rate, first: u32, lengths: &[u16]) -> TableCarousel
+    pub fn new(pid: u16, rate: Rate, first: u64, lengths: &[u16]) -> TableCarousel
         requires pid { pid < 2 ^ 13 }
         requires sections { length lengths.now ≤ 128 }
         ensures { result ≡ spec.first_carousel pid rate first lengths.now }
@@ -86,10 +87,32 @@ impl TableCarousel {
             packets_per_section: places_of_each(lengths),
             section: 0,
             part: 0,
-            moment: first as u64,
+            moment: first,
             counter: 0,
             bytes: ArrayVec::new(),
         }
+    }
+
+    /// Returns a table that comes on air later than slot 0, before its first own slot from then on: at the place that it
+    /// would have if it had been on air from slot 0 on, by the number of that place in the round under way, with the
+    /// moment of the last round. It sends nothing before its next section begins.
+    pub fn silent(
+        pid: u16,
+        rate: Rate,
+        lengths: &[u16],
+        number: u32,
+        moment: u64,
+    ) -> TableCarousel
+        requires pid { pid < 2 ^ 13 }
+        requires sections { length lengths.now ≤ 128 }
+        requires number { number < round_places lengths.now }
+        ensures { result ≡ spec.silent_carousel pid rate lengths.now (place_in 0 lengths.now number) moment }
+    {
+        let mut carousel = TableCarousel::new(pid, rate, moment, lengths);
+        for _ in 0..number {
+            carousel.advance();
+        }
+        carousel
     }
 
     /// Returns the section that begins in the next own slot, if one begins there.

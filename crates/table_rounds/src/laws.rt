@@ -1,10 +1,15 @@
 //! Laws of the definitions. Each function does nothing: its contract is the law.
-ghost use Rattle.table_rounds.specs.Payloads.{TableCarriedLaw, BeginsLaw, FirstPartLaw, PartFitsLaw};
-ghost use Rattle.table_rounds.specs.Laws.{FirstCarouselLaw, TableSlotLaw, OtherTableSlotLaw, PlaceLaw, PlaceFoundLaw};
+ghost use Rattle.table_rounds.specs.Payloads.{TableCarriedLaw, BeginsLaw, PartFitsLaw};
+ghost use Rattle.table_rounds.specs.Laws.{FirstCarouselLaw, SilentCarouselLaw, TableSlotLaw, OtherTableSlotLaw, PlaceLaw, PlaceFoundLaw};
 
 /// States that a new state represents its table before slot 0.
 pub fn first_carousel()
     ensures { FirstCarouselLaw }
+{}
+
+/// States that the state of a table that comes on air, at the place where it would be, represents the table.
+pub fn silent_carousel()
+    ensures { SilentCarouselLaw }
 {}
 
 /// States that the state gives, at an own slot, what the table carries there, and represents the table in the next
@@ -32,11 +37,6 @@ pub fn place_found()
 /// counters that count on.
 pub fn table_carried()
     ensures { TableCarriedLaw }
-{}
-
-/// States that a section begins in the slot of its first place: it is never too short for that.
-pub fn first_part()
-    ensures { FirstPartLaw }
 {}
 
 /// States that what an own slot carries can be a packet.
