@@ -1,7 +1,7 @@
 -- From own slot to own slot, the state contains the values of the table, by the numbers of its slots.
 use Rattle.std.proofs.Common.{◌≡◌, ℕ, suc, ◌+◌, ◌*◌, ◌/◌, ◌%◌, ◌<◌, ◌==◌, Bool, true, false, cond, nat_lt, List, [], ◌∷◌, length, take, map, sum_by}
 use Rattle.std.proofs.Common.{slice_index_or, Option, Some, None, is_some, refl, ap, sym, subst, ◌∙◌, arith, inl, inr, eq-eqb, lt-ltb, le-ltb}
-use Rattle.std.proofs.lemmas.Bool.{cases_lt, ne_eqb}
+use Rattle.std.proofs.lemmas.Bool.{cases_Bool, cases_lt, ne_eqb, false≢true}
 use Rattle.std.proofs.lemmas.List.{length-map}
 use Rattle.std.proofs.lemmas.Nat.{mod_below}
 use Rattle.std.proofs.Math.Nat.{mod-eq_of_lt, mod_self, mod-add-mod}
@@ -11,7 +11,7 @@ use Rattle.own_slots.proofs.Counts.{own_before_own, own_before_other}
 use Rattle.slot_contents.specs.Contents.{packet_of, Piece}
 use Rattle.table_rounds.specs.Parts.{places_of, part_of, part_content}
 use Rattle.table_rounds.specs.Tables.{Table, SectionPlace, round_places, place_in, place_at, round_before, begin_before, moment_of, moment_before, last_moment}
-use Rattle.table_rounds.specs.Tables.{bytes_at, part_at, one_if_some, payloads_before}
+use Rattle.table_rounds.specs.Tables.{not_yet, part_at, held_of, one_if_some, payloads_before}
 use Rattle.table_rounds.specs.Carousels.{Carousel, CarouselHolds, moment_now, begun, section_advanced, advanced, counted}
 use Rattle.table_rounds.specs.Laws.{HasPlaces, IsSourceOf, FirstCarouselLaw, TableSlotLaw, OtherTableSlotLaw}
 use Rattle.table_rounds.proofs.Places.{NumberedPlace, numbered_place, place_first}
@@ -48,7 +48,7 @@ pub last_is : (table : Table) (s : ℕ) → 0 < own_before table.own s → last_
 last_is table s some = ap (λ (b : Bool). cond b table.first (moment_before table s)) (not_zero (own_before table.own s) some)
 
 -- A round with a place has a section.
-has_section : (ls : List ℕ) → 0 < round_places ls → 0 < length ls
+pub has_section : (ls : List ℕ) → 0 < round_places ls → 0 < length ls
 has_section [] some = absurd (omega (arith, some))
 has_section (l ∷ ls) some = omega arith
 
@@ -84,8 +84,8 @@ other_slot table s carousel n h =
       place = ap (λ (i : ℕ). place_in 0 table.lengths (i % round_places table.lengths)) before ∙ h.place;
       moment = h.moment ∙ ap (λ (i : ℕ). cond (i == 0) table.first (moment_before table s)) (sym before)
           ∙ ap (λ (r : ℕ). cond (own_before table.own (suc s) == 0) table.first (moment_of table r)) (sym round);
-      bytes = λ lt. h.bytes lt ∙ ap (λ (r : ℕ). table.bytes (begin_before table s) carousel.section (moment_of table r)) (sym round)
-          ∙ ap (λ (b : ℕ). table.bytes b carousel.section (moment_before table (suc s))) (sym (section_other table s n));
+      bytes = λ lt. h.bytes lt ∙ ap (λ (r : ℕ). held_of table (begin_before table s) carousel.section (moment_of table r)) (sym round)
+          ∙ ap (λ (b : ℕ). held_of table b carousel.section (moment_before table (suc s))) (sym (section_other table s n));
       counter = h.counter ∙ ap (λ (i : ℕ). i % 256) (sym count);
     }
 
@@ -97,7 +97,7 @@ record Ready (table : Table) (s : ℕ) (b : Carousel) : Type 0 where
   packets_per_section : b.packets_per_section ≡ map places_of table.lengths
   place : place_at table s ≡ record { section = b.section; part = b.part }
   moment : b.moment ≡ moment_before table (suc s)
-  bytes : b.bytes ≡ table.bytes (begin_before table (suc s)) b.section (moment_before table (suc s))
+  bytes : b.bytes ≡ held_of table (begin_before table (suc s)) b.section (moment_before table (suc s))
   counter : b.counter ≡ payloads_before table (suc s) % 256
 
 -- The state at the next place
@@ -110,7 +110,7 @@ placed table s section part b some r place same = record {
   packets_per_section = r.packets_per_section;
   place = place;
   moment = r.moment ∙ sym (last_is table (suc s) some);
-  bytes = λ lt. r.bytes ∙ ap (λ (j : ℕ). table.bytes (begin_before table (suc s)) j (moment_before table (suc s))) (sym (same lt));
+  bytes = λ lt. r.bytes ∙ ap (λ (j : ℕ). held_of table (begin_before table (suc s)) j (moment_before table (suc s))) (sym (same lt));
   counter = r.counter;
 }
 
@@ -188,18 +188,18 @@ abbrev made : Carousel → ℕ → List ℕ → Carousel
 made carousel moment bytes = record carousel { moment = moment; bytes = bytes }
 
 -- At an own slot the state has the moment of the round and the bytes of the section.
-begun_is : (table : Table) (s : ℕ) (source : ℕ → ℕ → List ℕ) (carousel : Carousel) → HasPlaces table → IsSourceOf table s source → table.own s ≡ true →
-    CarouselHolds table s carousel
-    → begun source (table.start s) s carousel ≡ made carousel (moment_before table (suc s)) (table.bytes (begin_before table (suc s)) carousel.section (moment_before table (suc s)))
+begun_is : (table : Table) (s : ℕ) (source : ℕ → ℕ → List ℕ) (carousel : Carousel) → HasPlaces table → IsSourceOf table s source →
+    not_yet table.from s ≡ false → table.own s ≡ true → CarouselHolds table s carousel
+    → begun source (table.start s) s carousel ≡ made carousel (moment_before table (suc s)) (held_of table (begin_before table (suc s)) carousel.section (moment_before table (suc s)))
 unfolding begun
-begun_is table s source carousel some is y h = elim (cases_lt 0 carousel.part) [
+begun_is table s source carousel some is from y h = elim (cases_lt 0 carousel.part) [
   | inl later ↦
       let e : (carousel.part == 0) ≡ false = not_zero carousel.part later in
       let f : begun source (table.start s) s carousel ≡ carousel = rw e refl in
       let n : 0 < i % k = inside later in
       f ∙ remade (h.moment ∙ last_is table s (had n) ∙ ap (moment_of table) (sym (round_stays table.own k s y n)))
-      (h.bytes later ∙ ap (λ (r : ℕ). table.bytes (begin_before table s) carousel.section (moment_of table r)) (sym (round_stays table.own k s y n))
-      ∙ ap (λ (b : ℕ). table.bytes b carousel.section (moment_before table (suc s))) (sym (section_stays table s y (under_way later))))
+      (h.bytes later ∙ ap (λ (r : ℕ). held_of table (begin_before table s) carousel.section (moment_of table r)) (sym (round_stays table.own k s y n))
+      ∙ ap (λ (b : ℕ). held_of table b carousel.section (moment_before table (suc s))) (sym (section_stays table s y (under_way later))))
   | inr first ↦
       let z : carousel.part ≡ 0 = omega (arith, first) in
       let e : (carousel.part == 0) ≡ true = eq-eqb carousel.part 0 z in
@@ -207,7 +207,8 @@ begun_is table s source carousel some is y h = elim (cases_lt 0 carousel.part) [
       ≡ made carousel (moment_now (table.start s) s carousel) (source carousel.section (moment_now (table.start s) s carousel)) = rw e refl in
       f ∙ ap (λ (m : ℕ). made carousel m (source carousel.section m)) (moment z)
       ∙ ap (made carousel (moment_before table (suc s))) (is carousel.section (moment_before table (suc s)) within
-      ∙ ap (λ (b : ℕ). table.bytes b carousel.section (moment_before table (suc s))) (sym (section_at table s y (here ∙ z))))
+      ∙ sym (ap (λ (b : Bool). cond b [] (table.bytes s carousel.section (moment_before table (suc s)))) from)
+      ∙ ap (λ (b : ℕ). held_of table b carousel.section (moment_before table (suc s))) (sym (section_at table s y (here ∙ z))))
 ]
   where
     k : ℕ
@@ -277,7 +278,7 @@ begun_is table s source carousel some is y h = elim (cases_lt 0 carousel.part) [
 
 -- The payload of the slot is counted.
 ready : (table : Table) (s : ℕ) (carousel : Carousel) (o : Option Piece) → table.own s ≡ true → CarouselHolds table s carousel → part_at table s ≡ o
-    → Ready table s (counted (is_some o) (made carousel (moment_before table (suc s)) (table.bytes (begin_before table (suc s)) carousel.section (moment_before table (suc s)))))
+    → Ready table s (counted (is_some o) (made carousel (moment_before table (suc s)) (held_of table (begin_before table (suc s)) carousel.section (moment_before table (suc s)))))
 unfolding payloads_before
 ready table s carousel None y h e =
     let more : payloads_before table (suc s) ≡ payloads_before table s + 0 =
@@ -315,15 +316,34 @@ unfolding part_content packet_of
 same_packet pid number counter None e = refl
 same_packet pid number counter (Some p) e = let f : counter % 16 ≡ number % 16 = omega arith in rw f refl
 
+-- No bytes have no part after the first.
+none_of : (q : ℕ) → 0 < q → part_of [] q ≡ None
+unfolding part_of
+none_of q later = let e : nat_lt (184 * q) 1 ≡ false = le-ltb (184 * q) 1 (omega (arith, later)) in rw e refl
+
+-- The bytes that are held of a section have its parts, if no first part of a section from before the table came on air is asked for.
+part_held : (table : Table) (begin section moment q : ℕ) → (q ≡ 0 → not_yet table.from begin ≡ false) →
+    cond (not_yet table.from begin) None (part_of (table.bytes begin section moment) q) ≡ part_of (held_of table begin section moment) q
+part_held table begin section moment q starts = elim (cases_Bool (not_yet table.from begin)) [
+  | inl e ↦
+      let later : 0 < q = elim (cases_lt 0 q) [ inl lt ↦ lt | inr z ↦ absurd (false≢true (sym (starts (omega (arith, z))) ∙ e)) ] in
+      ap (λ (b : Bool). cond b None (part_of (table.bytes begin section moment) q)) e
+      ∙ sym (ap (λ (b : Bool). part_of (cond b [] (table.bytes begin section moment)) q) e ∙ none_of q later)
+  | inr e ↦
+      ap (λ (b : Bool). cond b None (part_of (table.bytes begin section moment) q)) e
+      ∙ sym (ap (λ (b : Bool). part_of (cond b [] (table.bytes begin section moment)) q) e)
+]
+
 pub own_slot : TableSlotLaw
-own_slot table s source carousel some is y h =
-    let b : begun source (table.start s) s carousel ≡ made carousel (moment_before table (suc s)) (table.bytes (begin_before table (suc s)) carousel.section (moment_before table (suc s))) =
-    begun_is table s source carousel some is y h in
-    let bytes : bytes_at table s ≡ table.bytes (begin_before table (suc s)) carousel.section (moment_before table (suc s)) =
-    ap (λ (p : SectionPlace). table.bytes (begin_before table (suc s)) p.section (moment_before table (suc s))) h.place in
-    let part : part_at table s ≡ part_of (table.bytes (begin_before table (suc s)) carousel.section (moment_before table (suc s))) carousel.part =
-    ap (λ (l : List ℕ). part_of l (place_at table s).part) bytes
-    ∙ ap (λ (p : SectionPlace). part_of (table.bytes (begin_before table (suc s)) carousel.section (moment_before table (suc s))) p.part) h.place in
+own_slot table s source carousel some is from y h =
+    let b : begun source (table.start s) s carousel ≡ made carousel (moment_before table (suc s)) (held_of table (begin_before table (suc s)) carousel.section (moment_before table (suc s))) =
+    begun_is table s source carousel some is from y h in
+    let starts : carousel.part ≡ 0 → not_yet table.from (begin_before table (suc s)) ≡ false =
+    λ z. ap (not_yet table.from) (section_at table s y (ap (λ (p : SectionPlace). p.part) h.place ∙ z)) ∙ from in
+    let part : part_at table s ≡ part_of (held_of table (begin_before table (suc s)) carousel.section (moment_before table (suc s))) carousel.part =
+    ap (λ (p : SectionPlace). cond (not_yet table.from (begin_before table (suc s))) None
+    (part_of (table.bytes (begin_before table (suc s)) p.section (moment_before table (suc s))) p.part)) h.place
+    ∙ part_held table (begin_before table (suc s)) carousel.section (moment_before table (suc s)) carousel.part starts in
     record {
       packet = ap (λ (t : Carousel). packet_of (part_content t.pid t.counter (part_of t.bytes t.part))) b
           ∙ ap (λ (o : Option Piece). packet_of (part_content carousel.pid carousel.counter o)) (sym part)

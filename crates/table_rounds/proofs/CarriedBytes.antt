@@ -11,8 +11,8 @@ use Rattle.slot_contents.specs.Contents.{Content, ContentFits, PayloadContent, P
 use Rattle.slot_contents.specs.Contents.{PayloadCount, HasNumber, payload_entry, payload_entries, payload_at, Piece, put}
 use Rattle.slot_contents.proofs.Counts.{payload_count_law, run_payload_entries, payload_entries_again}
 use Rattle.table_rounds.specs.Parts.{filled, part_of, part_content}
-use Rattle.table_rounds.specs.Tables.{Table, SectionPlace, place_at, bytes_at, part_at, one_if_some, payloads_before}
-use Rattle.table_rounds.specs.Payloads.{TableIsAlone, TableCarriedLaw, FirstPartLaw, PartFitsLaw}
+use Rattle.table_rounds.specs.Tables.{Table, place_at, begin_before, not_yet, bytes_at, part_at, one_if_some, payloads_before}
+use Rattle.table_rounds.specs.Payloads.{TableIsAlone, TableCarriedLaw, PartFitsLaw}
 
 -- A slot of another PID has no payload and no number on this PID.
 silent : (pid s number : ℕ) (c : Content) → is_of_pid pid (view_of c) ≡ false → (payload_in pid s c ≡ []) × HasNumber pid c number
@@ -97,15 +97,6 @@ table_carried table n content alone =
       payloads = ap (map payload_at) listed ∙ payload_entries_again table.pid 0 (payloads_in table.pid content 0 n) ∙ by_slot table content 0 n alone;
     }
 
-pub first_part : FirstPartLaw
-unfolding part_of
-first_part table s j e =
-    let bytes = bytes_at table s in
-    let first : part_at table s ≡ part_of bytes 0 = ap (λ (p : SectionPlace). part_of bytes p.part) e in
-    let some : nat_lt (184 * 0) (1 + length bytes) ≡ true = lt-ltb 0 (1 + length bytes) (omega arith) in
-    let there : part_of bytes 0 ≡ Some (record { start = start_by true false; bytes = take 184 (drop (184 * 0) (filled bytes)) }) = rw some refl in
-    (record { start = start_by true false; bytes = take 184 (drop (184 * 0) (filled bytes)) }, first ∙ there, refl)
-
 -- A payload has 184 bytes if no decoder can start at it.
 plain_room : (b : Bool) → room_of (start_by b false) ≡ 184
 plain_room true = refl
@@ -129,5 +120,13 @@ part_fits_of pid number bytes q below = elim (cases_lt (184 * q) (1 + length byt
       subst ContentFits (sym there) tt
 ]
 
+-- A slot without a part carries nothing.
+fits_if : (pid number : ℕ) (b : Bool) (o : Option Piece) → ContentFits (part_content pid number o) → ContentFits (part_content pid number (cond b None o))
+unfolding part_content
+fits_if pid number true o fit = tt
+fits_if pid number false o fit = fit
+
 pub part_fits : PartFitsLaw
-part_fits table s below = part_fits_of table.pid (payloads_before table s) (bytes_at table s) (place_at table s).part below
+part_fits table s below =
+    fits_if table.pid (payloads_before table s) (not_yet table.from (begin_before table (suc s))) (part_of (bytes_at table s) (place_at table s).part)
+    (part_fits_of table.pid (payloads_before table s) (bytes_at table s) (place_at table s).part below)

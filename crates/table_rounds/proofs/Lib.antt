@@ -1,5 +1,6 @@
 pub mod SectionParts
 pub mod Places
 pub mod CarouselSteps
+pub mod SilentTables
 pub mod CarriedBytes
 pub mod SectionStarts

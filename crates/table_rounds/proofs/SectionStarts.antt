@@ -10,7 +10,7 @@ use Rattle.ts_packet.specs.Views.{PacketView}
 use Rattle.ts_packet.specs.Beginnings.{is_start, has_access, start_by, start_in}
 use Rattle.slot_contents.specs.Contents.{run_bytes, Payload, payload_at, Piece, put}
 use Rattle.table_rounds.specs.Parts.{filled, part_of}
-use Rattle.table_rounds.specs.Tables.{Table, SectionPlace, round_places, place_in, place_at, begin_before, moment_before, part_at}
+use Rattle.table_rounds.specs.Tables.{Table, SectionPlace, round_places, place_in, place_at, begin_before, moment_before, not_yet, part_at}
 use Rattle.table_rounds.specs.Laws.{first_place}
 use Rattle.table_rounds.specs.Payloads.{BeginsLaw}
 use Rattle.table_rounds.proofs.Places.{place_law}
@@ -77,7 +77,7 @@ start_indicated packet = by_both packet.header.payload_unit_start_indicator (has
 
 pub begins : BeginsLaw
 unfolding part_of payload
-begins table n j s content alone lt within e =
+begins table n j s content alone lt from within e =
     let own = starts_own table.own (round_places table.lengths) (first_place table.lengths j) s e in
     let place = begins_at table j s lt own.1 in
     let bytes = table.bytes s j (moment_before table (suc s)) in
@@ -85,8 +85,10 @@ begins table n j s content alone lt within e =
     let some : nat_lt (184 * 0) (1 + length bytes) ≡ true = lt-ltb 0 (1 + length bytes) (omega arith) in
     let first : part_of bytes 0 ≡ Some (record { start = start_by true false; bytes = take 184 (drop (184 * 0) (filled bytes)) }) = rw some refl in
     let part : part_at table s ≡ Some (record { start = start_by true false; bytes = take 184 (drop (184 * 0) (filled bytes)) }) =
-    ap (λ (p : SectionPlace). part_of (table.bytes (begin_before table (suc s)) p.section (moment_before table (suc s))) p.part) place
-    ∙ ap (λ (b : ℕ). part_of (table.bytes b j (moment_before table (suc s))) 0) here ∙ first in
+    ap (λ (p : SectionPlace). cond (not_yet table.from (begin_before table (suc s))) None
+    (part_of (table.bytes (begin_before table (suc s)) p.section (moment_before table (suc s))) p.part)) place
+    ∙ ap (λ (b : ℕ). cond (not_yet table.from b) None (part_of (table.bytes b j (moment_before table (suc s))) 0)) here
+    ∙ ap (λ (b : Bool). cond b None (part_of bytes 0)) from ∙ first in
     let at = found table 0 n s (record { start = start_by true false; bytes = take 184 (drop (184 * 0) (filled bytes)) }) (omega arith) (omega (arith, within))
     own.0 part in
     let carried = table_carried table n content alone in

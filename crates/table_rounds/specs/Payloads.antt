@@ -1,5 +1,5 @@
 -- What the packets of a table carry.
-use Rattle.std.specs.Prelude.{◌≡◌, ℕ, suc, ◌%◌, ◌^◌, ◌<◌, ◌≤◌, ◌==◌, true, false, List, Some, length, map, take, slice_get}
+use Rattle.std.specs.Prelude.{◌≡◌, ℕ, suc, ◌%◌, ◌^◌, ◌<◌, ◌==◌, true, false, List, Some, length, map, take, slice_get}
 use Rattle.std.specs.List.{flat_map}
 use Rattle.own_slots.specs.Slots.{own_slots}
 use Rattle.own_slots.specs.Rounds.{starts}

@@ -96,13 +96,7 @@ impl TableCarousel {
     /// Returns a table that comes on air later than slot 0, before its first own slot from then on: at the place that it
     /// would have if it had been on air from slot 0 on, by the number of that place in the round under way, with the
     /// moment of the last round. It sends nothing before its next section begins.
-    pub fn silent(
-        pid: u16,
-        rate: Rate,
-        lengths: &[u16],
-        number: u32,
-        moment: u64,
-    ) -> TableCarousel
+    pub fn silent(pid: u16, rate: Rate, lengths: &[u16], number: u32, moment: u64) -> TableCarousel
         requires pid { pid < 2 ^ 13 }
         requires sections { length lengths.now ≤ 128 }
         requires number { number < round_places lengths.now }
