@@ -24,7 +24,7 @@ use std::alloc::{AllocError, Allocator};
 const TRIES: usize = 12;
 
 /// Returns the placement tasks of all items, or the number of the first whose windows are too narrow.
-fn tasks_of<A: Allocator>(
+pub fn tasks_of<A: Allocator>(
     alloc: A,
     demands: &[Demand<'_>],
     period: u64,
@@ -78,7 +78,7 @@ fn with_more(demand: Demand<'_>) -> Demand<'_>
 }
 
 /// Adds own slots to an item that missed one, and returns whether that may help.
-fn add_slots(demands: &mut [Demand<'_>], missed: usize, period: u64) -> bool
+pub fn add_slots(demands: &mut [Demand<'_>], missed: usize, period: u64) -> bool
     ensures { (if result then Some (map demand_view demands.new) else None)
         ≡ spec.added period (map demand_view demands.old) missed }
 {

@@ -157,7 +157,7 @@ fn earlier(urgent: Option<usize>, least: u64, i: usize, due: u64) -> Option<usiz
 
 /// Returns the content of one slot: the slot of the most urgent task, or null. An error is the task whose window
 /// ended before.
-fn next_slot(tasks: &mut [PlacementTask], at: u64, period: u64) -> Result<Slot, usize>
+pub fn next_slot(tasks: &mut [PlacementTask], at: u64, period: u64) -> Result<Slot, usize>
     ensures { outcome result tasks.new ≡ spec.next_slot period at tasks.old }
 {
     match most_urgent(tasks, at) {
@@ -188,7 +188,7 @@ fn is_open(task: &PlacementTask) -> bool
 }
 
 /// Returns the first task that has own slots left.
-fn first_open(tasks: &[PlacementTask]) -> Option<usize>
+pub fn first_open(tasks: &[PlacementTask]) -> Option<usize>
     ensures { result ≡ position spec.is_open tasks.now }
 {
     tasks.iter().position(|task| is_open(task))
