@@ -26,11 +26,12 @@ pub record Change : Type 0 where
   pub since : ℕ → ℕ
 
 -- what the tables of a description carried before it came on air: the slot in which it came; for each table, by its number, the slot in which the table came
--- on air, none for slot 0; the `start` of a round of a table that began in a slot before `until`; the bytes of a section of a table that began there, for a
--- moment; and the description with the versions that follow those that were sent
+-- on air, none for slot 0; the moment before the first round of a table; the `start` of a round of a table that began in a slot before `until`; the bytes of a
+-- section of a table that began there, for a moment; and the description with the versions that follow those that were sent
 pub record Past : Type 0 where
   pub until : ℕ
   pub from : ℕ → Option ℕ
+  pub first : ℕ → ℕ
   pub start : ℕ → ℕ → ℕ
   pub bytes : ℕ → ℕ → ℕ → ℕ → List ℕ
   pub texts : Described → Described
@@ -62,6 +63,11 @@ until_of (Some past) = past.until
 abbrev pub from_of : Option Past → ℕ → Option ℕ
 from_of None t = None
 from_of (Some past) t = past.from t
+
+-- the moment before the first round of a table of the description
+abbrev pub first_of : Option Past → Described → ℕ → ℕ
+first_of None d t = d.start
+first_of (Some past) d t = past.first t
 
 -- the texts with which the description came on air
 abbrev pub first_texts : Option Past → Described → Described
@@ -139,7 +145,7 @@ table_over d changes t = record {
   bytes = bytes_over d.description changes t;
   rate = d.description.rate;
   start = start_over d.description changes t;
-  first = d.description.start;
+  first = first_of (past_of changes) d.description t;
 }
 
 -- the same without a change
