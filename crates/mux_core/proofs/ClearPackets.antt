@@ -22,7 +22,7 @@ use Rattle.unit_queue.specs.Places.{UnitPlace, place_at, content_of}
 use Rattle.table_rounds.specs.Tables.{payloads_before, part_at}
 use Rattle.table_rounds.specs.Parts.{part_content}
 use Rattle.mux_core.specs.Scheduled.{Scheduled}
-use Rattle.mux_core.specs.Histories.{Change, owned_stream, table_over, stream_in, pcr_content, table_in, content_in, content_over}
+use Rattle.mux_core.specs.Histories.{owned_stream, table_over, stream_in, pcr_content, table_in, content_in, content_over, TextsSoFar}
 use Rattle.mux_core.specs.Headline.{IsPayloadAlone, IsClockAlone}
 
 -- a clock reference is on the PCR PID of a program
@@ -45,7 +45,7 @@ unfolding pcr_content
 clock_named d s i None is = tt
 clock_named d s i (Some pid) is = (i, is)
 
-table_named : (d : Scheduled) (changes : List Change) (s t : ℕ) (o : Option TableKind) → ClockNamed d.description (table_in d changes s t o)
+table_named : (d : Scheduled) (changes : TextsSoFar) (s t : ℕ) (o : Option TableKind) → ClockNamed d.description (table_in d changes s t o)
 unfolding table_in part_content
 table_named d changes s t None = tt
 table_named d changes s t (Some kind) = by (part_at (table_over d changes t) s)
@@ -54,7 +54,7 @@ table_named d changes s t (Some kind) = by (part_at (table_over d changes t) s)
     by None = tt
     by (Some part) = tt
 
-named : (d : Scheduled) (changes : List Change) (units : ℕ → List AccessUnit) (s : ℕ) (slot : Slot) → ClockNamed d.description (content_in d changes units s slot)
+named : (d : Scheduled) (changes : TextsSoFar) (units : ℕ → List AccessUnit) (s : ℕ) (slot : Slot) → ClockNamed d.description (content_in d changes units s slot)
 unfolding content_in
 named d changes units s (Stream k) = stream_named d units s k (slice_get d.description.streams k)
 named d changes units s (Pcr i) = clock_named d s i (slot_pid d.description (Pcr i)) refl
@@ -71,12 +71,12 @@ content_alone d s (PayloadContent pid number start payload) on =
 content_alone d s (PcrContent pid pcr) on = inr (record { program = on.0; named = on.1; reference = pcr; alone = refl })
 content_alone d s NullContent on = inl refl
 
-all_alone : (d : Scheduled) (changes : List Change) (units : ℕ → List AccessUnit) (s n : ℕ) → All (IsAlone d.description) (all_entries (content_over d changes units) s n)
+all_alone : (d : Scheduled) (changes : TextsSoFar) (units : ℕ → List AccessUnit) (s n : ℕ) → All (IsAlone d.description) (all_entries (content_over d changes units) s n)
 unfolding all_entries content_over
 all_alone d changes units s zero = All-nil (IsAlone d.description)
 all_alone d changes units s (suc n) = All-cons (IsAlone d.description) (entry_at s (content_over d changes units s)) (all_entries (content_over d changes units) (suc s) n)
     (content_alone d.description s (content_over d changes units s) (named d changes units s (slot_of d.schedule s))) (all_alone d changes units (suc s) n)
 
-pub all_clear : (d : Scheduled) (changes : List Change) (units : ℕ → List AccessUnit) (n : ℕ) → Fits (content_over d changes units) →
+pub all_clear : (d : Scheduled) (changes : TextsSoFar) (units : ℕ → List AccessUnit) (n : ℕ) → Fits (content_over d changes units) →
     All (λ e. IsPayloadAlone e.packet ⊎ IsClockAlone d.description e.packet) (entries_of (run_bytes (content_over d changes units) 0 n))
 all_clear d changes units n fits = subst (All (IsAlone d.description)) (sym (run_entries (content_over d changes units) n fits)) (all_alone d changes units 0 n)

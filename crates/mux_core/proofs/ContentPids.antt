@@ -23,7 +23,7 @@ use Rattle.table_rounds.specs.Tables.{payloads_before, part_at}
 use Rattle.table_rounds.specs.Parts.{part_content}
 use Rattle.table_rounds.proofs.CarriedBytes.{part_fits}
 use Rattle.mux_core.specs.Scheduled.{Scheduled}
-use Rattle.mux_core.specs.Histories.{Change, owned_stream, table_over, stream_in, pcr_content, table_in, content_in, content_at, content_over}
+use Rattle.mux_core.specs.Histories.{owned_stream, table_over, stream_in, pcr_content, table_in, content_in, content_at, content_over, TextsSoFar, unchanged}
 
 -- The PID of a slot's packet.
 unfoldable pub content_pid : Content → ℕ
@@ -76,7 +76,7 @@ unfolding pcr_content content_pid
 clock_speaks d s None = inl refl
 clock_speaks d s (Some pid) = inr refl
 
-table_speaks : (d : Scheduled) (changes : List Change) (s t : ℕ) (o : Option TableKind) → Speaks (option_map (λ k. table_pid d.description t) o) (table_in d changes s t o)
+table_speaks : (d : Scheduled) (changes : TextsSoFar) (s t : ℕ) (o : Option TableKind) → Speaks (option_map (λ k. table_pid d.description t) o) (table_in d changes s t o)
 unfolding table_in part_content content_pid
 table_speaks d changes s t None = inl refl
 table_speaks d changes s t (Some kind) = by (part_at (table_over d changes t) s)
@@ -85,7 +85,7 @@ table_speaks d changes s t (Some kind) = by (part_at (table_over d changes t) s)
     by None = inl refl
     by (Some part) = inr refl
 
-pub speaks : (d : Scheduled) (changes : List Change) (units : ℕ → List AccessUnit) (s : ℕ) (slot : Slot) → Speaks (slot_pid d.description slot) (content_in d changes units s slot)
+pub speaks : (d : Scheduled) (changes : TextsSoFar) (units : ℕ → List AccessUnit) (s : ℕ) (slot : Slot) → Speaks (slot_pid d.description slot) (content_in d changes units s slot)
 unfolding content_in slot_pid content_pid
 speaks d changes units s (Stream k) = stream_speaks d units s k (slice_get d.description.streams k)
 speaks d changes units s (Pcr i) = clock_speaks d s (slot_pid d.description (Pcr i))
@@ -93,7 +93,7 @@ speaks d changes units s (Table t) = table_speaks d changes s t (slice_get (tabl
 speaks d changes units s Null = inl refl
 
 -- A slot whose packet has a PID below 8191 names that PID.
-pub names_over : (d : Scheduled) (changes : List Change) (units : ℕ → List AccessUnit) (s pid : ℕ) → pid < 8191 → is_of_pid pid (view_of (content_over d changes units s)) ≡ true →
+pub names_over : (d : Scheduled) (changes : TextsSoFar) (units : ℕ → List AccessUnit) (s pid : ℕ) → pid < 8191 → is_of_pid pid (view_of (content_over d changes units s)) ≡ true →
     slot_pid d.description (slot_of d.schedule s) ≡ Some pid
 unfolding content_over
 names_over d changes units s pid below e =
@@ -106,10 +106,10 @@ names_over d changes units s pid below e =
 
 pub names : (d : Scheduled) (units : ℕ → List AccessUnit) (s pid : ℕ) → pid < 8191 → is_of_pid pid (view_of (content_at d units s)) ≡ true →
     slot_pid d.description (slot_of d.schedule s) ≡ Some pid
-names d units s pid below e = names_over d [] units s pid below e
+names d units s pid below e = names_over d unchanged units s pid below e
 
 -- If a slot of the description names a PID, the packets of all other slots have other PIDs.
-pub silent : (d : Scheduled) (changes : List Change) (units : ℕ → List AccessUnit) (s pid : ℕ) (slot : Slot) → IsInRange d.description → slot_pid d.description slot ≡ Some pid
+pub silent : (d : Scheduled) (changes : TextsSoFar) (units : ℕ → List AccessUnit) (s pid : ℕ) (slot : Slot) → IsInRange d.description → slot_pid d.description slot ≡ Some pid
     → (slot_of d.schedule s ≡ slot → ⊥) → is_of_pid pid (view_of (content_over d changes units s)) ≡ false
 silent d changes units s pid slot r is other = elim (cases_Bool (is_of_pid pid (view_of (content_over d changes units s)))) [
   | inl y ↦ absurd (other (slots_apart d.description (slot_of d.schedule s) slot pid r (names_over d changes units s pid (slots_below d.description slot pid r is) y) is))
@@ -126,7 +126,7 @@ reference_fits rate base0 i =
     let n = 216000000 * i / rate + 300 * base0 in
     record { base = omega arith; extension = omega arith }
 
-table_fits : (d : Scheduled) (changes : List Change) (s t : ℕ) (o : Option TableKind) → IsInRange d.description →
+table_fits : (d : Scheduled) (changes : TextsSoFar) (s t : ℕ) (o : Option TableKind) → IsInRange d.description →
     slot_pid d.description (Table t) ≡ option_map (λ k. table_pid d.description t) o → ContentFits (table_in d changes s t o)
 unfolding table_in
 table_fits d changes s t None r e = tt
@@ -152,7 +152,7 @@ unfolding stream_in
 stream_fits d units s k None fits e = tt
 stream_fits d units s k (Some x) fits e = fits k s x e
 
-slot_fits : (d : Scheduled) (changes : List Change) (units : ℕ → List AccessUnit) (s : ℕ) (slot : Slot) → IsInRange d.description → StreamsFit d units →
+slot_fits : (d : Scheduled) (changes : TextsSoFar) (units : ℕ → List AccessUnit) (s : ℕ) (slot : Slot) → IsInRange d.description → StreamsFit d units →
     ContentFits (content_in d changes units s slot)
 unfolding content_in slot_pid
 slot_fits d changes units s (Stream k) r fits = stream_fits d units s k (slice_get d.description.streams k) fits refl
@@ -160,6 +160,6 @@ slot_fits d changes units s (Pcr i) r fits = clock_fits d s i (slot_pid d.descri
 slot_fits d changes units s (Table t) r fits = table_fits d changes s t (slice_get (table_kinds d.description) t) r refl
 slot_fits d changes units s Null r fits = tt
 
-pub content_fits : (d : Scheduled) (changes : List Change) (units : ℕ → List AccessUnit) → IsInRange d.description → StreamsFit d units → Fits (content_over d changes units)
+pub content_fits : (d : Scheduled) (changes : TextsSoFar) (units : ℕ → List AccessUnit) → IsInRange d.description → StreamsFit d units → Fits (content_over d changes units)
 unfolding content_over
 content_fits d changes units r fits s = slot_fits d changes units s (slot_of d.schedule s) r fits

@@ -1,6 +1,6 @@
 -- What a decoder reads in packets that have a payload alone or a clock reference alone, in PES headers, and of the sections of a table.
 use Rattle.std.proofs.Common.{◌≡◌, ◌⊎◌, ◌≤◌, ◌<◌, ℕ, zero, suc, ◌+◌, ◌-◌, ◌*◌, ◌/◌, ◌%◌, ◌==◌, Bool, false, List, [], ◌∷◌, length, map, Some}
-use Rattle.std.proofs.Common.{All, IsTrue, option_map, refl, sym, ap, ◌∙◌, inl, inr, arith}
+use Rattle.std.proofs.Common.{All, IsTrue, Option, None, option_map, refl, sym, ap, ◌∙◌, inl, inr, arith}
 use Rattle.std.proofs.lemmas.Bool.{cases_Bool, false≢true, eqb-true}
 use Rattle.std.proofs.lemmas.List.Elements.{All-nil, All-cons, All-head, All-tail}
 use Rattle.clock27.specs.Reference.{ticks_of, pcr_at, pcr_ticks}
@@ -19,9 +19,10 @@ use Rattle.ts_packet.specs.PidList.{Entry, payload_of}
 use Rattle.description_parts.specs.Described.{Described}
 use Rattle.description_parts.specs.Tables.{section_count}
 use Rattle.slot_plan.specs.TableRounds.{section_starts}
+use Rattle.table_rounds.specs.Tables.{not_yet}
 use Rattle.table_rounds.specs.Payloads.{Begins as BeginsIn}
 use Rattle.mux_core.specs.Scheduled.{Scheduled}
-use Rattle.mux_core.specs.Histories.{Change, table_over}
+use Rattle.mux_core.specs.Histories.{TextsSoFar, past_of, from_of, table_over}
 use Rattle.mux_core.specs.Headline.{IsPayloadAlone, IsClockAlone, TableKeptOver}
 use Rattle.mux_core.specs.DecodedRuns.{IsClear, HasClock, HasStamps, SectionComes, decoding_stamp, has_discontinuity, pcr_of, presentation_stamp}
 
@@ -121,25 +122,25 @@ has_stamps id base0 u fits = record {
 
 -- ---- sections
 
-abbrev BeginsAt : Scheduled → List Change → ℕ → ℕ → List ℕ → ℕ → Type 0
+abbrev BeginsAt : Scheduled → TextsSoFar → ℕ → ℕ → List ℕ → ℕ → Type 0
 BeginsAt d changes t j bytes s = BeginsIn (table_over d changes t) j s bytes
 
-each_begins : (d : Scheduled) (changes : List Change) (t slots : ℕ) (bytes : List ℕ) (j s n : ℕ) → TableKeptOver d changes t slots bytes →
+each_begins : (d : Scheduled) (changes : TextsSoFar) (t slots : ℕ) (bytes : List ℕ) (j s n : ℕ) → from_of (past_of changes) t ≡ None → TableKeptOver d changes t slots bytes →
     j < section_count d.description t → s + n ≤ slots → All (BeginsAt d changes t j bytes) (own_slots (section_starts d.description d.schedule t j) s n)
 unfolding own_slots
-each_begins d changes t slots bytes j s zero kept within le = All-nil (BeginsAt d changes t j bytes)
-each_begins d changes t slots bytes j s (suc n) kept within le =
+each_begins d changes t slots bytes j s zero first kept within le = All-nil (BeginsAt d changes t j bytes)
+each_begins d changes t slots bytes j s (suc n) first kept within le =
     let own : ℕ → Bool = section_starts d.description d.schedule t j in
-    let rest = each_begins d changes t slots bytes j (suc s) n kept within (omega (arith, le)) in
+    let rest = each_begins d changes t slots bytes j (suc s) n first kept within (omega (arith, le)) in
     elim (cases_Bool (section_starts d.description d.schedule t j s)) [
-      | inl y ↦ rw y (All-cons (BeginsAt d changes t j bytes) s (own_slots own (suc s) n) (kept.begins j s within (omega (arith, le)) y) rest)
+      | inl y ↦ rw y (All-cons (BeginsAt d changes t j bytes) s (own_slots own (suc s) n) (kept.begins j s within (ap (λ (from : Option ℕ). not_yet from s) first) (omega (arith, le)) y) rest)
       | inr k ↦ rw k rest
     ]
 
-pub section_comes : (d : Scheduled) (changes : List Change) (t slots : ℕ) (bytes : List ℕ) (j : ℕ) → TableKeptOver d changes t slots bytes →
+pub section_comes : (d : Scheduled) (changes : TextsSoFar) (t slots : ℕ) (bytes : List ℕ) (j : ℕ) → from_of (past_of changes) t ≡ None → TableKeptOver d changes t slots bytes →
     j < section_count d.description t → SectionComes d changes t j slots bytes
-section_comes d changes t slots bytes j kept within = record {
+section_comes d changes t slots bytes j first kept within = record {
   starts = own_slots (section_starts d.description d.schedule t j) 0 slots;
-  begins = each_begins d changes t slots bytes j 0 slots kept within (omega arith);
+  begins = each_begins d changes t slots bytes j 0 slots first kept within (omega arith);
   recur = kept.sections_recur j within;
 }

@@ -239,7 +239,7 @@ stream_decoded d k s units slots bytes r there known kept = record {
 -- The law `decoded`
 
 pub decoded : DecodedLaw
-decoded d changes units slots bytes r h =
+decoded d changes units slots bytes first r h =
     let count : length bytes / 188 ≡ slots = omega (arith, h.size) in
     record {
       read = each_read bytes h.packets ∙ count;
@@ -254,6 +254,6 @@ decoded d changes units slots bytes r h =
       };
       tables = λ t lt. record {
         follow = count_on (pid_list _ bytes) (h.tables t lt).sections.counters;
-        sections = λ j within. section_comes d changes t slots bytes j (h.tables t lt) within;
+        sections = λ j within. section_comes d changes t slots bytes j (first t) (h.tables t lt) within;
       };
     }

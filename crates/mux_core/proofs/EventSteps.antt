@@ -12,7 +12,7 @@ use Rattle.unit_queue.specs.Causes.{refusal}
 use Rattle.unit_queue.specs.declared.refusal.FeedError.{FeedError}
 use Rattle.mux_core.specs.Formats.{formatted}
 use Rattle.mux_core.specs.Scheduled.{Scheduled}
-use Rattle.mux_core.specs.Histories.{Change, History, content_over, bytes_of, empty_history, next_slot}
+use Rattle.mux_core.specs.Histories.{History, content_over, bytes_of, empty_history, next_slot, TextsSoFar}
 use Rattle.mux_core.specs.MuxStates.{MuxState, Represents, Gives, Takes, feed_cause}
 use Rattle.mux_core.specs.Headline.{HeadlineOver}
 use Rattle.mux_core.specs.Events.{Step, FeedStep, SlotStep, fed_history, step_history, history_after, Adds, StillRepresents, WrittenStays, OrderIsFree}
@@ -217,7 +217,7 @@ pub order_is_free : OrderIsFree
 order_is_free d capacity other first second same =
     let a = history_after d capacity empty_history first in
     let b = history_after d other empty_history second in
-    ap (λ (l : List Change). run_bytes (content_over d l a.units) 0 a.slots)
+    ap (λ (l : TextsSoFar). run_bytes (content_over d l a.units) 0 a.slots)
     (changes_after d capacity empty_history first ∙ sym (changes_after d other empty_history second))
     ∙ ap (λ (units : ℕ → List AccessUnit). run_bytes (content_over d b.changes units) 0 a.slots) (fun_ext same.units)
     ∙ ap (λ (n : ℕ). run_bytes (content_over d b.changes b.units) 0 n) same.slots

@@ -9,7 +9,7 @@ use Rattle.pes_packet.specs.AccessUnits.{AccessUnit}
 use Rattle.pes_packet.specs.Units.{units_of}
 use Rattle.unit_queue.specs.declared.refusal.FeedError.{FeedError}
 use Rattle.mux_core.specs.Scheduled.{Scheduled}
-use Rattle.mux_core.specs.Histories.{History, with_unit}
+use Rattle.mux_core.specs.Histories.{History, with_unit, unchanged}
 use Rattle.mux_core.specs.MuxStates.{MuxState, Represents, Takes, feed_cause}
 use Rattle.mux_core.specs.WholeJobs.{job_history, or_cause, unit_refused, cause_after, first_refused, AllFed}
 use Rattle.mux_core.specs.declared.multiplexing.MuxError.TheVariants.{Feed}
@@ -28,7 +28,7 @@ units_more fed entry j = elim (cases_eq j entry.0) [
 ]
 
 pub history_more : (fed : List (ℕ × AccessUnit)) (entry : ℕ × AccessUnit) → with_unit (job_history fed 0) entry.0 entry.1 ≡ job_history (fed ++ (entry ∷ [])) 0
-history_more fed entry = ap (λ (units : ℕ → List AccessUnit). record { units = units; changes = []; slots = 0 }) (fun_ext (units_more fed entry))
+history_more fed entry = ap (λ (units : ℕ → List AccessUnit). record { units = units; changes = unchanged; slots = 0 }) (fun_ext (units_more fed entry))
 
 -- The units that are fed already, and the units that are left.
 pub record FedSoFar (old : MuxState) (units : List (ℕ × AccessUnit)) (new : MuxState) (index : ℕ) (left : List (ℕ × AccessUnit)) : Type 0 where

@@ -13,9 +13,9 @@ use Rattle.description_parts.specs.declared.table_kind.TableKind.{TableKind}
 use Rattle.table_rounds.specs.Laws.{IsSourceOf}
 use Rattle.mux_core.specs.Scheduled.{Scheduled}
 use Rattle.unit_queue.specs.Queues.{ParametersInRange}
-use Rattle.mux_core.specs.Histories.{History, parameters_of, text_at, last_texts, table_over}
+use Rattle.mux_core.specs.Histories.{History, past_of, parameters_of, text_at, last_texts, table_over}
 use Rattle.mux_core.specs.TextChanges.{ChangesFit}
-use Rattle.mux_core.proofs.TextChanges.{text_last, last_kinds, last_counts}
+use Rattle.mux_core.proofs.TextChanges.{text_last, last_kinds, last_counts, past_now, bytes_now, past_over, on_air_by}
 use Rattle.mux_core.specs.SlotSteps.{section_bytes}
 use Rattle.description.specs.Pids.{SectionsLaw}
 use Rattle.description.specs.SectionBytes.{table_bytes}
@@ -60,11 +60,15 @@ sources_known d h texts t kind fit are is j moment lt =
     ap (λ (x : Described). section_bytes x t j moment) are
     ∙ rw (lt-ltb t (length (table_kinds last)) (slice_get_within (table_kinds last) t kind there), lt-ltb j (section_count last t) (omega (arith, lt, count)))
     (ap (λ (x : Described). table_bytes x t j moment) (sym e))
+    ∙ sym (bytes_now d.description h.changes t h.slots j moment (past_over d.description h.slots h.changes fit))
 
 pub tables_known : SectionsLaw → (d : Scheduled) (h : History) (texts : Described) → IsInRange d.description → ChangesFit d.description h.slots h.changes →
     texts ≡ last_texts d.description h.changes → TablesKnown d h texts
 tables_known law d h texts ranges fit are = record {
   places = λ t kind is. (law d.description t ranges (slice_get_within (table_kinds d.description) t kind is)).2;
   sources = λ t kind is. sources_known d h texts t kind fit are is;
-  start = ap (λ (e : Described). e.start) (text_last d.description h.slots h.slots h.changes fit (omega arith) ∙ sym are);
+  start = λ t. past_now (past_of h.changes) h.slots (λ past. past.start t h.slots) (text_at d.description h.changes h.slots).start
+      (past_over d.description h.slots h.changes fit)
+      ∙ ap (λ (e : Described). e.start) (text_last d.description h.slots h.slots h.changes fit (omega arith) ∙ sym are);
+  on_air = λ t. on_air_by d.description h.slots t h.changes fit;
 }

@@ -1,5 +1,6 @@
 pub mod PlanPromises
 pub mod TextChanges
+pub mod SentMarks
 pub mod SlotSteps
 pub mod FedUnits
 pub mod TakenTexts
@@ -16,6 +17,7 @@ pub mod StreamsAlone
 pub mod StreamsKept
 pub mod Whole
 pub mod TextLaws
+pub mod StillTables
 pub mod SentVersions
 pub mod MeasuredRuns
 pub mod MeasurableRuns

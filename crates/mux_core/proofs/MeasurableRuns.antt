@@ -16,7 +16,7 @@ use Rattle.unit_queue.specs.Causes.{own_cause, time_cause, room_cause, or_cause 
 use Rattle.unit_queue.proofs.CauseLemmas.{or_none as feed_or_none, own_facts}
 use Rattle.mux_core.specs.Rooms.{room_in}
 use Rattle.mux_core.specs.Scheduled.{Scheduled}
-use Rattle.mux_core.specs.Histories.{History, owned_stream}
+use Rattle.mux_core.specs.Histories.{History, unchanged, owned_stream}
 use Rattle.mux_core.specs.Headline.{Headline, IsTransportPacket}
 use Rattle.mux_core.specs.MeasuredRuns.{MeasurableLaw, MeasuresWell}
 use Rattle.mux_core.specs.MuxStates.{feed_cause}
@@ -100,6 +100,6 @@ accepted_declared d capacity fed (entry ∷ rest) e =
 pub measures_well : (d : Scheduled) (units : List (ℕ × AccessUnit)) (slots : ℕ) (bytes : List ℕ) → Headline d (λ k. units_of k units) slots bytes →
     list_all (is_declared d.description) units ≡ true → MeasuresWell d units bytes
 measures_well d units slots bytes h declared = record {
-  not_refused = measurable d [] units slots bytes h declared;
-  no_fault = λ found streams programs late. measured d [] units slots bytes found h streams programs late;
+  not_refused = measurable d unchanged units slots bytes h declared;
+  no_fault = λ found streams programs late. measured d unchanged units slots bytes found h streams programs late;
 }

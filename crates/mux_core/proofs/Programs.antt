@@ -29,7 +29,7 @@ use Rattle.slot_plan.specs.Promised.{Promised}
 use Rattle.unit_timing.specs.SystemBuffer.{system_tb_fullness, bsys_fullness}
 use Rattle.tstd.specs.Carried.{table_packets}
 use Rattle.mux_core.specs.Scheduled.{Scheduled}
-use Rattle.mux_core.specs.Histories.{Change, pcr_content, content_in, content_over}
+use Rattle.mux_core.specs.Histories.{pcr_content, content_in, content_over, TextsSoFar}
 use Rattle.mux_core.specs.Headline.{ProgramKept}
 use Rattle.mux_core.proofs.ContentPids.{names_over, silent, content_pid, is_content_pid}
 use Rattle.mux_core.proofs.RisingSlots.{part_rises}
@@ -46,7 +46,7 @@ own_is i Null e = absurd (false≢true e)
 abbrev reference_in : (d : Scheduled) (p : DescribedProgram) → ℕ → Content
 reference_in d p s = PcrContent p.pcr_pid (pcr_at d.description.rate d.description.base0 (188 * s + 10))
 
-clock_at : (d : Scheduled) (changes : List Change) (units : ℕ → List AccessUnit) (s k : ℕ) (p : DescribedProgram) → slot_pid d.description (Pcr k) ≡ Some p.pcr_pid →
+clock_at : (d : Scheduled) (changes : TextsSoFar) (units : ℕ → List AccessUnit) (s k : ℕ) (p : DescribedProgram) → slot_pid d.description (Pcr k) ≡ Some p.pcr_pid →
     slot_of d.schedule s ≡ Pcr k
     → content_over d changes units s ≡ reference_in d p s
 unfolding content_over content_in pcr_content
@@ -57,7 +57,7 @@ unfolding content_pid
 clock_pid d p s = is_content_pid p.pcr_pid (reference_in d p s) ∙ eq-eqb p.pcr_pid p.pcr_pid refl
 
 -- The packets with a program's PCR PID are exactly the packets in the slots that name its clock.
-clock_slots : (d : Scheduled) (changes : List Change) (units : ℕ → List AccessUnit) (k : ℕ) (p : DescribedProgram) → IsInRange d.description →
+clock_slots : (d : Scheduled) (changes : TextsSoFar) (units : ℕ → List AccessUnit) (k : ℕ) (p : DescribedProgram) → IsInRange d.description →
     slot_pid d.description (Pcr k) ≡ Some p.pcr_pid → (s : ℕ)
     → is_of_pid p.pcr_pid (view_of (content_over d changes units s)) ≡ owned d.schedule (PcrItem k) s
 clock_slots d changes units k p r named s = elim (cases_Bool (owned d.schedule (PcrItem k) s)) [
@@ -108,7 +108,7 @@ pmt_named d i p is =
 abbrev enters : ℕ → (ℕ → Content) → ℕ → Bool
 enters pmt_pid content s = is_of_pid 0 (view_of (content s)) || is_of_pid pmt_pid (view_of (content s))
 
-system_slot : (d : Scheduled) (changes : List Change) (units : ℕ → List AccessUnit) (i : ℕ) (p : DescribedProgram) → IsInRange d.description →
+system_slot : (d : Scheduled) (changes : TextsSoFar) (units : ℕ → List AccessUnit) (i : ℕ) (p : DescribedProgram) → IsInRange d.description →
     slice_get d.description.programs i ≡ Some p → (s : ℕ)
     → enters p.pmt_pid (content_over d changes units) s ≡ true → owned d.schedule (System i) s ≡ true
 system_slot d changes units i p r is s e = elim (cases_Bool (is_of_pid 0 (view_of (content_over d changes units s)))) [
@@ -131,7 +131,7 @@ system_slot d changes units i p r is s e = elim (cases_Bool (is_of_pid 0 (view_o
       | inr k ↦ let same : (n == n) ≡ true = eq-eqb n n refl in rw (k, same) refl
     ]
 
-pub program_kept : (d : Scheduled) (changes : List Change) (units : ℕ → List AccessUnit) (slots i : ℕ) (p : DescribedProgram) → IsInRange d.description →
+pub program_kept : (d : Scheduled) (changes : TextsSoFar) (units : ℕ → List AccessUnit) (slots i : ℕ) (p : DescribedProgram) → IsInRange d.description →
     Promised d.description d.schedule → Fits (content_over d changes units)
     → slice_get d.description.programs i ≡ Some p → ProgramKept d p slots (run_bytes (content_over d changes units) 0 slots)
 program_kept d changes units slots i p r promised fits is = record {

@@ -1,20 +1,16 @@
 -- Two sections of one number of a sub-table that show one version are the same bytes.
-use Rattle.std.proofs.Common.{◌≡◌, ◌⊎◌, ℕ, zero, suc, ◌+◌, ◌%◌, ◌<◌, ◌≤◌, ◌&&◌, ◌||◌, nat_lt, nat_le, not, Bool, true, false, cond, List, [], ◌∷◌, length}
-use Rattle.std.proofs.Common.{Option, Some, None, slice_get, IsTrue, refl, sym, ap, subst, ◌∙◌, arith, inl, inr, if◌then◌else◌}
-use Rattle.std.specs.Prelude.{option_and_then, option_map, ⊤}
-use Rattle.std.proofs.lemmas.Bool.{cases_lt, eq-eqb, lt-ltb, le-leb}
-use Rattle.std.proofs.lemmas.Option.{slice_get_within}
+use Rattle.std.proofs.Common.{◌≡◌, ◌⊎◌, ℕ, suc, ◌+◌, ◌%◌, ◌<◌, ◌≤◌, ◌&&◌, ◌||◌, nat_lt, nat_le, not, Bool, true, false, cond, List, length}
+use Rattle.std.proofs.Common.{Some, IsTrue, refl, sym, ap, subst, ◌∙◌, arith, inl, inr, if◌then◌else◌}
+use Rattle.std.specs.Prelude.{⊤}
+use Rattle.std.proofs.lemmas.Bool.{cases_lt, lt-ltb, le-leb}
 use Rattle.description_parts.specs.Described.{Described}
 use Rattle.description_parts.specs.Ranges.{IsInRange}
-use Rattle.description_parts.specs.Tables.{eit_place, table_kinds, table_kind, table_count, section_count}
-use Rattle.description_parts.specs.declared.table_kind.TableKind.{TableKind}
-use Rattle.description_parts.specs.declared.table_kind.TableKind.TheVariants as kind
+use Rattle.description_parts.specs.Tables.{section_count}
 use Rattle.description.specs.SectionBytes.{table_bytes}
-use Rattle.description.specs.SubTables.{sub_table_count, sub_table_number, scheduled_places, sub_table_in, sub_table_of, number_in, number_of}
-use Rattle.description.specs.SubTables.{version_of, section_of, shows_same}
+use Rattle.description.specs.SubTables.{sub_table_count, sub_table_number, sub_table_of}
+use Rattle.description.specs.SubTables.{version_of, shows_same}
 use Rattle.description.specs.Versions.{shown_version}
 use Rattle.description.specs.declared.sub_table.SubTable.{SubTable}
-use Rattle.description.specs.declared.sub_table.SubTable.TheVariants.{Pat, Nit, Sdt, Map, Events}
 use Rattle.description.proofs.Counted.{counted_law, count_law}
 use Rattle.description.proofs.SameTables.{same_tables_law}
 use Rattle.description.proofs.Versions.{numbered_law, versioned_law}
@@ -22,156 +18,37 @@ use Rattle.changed_texts.specs.Versions.{changed, next_texts}
 use Rattle.changed_texts.proofs.Counts.{has_place, numbered_number, number_below}
 use Rattle.changed_texts.proofs.TextLaws.{text_law}
 use Rattle.changed_texts.proofs.VersionLaws.{next_version_law, stays_law}
-use Rattle.slot_plan.specs.Schedule.{slot_of}
 use Rattle.table_rounds.specs.Tables.{moment_before}
 use Rattle.mux_core.specs.Scheduled.{Scheduled}
-use Rattle.mux_core.specs.Histories.{Change, text_at, last_texts, table_over}
-use Rattle.mux_core.specs.TextChanges.{ChangesFit, IsMade, AreMade, changed_history, since_of, sub_table_there, is_numbered, begins_at, begins_in, began_since, sent_of}
-use Rattle.mux_core.specs.TextChanges.{events_moment}
-use Rattle.mux_core.specs.TextLaws.{is_timeless, SectionBegins, changes_between, VersionLaw}
-use Rattle.mux_core.proofs.TextChanges.{text_before, since_within, began_more, or_true}
-
--- A sub-table without moments
-
-no_events : (o : Option ℕ) (x : SubTable) → is_timeless x ≡ true → option_map Events o ≡ Some x → ⊥
-no_events None x still is = cc
-no_events (Some p) x still is =
-    let same : Events p ≡ x = cc in
-    let both : false ≡ true = ap is_timeless same ∙ still in
-    cc
-
--- Another description with the same tables has it in the same place.
-same_place : (d e : Described) (o : Option TableKind) (j : ℕ) (x : SubTable) → is_timeless x ≡ true → option_and_then (λ k. sub_table_in d k j) o ≡ Some x →
-    (option_and_then (λ k. sub_table_in e k j) o ≡ Some x) × (elim o [ None ↦ j | Some k ↦ number_in e k j ] ≡ j)
-same_place d e None j x still is = absurd (cc)
-same_place d e (Some kind.Pat) j x still is = (is, refl)
-same_place d e (Some (kind.Pmt p)) j x still is = (is, refl)
-same_place d e (Some kind.Nit) j x still is = (is, refl)
-same_place d e (Some kind.Sdt) j x still is = (is, refl)
-same_place d e (Some kind.Eit) j x still is = absurd (no_events (slice_get (scheduled_places d) (eit_place d j).0) x still is)
-same_place d e (Some kind.Tdt) j x still is = absurd (cc)
-same_place d e (Some (kind.Private i)) j x still is = absurd (cc)
-
-kind_within : (d : Described) (o : Option TableKind) (t j : ℕ) (x : SubTable) → table_kind d t ≡ o → option_and_then (λ k. sub_table_in d k j) o ≡ Some x →
-    t < table_count d
-kind_within d None t j x is of = absurd (cc)
-kind_within d (Some k) t j x is of = slice_get_within (table_kinds d) t k is
-
-section_still : (d : Described) (x : SubTable) (version number a b : ℕ) → is_timeless x ≡ true → section_of d x version number a ≡ section_of d x version number b
-section_still d Pat version number a b still = refl
-section_still d Nit version number a b still = refl
-section_still d Sdt version number a b still = refl
-section_still d (Map p) version number a b still = refl
-section_still d (Events p) version number a b still = absurd (cc)
-
-version_still : (d : Described) (x : SubTable) (a b : ℕ) → is_timeless x ≡ true → version_of d x a ≡ version_of d x b
-version_still d Pat a b still = refl
-version_still d Nit a b still = refl
-version_still d Sdt a b still = refl
-version_still d (Map p) a b still = refl
-version_still d (Events p) a b still = absurd (cc)
-
-bytes_still : (d : Described) (t j : ℕ) (x : SubTable) (a b : ℕ) → is_timeless x ≡ true → sub_table_of d t j ≡ Some x →
-    table_bytes d t j a ≡ table_bytes d t j b
-bytes_still d t j x a b still of =
-    (numbered_law d t j a x of).bytes
-    ∙ ap (λ (v : ℕ). section_of d x v (number_of d t j) a) (version_still d x a b still)
-    ∙ section_still d x (version_of d x b) (number_of d t j) a b still
-    ∙ sym (numbered_law d t j b x of).bytes
-
--- Texts that are texts of a frame
-
-record IsLike (frame e : Described) : Type 0 where
-  ranges : IsInRange e
-  kinds : table_kinds e ≡ table_kinds frame
-  counts : (t : ℕ) → section_count e t ≡ section_count frame t
-
-text_from : (d : Described) (change : Change) (earlier : List Change) (s : ℕ) → change.from ≤ s → text_at d (change ∷ earlier) s ≡ change.texts
-text_from d change earlier s le = ap (λ (b : Bool). cond b change.texts (text_at d earlier s)) (le-leb change.from s le)
-
-like_at : (d : Described) (slot s : ℕ) (changes : List Change) → IsInRange d → ChangesFit d slot changes → IsLike d (text_at d changes s)
-like_at d slot s [] ranges fit = record { ranges = ranges; kinds = refl; counts = λ t. refl }
-like_at d slot s (change ∷ earlier) ranges fit = elim (cases_lt s change.from) [
-  | inl before ↦ subst (λ (e : Described). IsLike d e) (sym (text_before d change earlier s before)) (like_at d change.from s earlier ranges fit.1)
-  | inr on ↦ subst (λ (e : Described). IsLike d e) (sym (text_from d change earlier s on))
-      (record { ranges = fit.0.ranges; kinds = fit.0.texts.kinds; counts = fit.0.texts.counts })
-]
-
-like_last : (d : Described) (slot : ℕ) (changes : List Change) → IsInRange d → ChangesFit d slot changes → IsLike d (last_texts d changes)
-like_last d slot [] ranges fit = record { ranges = ranges; kinds = refl; counts = λ t. refl }
-like_last d slot (change ∷ earlier) ranges fit = record { ranges = fit.0.ranges; kinds = fit.0.texts.kinds; counts = fit.0.texts.counts }
-
--- They have the sub-table there.
-record IsThere (e : Described) (t j : ℕ) (x : SubTable) : Type 0 where
-  of : sub_table_of e t j ≡ Some x
-  number : number_of e t j ≡ j
-  table : t < table_count e
-  section : j < section_count e t
-
-there : (frame e : Described) (t j : ℕ) (x : SubTable) → IsLike frame e → j < section_count frame t → sub_table_of frame t j ≡ Some x →
-    is_timeless x ≡ true → IsThere e t j x
-there frame e t j x like within of still =
-    let same : table_kind e t ≡ table_kind frame t = ap (λ (l : List TableKind). slice_get l t) like.kinds in
-    let place = same_place frame e (table_kind frame t) j x still of in
-    let of_e : sub_table_of e t j ≡ Some x = ap (λ (o : Option TableKind). option_and_then (λ k. sub_table_in e k j) o) same ∙ place.0 in
-    let number : number_of e t j ≡ j =
-    subst (λ (o : Option TableKind). ◌≡◌ {A = ℕ} (elim o [ None ↦ j | Some k ↦ number_in e k j ]) j) (sym same) place.1 in
-    record {
-      of = of_e;
-      number = number;
-      table = kind_within e (table_kind e t) t j x refl of_e;
-      section = omega (arith, within, like.counts t);
-    }
-
--- A section of it begins in the slot, by these texts.
-is_there : (e : Described) (t j : ℕ) (x : SubTable) → IsThere e t j x → sub_table_there e t j ≡ Some x
-is_there e t j x at =
-    ap (λ (b : Bool). cond b (cond (nat_lt j (section_count e t)) (sub_table_of e t j) None) None) (lt-ltb t (table_count e) at.table)
-    ∙ ap (λ (b : Bool). cond b (sub_table_of e t j) None) (lt-ltb j (section_count e t) at.section) ∙ at.of
-
-begins_there : (d : Scheduled) (changes : List Change) (t j s : ℕ) (x : SubTable) → SectionBegins d t j s → IsThere (text_at d.description changes s) t j x →
-    begins_in d changes (sub_table_number x) s (slot_of d.schedule s) ≡ true
-unfolding begins_in
-begins_there d changes t j s x begins at =
-    ap (begins_in d changes (sub_table_number x) s) begins.table
-    ∙ ap (begins_at (text_at d.description changes s) (sub_table_number x) t) begins.place
-    ∙ ap (λ (o : Option SubTable). is_numbered (sub_table_number x) o) (is_there (text_at d.description changes s) t j x at)
-    ∙ eq-eqb (sub_table_number x) (sub_table_number x) refl
-
-began_there : (d : Scheduled) (changes : List Change) (n since s slot : ℕ) → since ≤ s → begins_in d changes n s (slot_of d.schedule s) ≡ true → s < slot →
-    began_since d changes n since slot ≡ true
-began_there d changes n since s zero le begins lt = absurd (omega (arith, lt))
-began_there d changes n since s (suc slot) le begins lt =
-    began_more d changes n since slot (omega (arith, le, lt)) ∙ elim (cases_lt s slot) [
-      | inl before ↦ ap (λ (b : Bool). b || begins_in d changes n slot (slot_of d.schedule slot)) (began_there d changes n since s slot le begins before)
-      | inr at ↦ (
-          let same : s ≡ slot = omega (arith, lt, at) in
-          ap (λ (b : Bool). began_since d changes n since slot || b) (subst (λ (k : ℕ). begins_in d changes n k (slot_of d.schedule k) ≡ true) same begins)
-          ∙ or_true (began_since d changes n since slot))
-    ]
+use Rattle.mux_core.specs.Histories.{Change, TextsSoFar, FirstTexts, NextTexts, text_at, last_texts, table_over}
+use Rattle.mux_core.specs.TextChanges.{ChangesFit, IsMade, AreMade, changed_history, since_of}
+use Rattle.mux_core.specs.TextChanges.{began_since, sent_of, events_moment}
+use Rattle.mux_core.specs.TextLaws.{is_timeless, SectionBegins, section_at, changes_between, VersionLaw}
+use Rattle.mux_core.proofs.TextChanges.{text_before, bytes_now, since_within}
+use Rattle.mux_core.proofs.StillTables.{version_still, bytes_still, IsLike, text_from, like_at, like_last, there, begins_there, began_there}
 
 -- What became of a sub-table since a section of it began in a slot
 
 -- It has no other bytes, under its version.
-record Kept (d : Scheduled) (changes : List Change) (t j s : ℕ) (x : SubTable) : Type 0 where
+record Kept (d : Scheduled) (changes : TextsSoFar) (t j s : ℕ) (x : SubTable) : Type 0 where
   since : since_of changes (sub_table_number x) ≤ s
   bytes : table_bytes (text_at d.description changes s) t j 0 ≡ table_bytes (last_texts d.description changes) t j 0
   version : version_of (text_at d.description changes s) x 0 ≡ version_of (last_texts d.description changes) x 0
 
 -- Its version rose, no more often than there were changes.
-record Rose (d : Scheduled) (changes : List Change) (s last : ℕ) (x : SubTable) : Type 0 where
+record Rose (d : Scheduled) (changes : TextsSoFar) (s last : ℕ) (x : SubTable) : Type 0 where
   rises : ℕ
   some : 1 ≤ rises
   most : rises ≤ changes_between changes s last
   version : version_of (last_texts d.description changes) x 0 ≡ (version_of (text_at d.description changes s) x 0 + rises) % 32
 
-abbrev Went : Scheduled → List Change → ℕ → ℕ → ℕ → ℕ → SubTable → Type 0
+abbrev Went : Scheduled → TextsSoFar → ℕ → ℕ → ℕ → ℕ → SubTable → Type 0
 Went d changes t j s last x = Kept d changes t j s x ⊎ Rose d changes s last x
 
 -- One more change: whether the sub-table says what it said, and whether a section of it was sent since it changed last
-record Next (d : Scheduled) (change : Change) (earlier : List Change) (t j s last : ℕ) (x : SubTable) (same sent : Bool) : Type 0 where
-  first : text_at d.description (change ∷ earlier) s ≡ text_at d.description earlier s
-  count : changes_between (change ∷ earlier) s last ≡ changes_between earlier s last + 1
+record Next (d : Scheduled) (change : Change) (earlier : TextsSoFar) (t j s last : ℕ) (x : SubTable) (same sent : Bool) : Type 0 where
+  first : text_at d.description (NextTexts change earlier) s ≡ text_at d.description earlier s
+  count : changes_between (NextTexts change earlier) s last ≡ changes_between earlier s last + 1
   version : version_of change.texts x 0
       ≡ (if same || not sent then version_of (last_texts d.description earlier) x 0 else (version_of (last_texts d.description earlier) x 0 + 1) % 32)
   bytes : same ≡ true → table_bytes (last_texts d.description earlier) t j 0 ≡ table_bytes change.texts t j 0
@@ -181,10 +58,10 @@ record Next (d : Scheduled) (change : Change) (earlier : List Change) (t j s las
 rises_on : (v w r : ℕ) → w ≡ (v + r) % 32 → (w + 1) % 32 ≡ (v + (r + 1)) % 32
 rises_on v w r is = omega (arith, is)
 
-rose_as : (d : Scheduled) (change : Change) (earlier : List Change) (s last : ℕ) (x : SubTable) →
-    text_at d.description (change ∷ earlier) s ≡ text_at d.description earlier s →
-    changes_between (change ∷ earlier) s last ≡ changes_between earlier s last + 1 →
-    version_of change.texts x 0 ≡ version_of (last_texts d.description earlier) x 0 → Rose d earlier s last x → Rose d (change ∷ earlier) s last x
+rose_as : (d : Scheduled) (change : Change) (earlier : TextsSoFar) (s last : ℕ) (x : SubTable) →
+    text_at d.description (NextTexts change earlier) s ≡ text_at d.description earlier s →
+    changes_between (NextTexts change earlier) s last ≡ changes_between earlier s last + 1 →
+    version_of change.texts x 0 ≡ version_of (last_texts d.description earlier) x 0 → Rose d earlier s last x → Rose d (NextTexts change earlier) s last x
 rose_as d change earlier s last x first count same rose = record {
   rises = rose.rises;
   some = rose.some;
@@ -192,10 +69,10 @@ rose_as d change earlier s last x first count same rose = record {
   version = same ∙ rose.version ∙ ap (λ (e : Described). (version_of e x 0 + rose.rises) % 32) (sym first);
 }
 
-rose_more : (d : Scheduled) (change : Change) (earlier : List Change) (s last : ℕ) (x : SubTable) →
-    text_at d.description (change ∷ earlier) s ≡ text_at d.description earlier s →
-    changes_between (change ∷ earlier) s last ≡ changes_between earlier s last + 1 →
-    version_of change.texts x 0 ≡ (version_of (last_texts d.description earlier) x 0 + 1) % 32 → Rose d earlier s last x → Rose d (change ∷ earlier) s last x
+rose_more : (d : Scheduled) (change : Change) (earlier : TextsSoFar) (s last : ℕ) (x : SubTable) →
+    text_at d.description (NextTexts change earlier) s ≡ text_at d.description earlier s →
+    changes_between (NextTexts change earlier) s last ≡ changes_between earlier s last + 1 →
+    version_of change.texts x 0 ≡ (version_of (last_texts d.description earlier) x 0 + 1) % 32 → Rose d earlier s last x → Rose d (NextTexts change earlier) s last x
 rose_more d change earlier s last x first count more rose = record {
   rises = rose.rises + 1;
   some = omega arith;
@@ -205,10 +82,10 @@ rose_more d change earlier s last x first count more rose = record {
       ∙ ap (λ (e : Described). (version_of e x 0 + (rose.rises + 1)) % 32) (sym first);
 }
 
-rose_first : (d : Scheduled) (change : Change) (earlier : List Change) (t j s last : ℕ) (x : SubTable) →
-    text_at d.description (change ∷ earlier) s ≡ text_at d.description earlier s →
-    changes_between (change ∷ earlier) s last ≡ changes_between earlier s last + 1 →
-    version_of change.texts x 0 ≡ (version_of (last_texts d.description earlier) x 0 + 1) % 32 → Kept d earlier t j s x → Rose d (change ∷ earlier) s last x
+rose_first : (d : Scheduled) (change : Change) (earlier : TextsSoFar) (t j s last : ℕ) (x : SubTable) →
+    text_at d.description (NextTexts change earlier) s ≡ text_at d.description earlier s →
+    changes_between (NextTexts change earlier) s last ≡ changes_between earlier s last + 1 →
+    version_of change.texts x 0 ≡ (version_of (last_texts d.description earlier) x 0 + 1) % 32 → Kept d earlier t j s x → Rose d (NextTexts change earlier) s last x
 rose_first d change earlier t j s last x first count more kept = record {
   rises = 1;
   some = omega arith;
@@ -216,19 +93,19 @@ rose_first d change earlier t j s last x first count more kept = record {
   version = more ∙ ap (λ (v : ℕ). (v + 1) % 32) (sym kept.version) ∙ ap (λ (e : Described). (version_of e x 0 + 1) % 32) (sym first);
 }
 
-kept_as : (d : Scheduled) (change : Change) (earlier : List Change) (t j s : ℕ) (x : SubTable) →
-    text_at d.description (change ∷ earlier) s ≡ text_at d.description earlier s →
+kept_as : (d : Scheduled) (change : Change) (earlier : TextsSoFar) (t j s : ℕ) (x : SubTable) →
+    text_at d.description (NextTexts change earlier) s ≡ text_at d.description earlier s →
     version_of change.texts x 0 ≡ version_of (last_texts d.description earlier) x 0 →
     table_bytes (last_texts d.description earlier) t j 0 ≡ table_bytes change.texts t j 0 →
-    change.since (sub_table_number x) ≡ since_of earlier (sub_table_number x) → Kept d earlier t j s x → Kept d (change ∷ earlier) t j s x
+    change.since (sub_table_number x) ≡ since_of earlier (sub_table_number x) → Kept d earlier t j s x → Kept d (NextTexts change earlier) t j s x
 kept_as d change earlier t j s x first same bytes since kept = record {
   since = omega (arith, since, kept.since);
   bytes = ap (λ (e : Described). table_bytes e t j 0) first ∙ kept.bytes ∙ bytes;
   version = ap (λ (e : Described). version_of e x 0) first ∙ kept.version ∙ sym same;
 }
 
-went_on : (d : Scheduled) (change : Change) (earlier : List Change) (t j s last : ℕ) (x : SubTable) (same sent : Bool) →
-    Next d change earlier t j s last x same sent → Went d earlier t j s last x → Went d (change ∷ earlier) t j s last x
+went_on : (d : Scheduled) (change : Change) (earlier : TextsSoFar) (t j s last : ℕ) (x : SubTable) (same sent : Bool) →
+    Next d change earlier t j s last x same sent → Went d earlier t j s last x → Went d (NextTexts change earlier) t j s last x
 went_on d change earlier t j s last x true sent next (inl kept) =
     inl (kept_as d change earlier t j s x next.first next.version (next.bytes refl) next.since kept)
 went_on d change earlier t j s last x false true next (inl kept) = inr (rose_first d change earlier t j s last x next.first next.count next.version kept)
@@ -239,8 +116,8 @@ went_on d change earlier t j s last x false false next (inr rose) = inr (rose_as
 
 -- The next change, as it is made
 
-between_more : (change : Change) (earlier : List Change) (s last : ℕ) → s < change.from → change.from ≤ last →
-    changes_between (change ∷ earlier) s last ≡ changes_between earlier s last + 1
+between_more : (change : Change) (earlier : TextsSoFar) (s last : ℕ) → s < change.from → change.from ≤ last →
+    changes_between (NextTexts change earlier) s last ≡ changes_between earlier s last + 1
 between_more change earlier s last lt le =
     ap (λ (b : Bool). changes_between earlier s last + cond (b && nat_le change.from last) 1 0) (lt-ltb s change.from lt)
     ∙ ap (λ (b : Bool). changes_between earlier s last + cond b 1 0) (le-leb change.from last le)
@@ -250,8 +127,8 @@ and_both true true p q = refl
 and_both true false p q = absurd (cc)
 and_both false b p q = absurd (cc)
 
-next_of : (d : Scheduled) (change : Change) (earlier : List Change) (slot t j s last : ℕ) (x : SubTable) (made : IsMade d change earlier) →
-    IsInRange d.description → ChangesFit d.description slot (change ∷ earlier) → s < change.from → change.from ≤ last →
+next_of : (d : Scheduled) (change : Change) (earlier : TextsSoFar) (slot t j s last : ℕ) (x : SubTable) (made : IsMade d change earlier) →
+    IsInRange d.description → ChangesFit d.description slot (NextTexts change earlier) → s < change.from → change.from ≤ last →
     j < section_count d.description t → sub_table_of d.description t j ≡ Some x → is_timeless x ≡ true → SectionBegins d t j s →
     Next d change earlier t j s last x
     (shows_same (last_texts d.description earlier) made.texts x (events_moment d earlier change.from))
@@ -293,7 +170,7 @@ next_of d change earlier slot t j s last x made ranges fit lt le within of still
 
 -- Over all changes
 
-since_from : (d : Scheduled) (change : Change) (earlier : List Change) (n : ℕ) → IsMade d change earlier → ChangesFit d.description change.from earlier →
+since_from : (d : Scheduled) (change : Change) (earlier : TextsSoFar) (n : ℕ) → IsMade d change earlier → ChangesFit d.description change.from earlier →
     change.since n ≤ change.from
 since_from d change earlier n made fit =
     let is : change.since n ≡ cond (changed (last_texts d.description earlier) made.texts (events_moment d earlier change.from) n) change.from (since_of earlier n) =
@@ -306,19 +183,19 @@ since_from d change earlier n made fit =
     either true from since le = omega arith
     either false from since le = le
 
-abbrev UpTo : List Change → ℕ → Type 0
-UpTo [] last = ⊤
-UpTo (change ∷ earlier) last = change.from ≤ last
+abbrev UpTo : TextsSoFar → ℕ → Type 0
+UpTo (FirstTexts past) last = ⊤
+UpTo (NextTexts change earlier) last = change.from ≤ last
 
-up_to : (d : Described) (slot last : ℕ) (changes : List Change) → ChangesFit d slot changes → slot ≤ last → UpTo changes last
-up_to d slot last [] fit le = tt
-up_to d slot last (change ∷ earlier) fit le = omega (arith, fit.0.from, le)
+up_to : (d : Described) (slot last : ℕ) (changes : TextsSoFar) → ChangesFit d slot changes → slot ≤ last → UpTo changes last
+up_to d slot last (FirstTexts past) fit le = tt
+up_to d slot last (NextTexts change earlier) fit le = omega (arith, fit.0.from, le)
 
-went : (d : Scheduled) (changes : List Change) (slot t j s last : ℕ) (x : SubTable) → IsInRange d.description → ChangesFit d.description slot changes →
+went : (d : Scheduled) (changes : TextsSoFar) (slot t j s last : ℕ) (x : SubTable) → IsInRange d.description → ChangesFit d.description slot changes →
     AreMade d changes → UpTo changes last → j < section_count d.description t → sub_table_of d.description t j ≡ Some x → is_timeless x ≡ true →
     SectionBegins d t j s → Went d changes t j s last x
-went d [] slot t j s last x ranges fit made up within of still begins = inl (record { since = omega arith; bytes = refl; version = refl })
-went d (change ∷ earlier) slot t j s last x ranges fit made up within of still begins = elim (cases_lt s change.from) [
+went d (FirstTexts past) slot t j s last x ranges fit made up within of still begins = inl (record { since = omega arith; bytes = refl; version = refl })
+went d (NextTexts change earlier) slot t j s last x ranges fit made up within of still begins = elim (cases_lt s change.from) [
   | inl lt ↦ went_on d change earlier t j s last x
       (shows_same (last_texts d.description earlier) made.0.texts x (events_moment d earlier change.from))
       (sent_of d (changed_history earlier change.from) (sub_table_number x))
@@ -338,24 +215,24 @@ no_wrap : (v w r : ℕ) → v < 32 → 1 ≤ r → r < 32 → w ≡ (v + r) % 32
 no_wrap v w r below some few is same = omega (arith, below, some, few, is, same)
 
 -- what went by the last change, if one version shows
-same_last : (d : Scheduled) (change : Change) (earlier : List Change) (t j s last : ℕ) (x : SubTable) → version_of (text_at d.description (change ∷ earlier) s) x 0 < 32 →
-    changes_between (change ∷ earlier) s last < 32 → version_of (text_at d.description (change ∷ earlier) s) x 0 ≡ version_of change.texts x 0 →
-    Went d (change ∷ earlier) t j s last x →
-    table_bytes (text_at d.description (change ∷ earlier) s) t j 0 ≡ table_bytes change.texts t j 0
+same_last : (d : Scheduled) (change : Change) (earlier : TextsSoFar) (t j s last : ℕ) (x : SubTable) → version_of (text_at d.description (NextTexts change earlier) s) x 0 < 32 →
+    changes_between (NextTexts change earlier) s last < 32 → version_of (text_at d.description (NextTexts change earlier) s) x 0 ≡ version_of change.texts x 0 →
+    Went d (NextTexts change earlier) t j s last x →
+    table_bytes (text_at d.description (NextTexts change earlier) s) t j 0 ≡ table_bytes change.texts t j 0
 same_last d change earlier t j s last x below few same (inl kept) = kept.bytes
 same_last d change earlier t j s last x below few same (inr rose) =
-    absurd (no_wrap (version_of (text_at d.description (change ∷ earlier) s) x 0) (version_of change.texts x 0) rose.rises below rose.some
+    absurd (no_wrap (version_of (text_at d.description (NextTexts change earlier) s) x 0) (version_of change.texts x 0) rose.rises below rose.some
     (omega (arith, rose.most, few)) rose.version same)
 
-between_less : (change : Change) (earlier : List Change) (s last : ℕ) → changes_between earlier s last ≤ changes_between (change ∷ earlier) s last
+between_less : (change : Change) (earlier : TextsSoFar) (s last : ℕ) → changes_between earlier s last ≤ changes_between (NextTexts change earlier) s last
 between_less change earlier s last = omega arith
 
-one_version : (d : Scheduled) (changes : List Change) (slot t j s last : ℕ) (x : SubTable) → IsInRange d.description → ChangesFit d.description slot changes →
+one_version : (d : Scheduled) (changes : TextsSoFar) (slot t j s last : ℕ) (x : SubTable) → IsInRange d.description → ChangesFit d.description slot changes →
     AreMade d changes → j < section_count d.description t → sub_table_of d.description t j ≡ Some x → is_timeless x ≡ true → SectionBegins d t j s → s ≤ last →
     changes_between changes s last < 32 → version_of (text_at d.description changes s) x 0 ≡ version_of (text_at d.description changes last) x 0 →
     table_bytes (text_at d.description changes s) t j 0 ≡ table_bytes (text_at d.description changes last) t j 0
-one_version d [] slot t j s last x ranges fit made within of still begins le few same = refl
-one_version d (change ∷ earlier) slot t j s last x ranges fit made within of still begins le few same = elim (cases_lt last change.from) [
+one_version d (FirstTexts past) slot t j s last x ranges fit made within of still begins le few same = refl
+one_version d (NextTexts change earlier) slot t j s last x ranges fit made within of still begins le few same = elim (cases_lt last change.from) [
   | inl before ↦
       let a = text_before d.description change earlier s (omega (arith, le, before)) in
       let b = text_before d.description change earlier last before in
@@ -365,11 +242,11 @@ one_version d (change ∷ earlier) slot t j s last x ranges fit made within of s
       ∙ sym (ap (λ (e : Described). table_bytes e t j 0) b)
   | inr on ↦
       let b = text_from d.description change earlier last on in
-      let like = like_at d.description slot s (change ∷ earlier) ranges fit in
-      let at = there d.description (text_at d.description (change ∷ earlier) s) t j x like within of still in
-      same_last d change earlier t j s last x ((numbered_law (text_at d.description (change ∷ earlier) s) t j 0 x at.of).below like.ranges) few
+      let like = like_at d.description slot s (NextTexts change earlier) ranges fit in
+      let at = there d.description (text_at d.description (NextTexts change earlier) s) t j x like within of still in
+      same_last d change earlier t j s last x ((numbered_law (text_at d.description (NextTexts change earlier) s) t j 0 x at.of).below like.ranges) few
       (same ∙ ap (λ (e : Described). version_of e x 0) b)
-      (went d (change ∷ earlier) slot t j s last x ranges fit made on within of still begins)
+      (went d (NextTexts change earlier) slot t j s last x ranges fit made on within of still begins)
       ∙ sym (ap (λ (e : Described). table_bytes e t j 0) b)
 ]
 
@@ -385,14 +262,21 @@ shown_by e t j moment x ranges still of = record {
 }
 
 pub version_law : VersionLaw
-version_law d changes slots t j first last x ranges fit made within of still begins le few some more same =
+version_law d changes slots t j first last x ranges fit made within of still begins over le few some more same =
     let f = d.description in
     let a = text_at f changes first in
     let b = text_at f changes last in
     let likes_a = like_at f slots first changes ranges fit in
     let likes_b = like_at f slots last changes ranges fit in
-    let one = shown_by a t j (moment_before (table_over d changes t) (suc first)) x likes_a.ranges still (there f a t j x likes_a within of still).of in
-    let other = shown_by b t j (moment_before (table_over d changes t) (suc last)) x likes_b.ranges still (there f b t j x likes_b within of still).of in
-    one.bytes
-    ∙ one_version d changes slots t j first last x ranges fit made within of still begins le few (sym (one.version some) ∙ same ∙ other.version more)
-    ∙ sym other.bytes
+    let at_a = moment_before (table_over d changes t) (suc first) in
+    let at_b = moment_before (table_over d changes t) (suc last) in
+    let one = shown_by a t j at_a x likes_a.ranges still (there f a t j x likes_a within of still).of in
+    let other = shown_by b t j at_b x likes_b.ranges still (there f b t j x likes_b within of still).of in
+    let here : section_at d changes t j first ≡ table_bytes a t j at_a = bytes_now f changes t first j at_a over in
+    let here_last : section_at d changes t j last ≡ table_bytes b t j at_b = bytes_now f changes t last j at_b (omega (arith, over, le)) in
+    let shown_a = one.version (subst (λ (l : List ℕ). 0 < length l) here some) in
+    let shown_b = other.version (subst (λ (l : List ℕ). 0 < length l) here_last more) in
+    here ∙ one.bytes
+    ∙ one_version d changes slots t j first last x ranges fit made within of still begins le few
+    (sym shown_a ∙ sym (ap shown_version here) ∙ same ∙ ap shown_version here_last ∙ shown_b)
+    ∙ sym other.bytes ∙ sym here_last

@@ -10,7 +10,7 @@ use Rattle.slot_contents.specs.RunLaws.{Fits}
 use Rattle.slot_contents.proofs.Runs.{content_again, all_entries, run_entries}
 use Rattle.slot_plan.specs.Schedule.{slot_of}
 use Rattle.mux_core.specs.Scheduled.{Scheduled}
-use Rattle.mux_core.specs.Histories.{Change, content_over}
+use Rattle.mux_core.specs.Histories.{content_over, TextsSoFar}
 use Rattle.mux_core.specs.Headline.{IsTransportPacket, IsNamed}
 use Rattle.mux_core.proofs.ContentPids.{content_pid_view, content_unmarked, speaks}
 
@@ -37,19 +37,19 @@ null_known : (c : Content) → c ≡ NullContent → view_of c ≡ null_view
 unfolding view_of
 null_known c e = ap view_of e
 
-known : (d : Scheduled) (changes : List Change) (units : ℕ → List AccessUnit) (s : ℕ) → IsKnown d (entry_at s (content_over d changes units s))
+known : (d : Scheduled) (changes : TextsSoFar) (units : ℕ → List AccessUnit) (s : ℕ) → IsKnown d (entry_at s (content_over d changes units s))
 unfolding content_over
 known d changes units s = elim (speaks d changes units s (slot_of d.schedule s)) [
   | inl null ↦ inl (null_known (content_over d changes units s) null)
   | inr named ↦ inr ((slot_of d.schedule s, named ∙ ap Some (sym (content_pid_view (content_over d changes units s)))), content_unmarked (content_over d changes units s))
 ]
 
-all_known : (d : Scheduled) (changes : List Change) (units : ℕ → List AccessUnit) (s n : ℕ) → All (IsKnown d) (all_entries (content_over d changes units) s n)
+all_known : (d : Scheduled) (changes : TextsSoFar) (units : ℕ → List AccessUnit) (s n : ℕ) → All (IsKnown d) (all_entries (content_over d changes units) s n)
 unfolding all_entries
 all_known d changes units s zero = All-nil (IsKnown d)
 all_known d changes units s (suc n) = All-cons (IsKnown d) (entry_at s (content_over d changes units s)) (all_entries (content_over d changes units) (suc s) n) (known d changes units s)
     (all_known d changes units (suc s) n)
 
-pub pids_known : (d : Scheduled) (changes : List Change) (units : ℕ → List AccessUnit) (n : ℕ) → Fits (content_over d changes units) →
+pub pids_known : (d : Scheduled) (changes : TextsSoFar) (units : ℕ → List AccessUnit) (n : ℕ) → Fits (content_over d changes units) →
     All (IsKnown d) (entries_of (run_bytes (content_over d changes units) 0 n))
 pids_known d changes units n fits = subst (All (IsKnown d)) (sym (run_entries (content_over d changes units) n fits)) (all_known d changes units 0 n)

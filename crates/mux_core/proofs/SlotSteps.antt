@@ -19,16 +19,17 @@ use Rattle.unit_queue.specs.Queues.{Queue}
 use Rattle.unit_queue.specs.QueueSteps.{sent_in}
 use Rattle.unit_queue.specs.Laws.{StreamSlotLaw, OtherStreamSlotLaw}
 use Rattle.table_rounds.specs.Carousels.{Carousel, CarouselHolds, next_section, carousel_content, carousel_after}
-use Rattle.table_rounds.specs.Tables.{place_at}
+use Rattle.table_rounds.specs.Tables.{not_yet, place_at}
 use Rattle.table_rounds.specs.Laws.{HasPlaces, IsSourceOf, TableSlotLaw, OtherTableSlotLaw}
 use Rattle.mux_core.specs.Rooms.{room_in}
 use Rattle.mux_core.specs.Scheduled.{Scheduled}
-use Rattle.mux_core.specs.Histories.{History, text_at, last_texts, owned_stream, table_over, stream_in, table_in, content_in, next_slot}
+use Rattle.mux_core.specs.Histories.{History, unchanged, past_of, from_of, text_at, last_texts, owned_stream, start_over, table_over, stream_in, table_in, content_in, next_slot}
 use Rattle.mux_core.specs.TextChanges.{ChangesFit, AreMade, since_of, is_numbered, begins_at, begins_in, began_since}
 use Rattle.mux_core.specs.MuxStates.{MuxState, Represents, QueueRepresents, CarouselRepresents}
 use Rattle.mux_core.specs.SlotSteps.{queue_sends, queues_after, carousel_sends, carousels_after, section_bytes, number_there, sent_after, sends, after}
 use Rattle.mux_core.specs.declared.room.Room.{Room}
-use Rattle.mux_core.proofs.TextChanges.{text_last, since_within, fits_later, last_kinds, began_idle, began_more, marked_size, marked_at, none_there, and_false}
+use Rattle.mux_core.proofs.TextChanges.{text_last, past_over, since_within, fits_later, last_kinds}
+use Rattle.mux_core.proofs.SentMarks.{began_idle, began_more, marked_size, marked_at, none_there, and_false}
 
 -- Streams
 
@@ -96,11 +97,12 @@ streams_idle law d h capacity queues idle st k = stream_other law d h capacity k
 abbrev tables_represent : Scheduled → History → List Carousel → Type 0
 tables_represent d h carousels = (t : ℕ) → CarouselRepresents d h t (slice_get carousels t) (slice_get (table_kinds d.description) t)
 
--- Each table has its places, and its sections are its source; slot 0 began, by the slot, when the texts say.
+-- Each table has its places, its sections are its source, slot 0 began, by the slot, when the texts say, and it is on air.
 pub record TablesKnown (d : Scheduled) (h : History) (texts : Described) : Type 0 where
   pub places : (t : ℕ) (kind : TableKind) → slice_get (table_kinds d.description) t ≡ Some kind → HasPlaces (table_over d h.changes t)
   pub sources : (t : ℕ) (kind : TableKind) → slice_get (table_kinds d.description) t ≡ Some kind → IsSourceOf (table_over d h.changes t) h.slots (section_bytes texts t)
-  pub start : (text_at d.description h.changes h.slots).start ≡ texts.start
+  pub start : (t : ℕ) → start_over d.description h.changes t h.slots ≡ texts.start
+  pub on_air : (t : ℕ) → not_yet (from_of (past_of h.changes) t) h.slots ≡ false
 
 table_other : OtherTableSlotLaw → (d : Scheduled) (h : History) (t : ℕ) (carousel : Option Carousel) (kind : Option TableKind) →
     owned d.schedule (TableItem t) h.slots ≡ false → CarouselRepresents d h t carousel kind → CarouselRepresents d (next_slot h) t carousel kind
@@ -114,8 +116,8 @@ table_own : TableSlotLaw → (d : Scheduled) (h : History) (texts : Described) (
     owned d.schedule (TableItem t) h.slots ≡ true → CarouselRepresents d h t carousel kind →
     CarouselRepresents d (next_slot h) t (option_map (carousel_after (section_bytes texts t) texts.start h.slots) carousel) kind
 table_own law d h texts t (Some carousel) (Some kind) known is own st =
-    subst (λ (start : ℕ). CarouselHolds (table_over d h.changes t) (suc h.slots) (carousel_after (section_bytes texts t) start h.slots carousel)) known.start
-    (law (table_over d h.changes t) h.slots (section_bytes texts t) carousel (known.places t kind is) (known.sources t kind is) own st).holds
+    subst (λ (start : ℕ). CarouselHolds (table_over d h.changes t) (suc h.slots) (carousel_after (section_bytes texts t) start h.slots carousel)) (known.start t)
+    (law (table_over d h.changes t) h.slots (section_bytes texts t) carousel (known.places t kind is) (known.sources t kind is) (known.on_air t) own st).holds
 table_own law d h texts t (Some carousel) None known is own st = st
 table_own law d h texts t None (Some kind) known is own st = st
 table_own law d h texts t None None known is own st = st
@@ -126,8 +128,8 @@ table_sends : TableSlotLaw → (d : Scheduled) (h : History) (texts : Described)
     packet_of (carousel_sends (section_bytes texts t) texts.start h.slots carousel) ≡ packet_of (table_in d h.changes h.slots t kind)
 unfolding carousel_sends table_in
 table_sends law d h texts t (Some carousel) (Some kind) known is own st =
-    sym (ap (λ (start : ℕ). packet_of (carousel_content (section_bytes texts t) start h.slots carousel)) known.start)
-    ∙ (law (table_over d h.changes t) h.slots (section_bytes texts t) carousel (known.places t kind is) (known.sources t kind is) own st).packet
+    sym (ap (λ (start : ℕ). packet_of (carousel_content (section_bytes texts t) start h.slots carousel)) (known.start t))
+    ∙ (law (table_over d h.changes t) h.slots (section_bytes texts t) carousel (known.places t kind is) (known.sources t kind is) (known.on_air t) own st).packet
 table_sends law d h texts t (Some carousel) None known is own st = absurd st
 table_sends law d h texts t None (Some kind) known is own st = absurd st
 table_sends law d h texts t None None known is own st = refl
@@ -183,7 +185,7 @@ texts_idle d h texts sent st none = record {
   made = st.made;
   are = st.are;
   size = st.size;
-  marks = λ x lt. st.marks x lt ∙ sym (began_idle d h.changes x (since_of h.changes x) h.slots (none x));
+  marks = λ x lt. st.marks x lt ∙ sym (began_idle d h.changes x (since_of h.changes x) h.slots (past_over d.description h.slots h.changes st.fit) (none x));
 }
 
 -- a section of a table begins where the place of its carousel is a first one
@@ -193,7 +195,7 @@ begins_there : (d : Scheduled) (h : History) (texts : Described) (sent : List Bo
 unfolding begins_in
 begins_there d h texts sent x t carousel st is holds =
     ap (begins_in d h.changes x h.slots) is
-    ∙ ap (λ (e : Described). begins_at e x t (place_at (table_over d [] t) h.slots))
+    ∙ ap (λ (e : Described). begins_at e x t (place_at (table_over d unchanged t) h.slots))
     (text_last d.description h.slots h.slots h.changes st.fit (omega arith) ∙ sym st.are)
     ∙ ap (begins_at texts x t) holds.place
 
@@ -207,10 +209,10 @@ nothing_there d h texts sent x t st is none =
     let kinds : slice_get (table_kinds (last_texts d.description h.changes)) t ≡ None =
     ap (λ (l : List TableKind). slice_get l t) (last_kinds d.description h.slots h.changes st.fit) ∙ none in
     ap (begins_in d h.changes x h.slots) is
-    ∙ ap (λ (e : Described). begins_at e x t (place_at (table_over d [] t) h.slots)) now
-    ∙ ap (λ (o : Option SubTable). ((place_at (table_over d [] t) h.slots).part == 0) && is_numbered x o)
-    (none_there (last_texts d.description h.changes) t (place_at (table_over d [] t) h.slots).section kinds)
-    ∙ and_false ((place_at (table_over d [] t) h.slots).part == 0)
+    ∙ ap (λ (e : Described). begins_at e x t (place_at (table_over d unchanged t) h.slots)) now
+    ∙ ap (λ (o : Option SubTable). ((place_at (table_over d unchanged t) h.slots).part == 0) && is_numbered x o)
+    (none_there (last_texts d.description h.changes) t (place_at (table_over d unchanged t) h.slots).section kinds)
+    ∙ and_false ((place_at (table_over d unchanged t) h.slots).part == 0)
 
 texts_on : (d : Scheduled) (h : History) (texts : Described) (sent : List Bool) (t : ℕ) (o : Option Carousel) (kind : Option TableKind) →
     TextsRepresent d h texts sent → slot_of d.schedule h.slots ≡ Table t → slice_get (table_kinds d.description) t ≡ kind →
@@ -226,7 +228,8 @@ texts_on d h texts sent t (Some carousel) (Some kind) st is of holds = record {
       ∙ ap (λ (b : Bool). b || begins_at texts x t (record { section = carousel.section; part = carousel.part })) (st.marks x lt)
       ∙ ap (λ (b : Bool). began_since d h.changes x (since_of h.changes x) h.slots || b)
       (sym (begins_there d h texts sent x t carousel st is holds))
-      ∙ sym (began_more d h.changes x (since_of h.changes x) h.slots (since_within d.description h.slots x h.changes st.fit));
+      ∙ sym (began_more d h.changes x (since_of h.changes x) h.slots (since_within d.description h.slots x h.changes st.fit)
+      (past_over d.description h.slots h.changes st.fit));
 }
 texts_on d h texts sent t (Some carousel) None st is of holds = absurd holds
 texts_on d h texts sent t None (Some kind) st is of holds = absurd holds

@@ -14,7 +14,7 @@ use Rattle.slot_plan.specs.SlotPids.{slot_pid}
 use Rattle.unit_queue.specs.Places.{stream_content}
 use Rattle.unit_queue.specs.Payloads.{StreamIsAlone}
 use Rattle.mux_core.specs.Scheduled.{Scheduled}
-use Rattle.mux_core.specs.Histories.{Change, owned_stream, stream_in, content_in, content_at, content_over}
+use Rattle.mux_core.specs.Histories.{owned_stream, stream_in, content_in, content_at, content_over, TextsSoFar, unchanged}
 use Rattle.mux_core.proofs.ContentPids.{silent, not_null}
 
 -- A stream's own slot is a slot of the stream.
@@ -28,13 +28,13 @@ stream_named : (d : Scheduled) (k : ℕ) (s : DescribedStream) → slice_get d.d
 unfolding slot_pid
 stream_named d k s is = rw is refl
 
-stream_at : (d : Scheduled) (changes : List Change) (units : ℕ → List AccessUnit) (t k : ℕ) (s : DescribedStream) → slice_get d.description.streams k ≡ Some s →
+stream_at : (d : Scheduled) (changes : TextsSoFar) (units : ℕ → List AccessUnit) (t k : ℕ) (s : DescribedStream) → slice_get d.description.streams k ≡ Some s →
     slot_of d.schedule t ≡ Stream k
     → content_over d changes units t ≡ stream_content (owned_stream d k s) (units k) t
 unfolding content_over content_in stream_in
 stream_at d changes units t k s is e = ap (content_in d changes units t) e ∙ ap (stream_in d units t k) is
 
-pub stream_alone_over : (d : Scheduled) (changes : List Change) (units : ℕ → List AccessUnit) (k : ℕ) (s : DescribedStream) → IsInRange d.description → Fits (content_over d changes units)
+pub stream_alone_over : (d : Scheduled) (changes : TextsSoFar) (units : ℕ → List AccessUnit) (k : ℕ) (s : DescribedStream) → IsInRange d.description → Fits (content_over d changes units)
     → slice_get d.description.streams k ≡ Some s → StreamIsAlone (owned_stream d k s) (units k) (content_over d changes units)
 stream_alone_over d changes units k s r fits is = record {
   fits = fits;
@@ -45,4 +45,4 @@ stream_alone_over d changes units k s r fits is = record {
 
 pub stream_alone : (d : Scheduled) (units : ℕ → List AccessUnit) (k : ℕ) (s : DescribedStream) → IsInRange d.description → Fits (content_at d units)
     → slice_get d.description.streams k ≡ Some s → StreamIsAlone (owned_stream d k s) (units k) (content_at d units)
-stream_alone d units k s r fits is = stream_alone_over d [] units k s r fits is
+stream_alone d units k s r fits is = stream_alone_over d unchanged units k s r fits is

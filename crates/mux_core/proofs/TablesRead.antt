@@ -19,7 +19,7 @@ use Rattle.table_rounds.specs.Payloads.{TableIsAlone}
 use Rattle.table_rounds.proofs.CarriedBytes.{table_carried}
 use Rattle.table_rounds.proofs.SectionStarts.{begins}
 use Rattle.mux_core.specs.Scheduled.{Scheduled}
-use Rattle.mux_core.specs.Histories.{Change, table_of, table_over, table_in, content_in, content_at, content_over}
+use Rattle.mux_core.specs.Histories.{table_of, table_over, table_in, content_in, content_at, content_over, TextsSoFar, unchanged}
 use Rattle.mux_core.specs.Headline.{TableKeptOver}
 use Rattle.mux_core.proofs.ContentPids.{silent, not_null}
 
@@ -38,12 +38,12 @@ table_named : (d : Scheduled) (t : ℕ) (kind : TableKind) → table_kind d.desc
 unfolding slot_pid
 table_named d t kind is = rw is refl
 
-table_at : (d : Scheduled) (changes : List Change) (units : ℕ → List AccessUnit) (s t : ℕ) (kind : TableKind) → table_kind d.description t ≡ Some kind → slot_of d.schedule s ≡ Table t
+table_at : (d : Scheduled) (changes : TextsSoFar) (units : ℕ → List AccessUnit) (s t : ℕ) (kind : TableKind) → table_kind d.description t ≡ Some kind → slot_of d.schedule s ≡ Table t
     → content_over d changes units s ≡ table_content (table_over d changes t) s
 unfolding content_over content_in table_in
 table_at d changes units s t kind is e = ap (content_in d changes units s) e ∙ ap (table_in d changes s t) is
 
-pub table_alone_over : (d : Scheduled) (changes : List Change) (units : ℕ → List AccessUnit) (t : ℕ) (kind : TableKind) → IsInRange d.description → Fits (content_over d changes units) →
+pub table_alone_over : (d : Scheduled) (changes : TextsSoFar) (units : ℕ → List AccessUnit) (t : ℕ) (kind : TableKind) → IsInRange d.description → Fits (content_over d changes units) →
     table_kind d.description t ≡ Some kind
     → TableIsAlone (table_over d changes t) (content_over d changes units)
 table_alone_over d changes units t kind r fits is = record {
@@ -56,7 +56,7 @@ table_alone_over d changes units t kind r fits is = record {
 
 pub table_alone : (d : Scheduled) (units : ℕ → List AccessUnit) (t : ℕ) (kind : TableKind) → IsInRange d.description → Fits (content_at d units) →
     table_kind d.description t ≡ Some kind → TableIsAlone (table_of d t) (content_at d units)
-table_alone d units t kind r fits is = table_alone_over d [] units t kind r fits is
+table_alone d units t kind r fits is = table_alone_over d unchanged units t kind r fits is
 
 -- A table with a valid index has a kind.
 pub there : (ks : List TableKind) (t : ℕ) → t < length ks → (kind : TableKind) × (slice_get ks t ≡ Some kind)
@@ -64,14 +64,14 @@ there [] t lt = absurd (omega (arith, lt))
 there (k ∷ ks) zero lt = (k, refl)
 there (k ∷ ks) (suc t) lt = there ks t (omega (arith, lt))
 
-pub table_kept : (d : Scheduled) (changes : List Change) (units : ℕ → List AccessUnit) (slots t : ℕ) → IsInRange d.description → Promised d.description d.schedule →
+pub table_kept : (d : Scheduled) (changes : TextsSoFar) (units : ℕ → List AccessUnit) (slots t : ℕ) → IsInRange d.description → Promised d.description d.schedule →
     Fits (content_over d changes units) → t < table_count d.description
     → TableKeptOver d changes t slots (run_bytes (content_over d changes units) 0 slots)
 table_kept d changes units slots t r p fits lt =
     let k = there (table_kinds d.description) t lt in
     record {
       sections = table_carried (table_over d changes t) slots (content_over d changes units) (table_alone_over d changes units t k.0 r fits k.1);
-      begins = λ j s within before e. begins (table_over d changes t) slots j s (content_over d changes units) (table_alone_over d changes units t k.0 r fits k.1) within before e;
+      begins = λ j s within on_air before e. begins (table_over d changes t) slots j s (content_over d changes units) (table_alone_over d changes units t k.0 r fits k.1) within on_air before e;
       sections_recur = λ j within. p.sections t j slots lt within;
       sections_apart = λ spaced. p.sections_apart t lt spaced;
     }

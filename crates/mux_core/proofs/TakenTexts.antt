@@ -15,12 +15,13 @@ use Rattle.changed_texts.specs.declared.fault.TextFault.{TextFault}
 use Rattle.table_rounds.specs.Carousels.{Carousel}
 use Rattle.table_rounds.specs.Tables.{last_moment}
 use Rattle.mux_core.specs.Scheduled.{Scheduled}
-use Rattle.mux_core.specs.Histories.{Change, History, last_texts, table_over, content_over, bytes_of, with_change}
+use Rattle.mux_core.specs.Histories.{Change, NextTexts, History, last_texts, table_over, content_over, bytes_of, with_change}
 use Rattle.mux_core.specs.TextChanges.{text_cause, since_of, began_since, sent_of, events_table, events_moment, next_change}
 use Rattle.mux_core.specs.MuxStates.{MuxState, Represents, CarouselRepresents, Changes, text_refusal}
 use Rattle.mux_core.specs.SlotSteps.{sent_still, with_texts, moment_of_events}
 use Rattle.mux_core.proofs.FedUnits.{run_same}
-use Rattle.mux_core.proofs.TextChanges.{since_within, content_before, carousel_goes_on, marks_go_on, still_size}
+use Rattle.mux_core.proofs.TextChanges.{since_within, content_before, carousel_goes_on}
+use Rattle.mux_core.proofs.SentMarks.{marks_go_on, still_size}
 
 pub record TextLaws : Type 0 where
   pub text : TextLaw
@@ -100,7 +101,7 @@ takes_texts laws h m texts ranges st none = record {
 }
 
 written_stays : (d : Scheduled) (h : History) (change : Change) → change.from ≡ h.slots → bytes_of d (with_change h change) ≡ bytes_of d h
-written_stays d h change at = run_same (content_over d (change ∷ h.changes) h.units) (content_over d h.changes h.units) 0 h.slots
+written_stays d h change at = run_same (content_over d (NextTexts change h.changes) h.units) (content_over d h.changes h.units) 0 h.slots
     (λ s lt. content_before d change h.changes h.units s (omega (arith, lt, at)))
 
 pub texts_taken : TextLaws → (h : History) (old : MuxState) (texts : Described) (result : Result (Unit {0}) TextFault) (new : MuxState) → IsInRange texts →

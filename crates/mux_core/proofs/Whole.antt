@@ -8,7 +8,7 @@ use Rattle.slot_plan.specs.Promised.{Promised}
 use Rattle.slot_contents.proofs.Runs.{run_length}
 use Rattle.unit_queue.proofs.SentPlaces.{content_law}
 use Rattle.mux_core.specs.Scheduled.{Scheduled}
-use Rattle.mux_core.specs.Histories.{Change, owned_stream, content_at, content_over}
+use Rattle.mux_core.specs.Histories.{owned_stream, content_at, content_over, TextsSoFar, unchanged}
 use Rattle.mux_core.specs.Headline.{Headline, HeadlineLaw, UnitsKept}
 use Rattle.mux_core.proofs.ContentPids.{StreamsFit, content_fits}
 use Rattle.mux_core.proofs.ClearPackets.{all_clear}
@@ -20,14 +20,14 @@ use Rattle.mux_core.proofs.StreamsAlone.{stream_alone_over}
 use Rattle.mux_core.proofs.StreamsKept.{stream_kept}
 
 -- The content of each slot fits into a packet.
-pub contents_fit_over : (d : Scheduled) (changes : List Change) (units : ℕ → List AccessUnit) → IsInRange d.description → UnitsKept d units → Fits (content_over d changes units)
+pub contents_fit_over : (d : Scheduled) (changes : TextsSoFar) (units : ℕ → List AccessUnit) → IsInRange d.description → UnitsKept d units → Fits (content_over d changes units)
 contents_fit_over d changes units r kept = content_fits d changes units r streams_fit
   where
     streams_fit : StreamsFit d units
     streams_fit k s x is = content_law (owned_stream d k x) (units k) s (kept.parameters k x is)
 
 pub contents_fit : (d : Scheduled) (units : ℕ → List AccessUnit) → IsInRange d.description → UnitsKept d units → Fits (content_at d units)
-contents_fit d units r kept = contents_fit_over d [] units r kept
+contents_fit d units r kept = contents_fit_over d unchanged units r kept
 
 pub headline_over : HeadlineLaw
 headline_over d changes units slots r promised kept =
@@ -45,4 +45,4 @@ headline_over d changes units slots r promised kept =
 
 pub headline : (d : Scheduled) (units : ℕ → List AccessUnit) (slots : ℕ) → IsInRange d.description → Promised d.description d.schedule → UnitsKept d units →
     Headline d units slots (run_bytes (content_at d units) 0 slots)
-headline d units slots r promised kept = headline_over d [] units slots r promised kept
+headline d units slots r promised kept = headline_over d unchanged units slots r promised kept

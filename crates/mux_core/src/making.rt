@@ -223,7 +223,7 @@ fn first_carousel(description: &Description, table: usize) -> TableCarousel
     TableCarousel::new(
         description.table_pid(table),
         description.rate(),
-        description.start() as u32,
+        description.start(),
         &lengths,
     )
 }

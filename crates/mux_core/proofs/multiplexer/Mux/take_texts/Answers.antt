@@ -5,7 +5,7 @@ use Rattle.changed_texts.specs.Versions.{next_texts, changed}
 use Rattle.mux_core.specs.MuxStates.{MuxState}
 use Rattle.mux_core.specs.SlotSteps.{texts_in, with_texts, moment_of_events}
 use Rattle.mux_core.proofs.TakenTexts.{texts_put}
-use Rattle.mux_core.proofs.TextChanges.{still_same}
+use Rattle.mux_core.proofs.SentMarks.{still_same}
 use Rattle.mux_core.proofs.multiplexer.Mux.take_texts.Goals as goal
 
 pub returns : goal.returns
