@@ -4,4 +4,5 @@ mod MapWarnings
 pub mod Each
 pub mod FrameSums
 pub mod Steps
+mod NetworkSteps
 pub mod KeptDts

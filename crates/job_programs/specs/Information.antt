@@ -4,6 +4,7 @@ use Rattle.std.specs.Option.{option_or}
 use Rattle.std.specs.List.{list_any}
 use Rattle.pid_findings.specs.Views.{FindingView}
 use Rattle.job_text.specs.DescriptionParts.{EventPartView, NetworkPartView}
+use Rattle.dvb_tables.specs.TransportStreams.{TransportStreamView}
 use Rattle.ts_services.specs.NetworkInformation.{FoundNetworkView, stream_network}
 use Rattle.ts_services.specs.Networks.{network}
 use Rattle.ts_services.specs.Services.{FoundServiceView, service}
@@ -15,6 +16,7 @@ use Rattle.job_programs.specs.GivenLoops.{given_network, given_service, kept_loo
 use Rattle.job_programs.specs.GivenNames.{name_given, original_given}
 use Rattle.job_programs.specs.JobOptions.{JobOptionsView}
 use Rattle.job_programs.specs.JobPrograms.{JobProgramView}
+use Rattle.job_programs.specs.OtherStreams.{other_streams}
 
 -- a service: the texts that it has, and all of its descriptors if these do not give exactly these
 pub record NamedServiceView : Type 0 where
@@ -56,30 +58,31 @@ original_of given id findings = option_or (option_or (original_given given) (net
 
 -- the network that is given
 unfoldable pub network_of : NetworkNameView → NetworkPartView
-network_of n = record { id = n.id; name = n.name; network_descriptors = None; descriptors = [] }
+network_of n = record { id = n.id; name = n.name; network_descriptors = None; descriptors = []; streams = [] }
 
--- the stream's network, its name with at most 200 bytes
-unfoldable pub network_with : FoundNetworkView → List ℕ → NetworkPartView
-network_with n name = record {
+-- the stream's network with its other transport streams, its name with at most 200 bytes
+unfoldable pub network_with : List TransportStreamView → FoundNetworkView → List ℕ → NetworkPartView
+network_with others n name = record {
   id = n.id;
   name = name;
   network_descriptors = kept_loop 700 (given_network name) n.network_descriptors;
   descriptors = n.descriptors;
+  streams = others;
 }
 
-abbrev pub network_found : FoundNetworkView → NetworkPartView
-network_found n = network_with n (decode_text 200 n.name)
+abbrev pub network_found : List TransportStreamView → FoundNetworkView → NetworkPartView
+network_found others n = network_with others n (decode_text 200 n.name)
 
-unfoldable pub network_or : Option NetworkNameView → Option FoundNetworkView → Option NetworkPartView
-network_or None found = option_map network_found found
-network_or (Some n) found = Some (network_of n)
+unfoldable pub network_or : Option NetworkNameView → Option FoundNetworkView → List TransportStreamView → Option NetworkPartView
+network_or None found others = option_map (network_found others) found
+network_or (Some n) found others = Some (network_of n)
 
 -- the descriptors that a description with this name has of the network
 abbrev pub network_loop : NetworkPartView → Option (List ℕ)
 network_loop n = option_or n.network_descriptors (given_network n.name)
 
 abbrev pub network_part : JobOptionsView → ℕ → List FindingView → Option NetworkPartView
-network_part options id findings = network_or options.network (stream_network id findings)
+network_part options id findings = network_or options.network (stream_network id findings) (other_streams id findings)
 
 -- 3. The service of a program
 

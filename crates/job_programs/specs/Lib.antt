@@ -11,5 +11,6 @@ pub mod ProgramClocks
 pub mod JobPrograms
 pub mod JobTables
 pub mod Events
+pub mod OtherStreams
 pub mod Information
 pub mod FoundUnits

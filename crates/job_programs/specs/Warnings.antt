@@ -5,7 +5,6 @@ use Rattle.std.specs.List.{list_any}
 use Rattle.psi_tables.specs.declared.pat.programs.Program.{Program}
 use Rattle.pid_findings.specs.Views.{WhatView, IsTruncated, IsBadPacket, IsErrored, FindingView}
 use Rattle.program_tables.specs.Association.{AssociationView, association_change, is_named}
-use Rattle.ts_services.specs.NetworkInformation.{network_surplus}
 use Rattle.stream_programs.specs.Omissions.{is_loss}
 use Rattle.program_tables.specs.ProgramMaps.{map_change}
 use Rattle.program_tables.specs.declared.program_map.MapPart.{MapPart}
@@ -19,6 +18,7 @@ use Rattle.es_buffers.specs.declared.buffers.PidBuffers.{PidBuffers}
 use Rattle.job_programs.specs.JobOptions.{JobOptionsView}
 use Rattle.job_programs.specs.LaterPrograms.{program_loss}
 use Rattle.job_programs.specs.JobPrograms.{numbers_named}
+use Rattle.job_programs.specs.OtherStreams.{network_surplus}
 use Rattle.job_programs.specs.declared.warning.Warning.{Warning}
 use Rattle.job_programs.specs.declared.warning.Warning.TheVariants as warning
 use Rattle.job_programs.specs.declared.warning.PacketWarning.{PacketWarning}

@@ -119,9 +119,9 @@ pub(crate) fn is_loop_of<const N: usize>(
     }
 }
 
-// Returns whether a description can have these descriptors, at most `most` bytes, as they are.
+/// Returns whether a description can have these descriptors, at most `most` bytes, as they are.
 #[tactic(auto, unfolding(crate::specs::GivenLoops::can_be_kept))]
-fn can_be_kept(most: usize, descriptors: &[u8]) -> bool
+pub(crate) fn can_be_kept(most: usize, descriptors: &[u8]) -> bool
     ensures { result ≡ spec.can_be_kept most descriptors.now }
 {
     descriptors.len() <= most && are_whole_descriptors(descriptors)

@@ -78,7 +78,7 @@ pub fn information_of(
         start,
         tdt: stream_time(findings).is_some(),
         sdt: has_services(options.names, &services, programs),
-        network: network_or(alloc, options.network, found)?,
+        network: network_or(alloc, options.network, transport_stream_id, found, findings)?,
         events: event_parts(alloc, &events)?,
         services: services_of(alloc, options.names, programs, &services)?,
     })

@@ -3,23 +3,25 @@
 ghost use Rattle.std.specs.Prelude.{◌≡◌, ◌++◌, IfOk, OnOk, Some, map, option_map, option_to_list, string_bytes};
 ghost use Rattle.pid_findings.specs.Shown.{finding_view};
 ghost use Rattle.job_text.specs.Texts.{network_if_any};
-ghost use Rattle.ts_services.specs.NetworkInformation.{found_network_view, network_surplus};
+ghost use Rattle.ts_services.specs.NetworkInformation.{found_network_view};
 ghost use Rattle.given_values.specs.GivenNames.{network_name_view};
 ghost use Rattle.job_programs.specs.GivenLoops.{is_loop};
 ghost use Rattle.job_programs.specs.Information as spec;
+ghost use Rattle.job_programs.specs.OtherStreams.{network_surplus, others_of};
 ghost use Rattle.job_programs.specs.Warnings as spec_warnings;
 
 use crate::given_loops::{given_network, is_loop_of, kept_loop};
 use crate::given_names::original_given;
 use crate::named_service::copied;
+use crate::other_streams::{network_surplus, other_streams};
 use crate::warning::{PacketWarning, Warning};
 use dvb_texts::decode_text;
 use given_values::NetworkName;
-use job_text::NetworkPart;
+use job_text::{NetworkPart, NetworkStreamPart};
 use pid_findings::Finding;
 use std::alloc::{AllocError, Global};
 use std::marker::Model;
-use ts_services::{FoundNetwork, network_surplus, original_network, stream_network};
+use ts_services::{FoundNetwork, original_network, stream_network};
 
 /// The most bytes of a network's name, as written in a descriptor.
 const LONGEST_NAME: usize = 200;
@@ -62,6 +64,8 @@ pub struct JobNetwork {
     pub network_descriptors: Option<Vec<u8>>,
     /// The descriptors of this transport stream.
     pub descriptors: Vec<u8>,
+    /// The other transport streams.
+    pub streams: Vec<NetworkStreamPart>,
 }
 
 // A contract sees its name and its descriptors as lists.
@@ -76,6 +80,7 @@ impl Model for JobNetwork {
       name = string_bytes n.name;
       network_descriptors = option_map (λ b. b.items) n.network_descriptors;
       descriptors = n.descriptors.items;
+      streams = n.streams.items;
     } };
 }
 
@@ -102,13 +107,18 @@ fn network_of(alloc: Global, network: NetworkName<'_>) -> Result<JobNetwork, All
         name: copied(alloc, network.name)?,
         network_descriptors: None,
         descriptors: Vec::new(alloc),
+        streams: Vec::new(alloc),
     })
 }
 
-// Returns the network that is found.
+// Returns the network that is found, with its other transport streams.
 #[tactic(auto, unfolding(crate::specs::Information::network_with))]
-fn network_found(alloc: Global, network: FoundNetwork<'_>) -> Result<JobNetwork, AllocError>
-    ensures { IfOk result (λ n. n ≡ spec.network_found (found_network_view network.entry)) }
+fn network_found(
+    alloc: Global,
+    streams: Vec<NetworkStreamPart>,
+    network: FoundNetwork<'_>,
+) -> Result<JobNetwork, AllocError>
+    ensures { IfOk result (λ n. n ≡ spec.network_found streams.items (found_network_view network.entry)) }
 {
     let name = decode_text(alloc, network.name, LONGEST_NAME)?;
     let given = given_network(&name);
@@ -120,18 +130,21 @@ fn network_found(alloc: Global, network: FoundNetwork<'_>) -> Result<JobNetwork,
         name,
         network_descriptors,
         descriptors,
+        streams,
     })
 }
 
 // Returns the network that is found, if there is one.
 fn network_if_found(
     alloc: Global,
+    streams: Vec<NetworkStreamPart>,
     found: Option<FoundNetwork<'_>>,
 ) -> Result<Option<JobNetwork>, AllocError>
-    ensures { IfOk result (λ n. n ≡ option_map spec.network_found (option_map found_network_view found.entry)) }
+    ensures { IfOk result (λ n. n ≡ option_map (spec.network_found streams.items)
+        (option_map found_network_view found.entry)) }
 {
     match found {
-        Some(network) => Ok(Some(network_found(alloc, network)?)),
+        Some(network) => Ok(Some(network_found(alloc, streams, network)?)),
         None => Ok(None),
     }
 }
@@ -141,14 +154,20 @@ fn network_if_found(
 pub(crate) fn network_or(
     alloc: Global,
     given: Option<NetworkName<'_>>,
+    transport_stream_id: u16,
     found: Option<FoundNetwork<'_>>,
+    findings: &[Finding<'_>],
 ) -> Result<Option<JobNetwork>, AllocError>
     ensures { IfOk result (λ n. n ≡ spec.network_or (option_map network_name_view given.entry)
-        (option_map found_network_view found.entry)) }
+        (option_map found_network_view found.entry)
+        (others_of transport_stream_id (option_map found_network_view found.entry) (map finding_view findings.now))) }
 {
     match given {
         Some(network) => Ok(Some(network_of(alloc, network)?)),
-        None => network_if_found(alloc, found),
+        None => {
+            let streams = other_streams(alloc, transport_stream_id, found, findings)?;
+            network_if_found(alloc, streams, found)
+        }
     }
 }
 
@@ -164,12 +183,14 @@ pub fn write_network(network: &Option<JobNetwork>, text: &mut String) -> Result<
         name: &network.name,
         network_descriptors: network.network_descriptors.as_deref(),
         descriptors: &network.descriptors,
+        streams: &network.streams,
     };
     entry.write_text(text)
 }
 
 // Appends the warning about network information sections that are not carried.
 fn push_surplus(
+    alloc: Global,
     transport_stream_id: u16,
     findings: &[Finding<'_>],
     warnings: &mut Vec<Warning>,
@@ -177,7 +198,8 @@ fn push_surplus(
     ensures { OnOk result (warnings.new.items ≡ warnings.old.items ++ map spec_warnings.surplus_warning
         (option_to_list (network_surplus transport_stream_id (map finding_view findings.now)))) }
 {
-    if let Some(packet) = network_surplus(transport_stream_id, findings) {
+    let surplus = network_surplus(alloc, transport_stream_id, findings)?;
+    if let Some(packet) = surplus {
         warnings.push(Warning::Packet {
             packet,
             what: PacketWarning::NetworkSurplus,
@@ -189,6 +211,7 @@ fn push_surplus(
 /// Appends the warnings about the network of the stream, if no other is given.
 #[tactic(auto, unfolding(crate::specs::Warnings::network_warnings))]
 pub fn push_network_warnings(
+    alloc: Global,
     given: Option<NetworkName<'_>>,
     transport_stream_id: u16,
     findings: &[Finding<'_>],
@@ -201,5 +224,5 @@ pub fn push_network_warnings(
     if given.is_some() {
         return Ok(());
     }
-    push_surplus(transport_stream_id, findings, warnings)
+    push_surplus(alloc, transport_stream_id, findings, warnings)
 }

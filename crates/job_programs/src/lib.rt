@@ -3,8 +3,8 @@
 //! `JobOptions` has the options (`specs/JobOptions`, `specs/GivenNames`). The programs that they select have clocks
 //! (`specs/JobPrograms`, `specs/ProgramClocks`, `specs/ClockBases`), `JobStream` is an elementary stream of a program
 //! (`specs/JobStreams`), and `JobInformation` describes the transport stream as a whole (`specs/Information`,
-//! `specs/Events`, `specs/GivenLoops`). `JobRefusal` says why there is no job, `Warning` what is not taken unchanged (`specs/Packets`,
-//! `specs/LaterPrograms`, `specs/Warnings`). `specs/FoundUnits` says which units of a PID are found, and
+//! `specs/Events`, `specs/GivenLoops`, `specs/OtherStreams`). `JobRefusal` says why there is no job, `Warning` what is not taken
+//! unchanged (`specs/Packets`, `specs/LaterPrograms`, `specs/Warnings`). `specs/FoundUnits` says which units of a PID are found, and
 //! `specs/JobTables` which sections are carried.
 #![tactic(auto)]
 
@@ -34,6 +34,7 @@ pub mod information;
 pub mod job_events;
 pub mod job_network;
 pub mod named_service;
+mod other_streams;
 
 pub use information::JobInformation;
 pub use job_events::JobEvent;

@@ -10,10 +10,11 @@ use Rattle.unit_timing.specs.declared.allowance.Allowance.{Allowance}
 use Rattle.unit_timing.specs.declared.allowance.Allowance.TheVariants.{Groups, Pace}
 use Rattle.unit_timing.specs.declared.multiplexing_buffer.MultiplexingBuffer.{MultiplexingBuffer}
 use Rattle.hex.specs.Hex.{encode_lower}
+use Rattle.dvb_tables.specs.TransportStreams.{TransportStreamView}
 use Rattle.toml_writer.specs.Text.{key_text}
 use Rattle.toml.specs.Data.{string, integer, boolean, Members, no_members, member, is_before, members_are_sorted}
-use Rattle.toml.specs.Text.{expressions, pairs, sections, elements}
-use Rattle.toml.specs.Tables.{Expression, array_table}
+use Rattle.toml.specs.Text.{expressions, needs_header, pairs, sections, elements}
+use Rattle.toml.specs.Tables.{Expression, array_table, key_value}
 use Rattle.toml.proofs.Lines.{after}
 use Rattle.job_text.specs.DescriptionParts.{EventPartView, FramingPartView, HeadingView, NetworkPartView, ProgramPartView, StreamPartView, TablePartView}
 use Rattle.job_text.specs.KeyLines.{with_numbers, number_if_any, with_set, with_hex, with_list, header, table_header, hex_line, list_line, key_line}
@@ -21,17 +22,19 @@ use Rattle.job_text.specs.KeyLines.{number_line, number_lines, set_line}
 use Rattle.job_text.specs.Notes.{name_note, type_note}
 use Rattle.job_text.specs.Fields.{program_numbers, burst_numbers, rest_numbers, group_numbers, time_numbers, size_numbers, pace_numbers, place_numbers}
 use Rattle.job_text.specs.Fields.{leak_numbers, drain_numbers, last_numbers}
-use Rattle.job_text.specs.Documents.{document, elements_of, with_table, with_tables, event_members, event_table, network_last, network_table, program_coded}
+use Rattle.job_text.specs.Documents.{document, elements_of, with_table, with_tables, event_members, event_table, program_coded}
+use Rattle.job_text.specs.Documents.{network_members, network_rest, network_stream_ids, network_stream_table, network_table}
 use Rattle.job_text.specs.Documents.{program_members, program_service, program_table, with_clock, stream_last, stream_drain}
 use Rattle.job_text.specs.Documents.{stream_place, stream_middle, stream_rest, stream_members, stream_table, table_table}
-use Rattle.job_text.specs.Texts.{event_lines, event_text, framing_if_any, heading_text, network_names, network_text, network_if_any, program_back, program_clock}
+use Rattle.job_text.specs.Texts.{event_lines, event_text, framing_if_any, heading_text, network_names, network_own, network_stream_text, network_text}
+use Rattle.job_text.specs.Texts.{network_if_any, program_back, program_clock}
 use Rattle.job_text.specs.Texts.{program_text, stream_end, stream_text, table_text}
-use Rattle.job_text.specs.Laws.{Fits, FitsEvent, FitsHeading, FitsNetwork, FitsProgram, FitsAllowance, FitsMultiplexing, FitsFrames, FitsFraming, FitsStream, FitsTable}
+use Rattle.job_text.specs.Laws.{Fits, FitsEvent, FitsHeading, FitsNetwork, FitsNetworkStream, FitsProgram, FitsAllowance, FitsMultiplexing, FitsFrames, FitsFraming, FitsStream, FitsTable}
 use Rattle.job_text.specs.Laws.{TextsAreRead}
 use Rattle.job_text.proofs.Comments.{AreCommented, commented_both, document_read}
 use Rattle.job_text.proofs.FlatArrays.{list_none, list_some, numbers_are, numbers_sorted, digits_are, digits_sorted}
 use Rattle.job_text.proofs.NoteLines.{name_tail, no_tail, type_tail}
-use Rattle.job_text.proofs.Scalars.{AreScalars, IsScalar, scalar_lines, lines_are_text, noted_lines}
+use Rattle.job_text.proofs.Scalars.{AreScalars, IsScalar, scalar_lines, lines_are_text, noted_are_text, noted_lines}
 use Rattle.job_text.proofs.TableArrays.{AreTables, elements_are_text, pairs_past, sections_with, sorted_past, before_tables}
 use Rattle.job_text.proofs.SingleTables.{IsTable, expressions_if_any, table_is_text, pairs_past_table, sections_with_table}
 use Rattle.job_text.proofs.SingleTables.{sorted_past_table, before_table}
@@ -177,55 +180,132 @@ lines_of_event : (o : Option (List ℕ)) (e : EventPartView) → header (codes "
 lines_of_event None e = simp (append_assoc, append-nil)
 lines_of_event (Some bytes) e = simp (append_assoc, append-nil)
 
--- The table of a network
-network_rest : Option (List ℕ) → NetworkPartView → Members
-network_rest o n = member (codes "id") (integer (pos n.id)) (network_last o n)
+-- All of a list: its first and the others
+each : {X : Type 0} (P : X → Type 0) (x : X) (xs : List X) → All P (x ∷ xs) → P x × All P xs
+each P x xs h = (h 0 x (omega arith), λ k d less. h (suc k) d (omega (arith, less)))
 
-rest_of_network : (o : Option (List ℕ)) (n : NetworkPartView) → Fits n.id → AreScalars (network_rest o n)
-unfolding key_text network_rest
+-- The table of another transport stream of a network
+network_stream_scalars : (s : TransportStreamView) → FitsNetworkStream s → AreScalars (network_stream_table s)
+unfolding key_text
+network_stream_scalars s h =
+    hex_scalars s.descriptors (network_stream_ids s)
+    (refl, small s.original_network_id h.original_network_id, (refl, small s.transport_stream_id h.transport_stream_id, tt))
+
+network_stream_sorted : (s : TransportStreamView) → members_are_sorted (network_stream_table s) ≡ true
+network_stream_sorted s = hex_sorted s.descriptors (network_stream_ids s) refl refl
+
+lines_of_network_stream : (s : TransportStreamView) → header (codes "network.stream") ++ noted_lines [] [] (network_stream_table s) ≡ network_stream_text s
+lines_of_network_stream s = rw (own_hex [] [] s.descriptors (network_stream_ids s) refl) (simp (append_assoc, append-nil))
+
+network_stream_tables : (ss : List TransportStreamView) → All FitsNetworkStream ss → AreTables (map network_stream_table ss)
+network_stream_tables [] h = tt
+network_stream_tables (s ∷ ss) h =
+    let e = each FitsNetworkStream s ss h in (network_stream_scalars s e.0, network_stream_sorted s, network_stream_tables ss e.1)
+
+network_streams_are_text : (ss : List TransportStreamView) → All FitsNetworkStream ss
+    → AreCommented true (elements (codes "network" ∷ [], codes "stream") (elements_of (map network_stream_table ss))) (flat_map network_stream_text ss)
+unfolding key_text
+network_streams_are_text ss h =
+    elements_are_text (codes "network" ∷ [], codes "stream") (codes "network.stream") [] network_stream_table (λ s. []) network_stream_text ss
+    (record { text = refl; short = omega arith }) (λ s. no_tail) lines_of_network_stream (network_stream_tables ss h)
+
+-- The table of a network: its own keys
+rest_of_network : (o : Option (List ℕ)) (n : NetworkPartView) → Fits n.id → AreScalars (network_rest o n no_members)
+unfolding key_text
 rest_of_network None n h = (refl, small n.id h, (refl, tt, tt))
 rest_of_network (Some bytes) n h = (refl, small n.id h, (refl, tt, tt))
 
-network_scalars : (n : NetworkPartView) → Fits n.id → AreScalars (network_table n)
-unfolding network_rest
-network_scalars n h = hex_scalars n.descriptors (network_rest n.network_descriptors n) (rest_of_network n.network_descriptors n h)
+own_network : (n : NetworkPartView) → Fits n.id → AreScalars (network_members n no_members)
+own_network n h = hex_scalars n.descriptors (network_rest n.network_descriptors n no_members) (rest_of_network n.network_descriptors n h)
 
-rest_sorted_of : (o : Option (List ℕ)) (n : NetworkPartView) → members_are_sorted (network_rest o n) ≡ true
-unfolding network_rest
-rest_sorted_of None n = refl
-rest_sorted_of (Some bytes) n = refl
-
-network_sorted : (n : NetworkPartView) → members_are_sorted (network_table n) ≡ true
-unfolding network_rest
-network_sorted n = hex_sorted n.descriptors (network_rest n.network_descriptors n) refl (rest_sorted_of n.network_descriptors n)
-
-lines_of_rest : (o : Option (List ℕ)) (n : NetworkPartView) → noted_lines (codes "network_descriptors") (name_note n.name) (network_rest o n)
+lines_of_rest : (o : Option (List ℕ)) (n : NetworkPartView) → noted_lines (codes "network_descriptors") (name_note n.name) (network_rest o n no_members)
     ≡ number_line (codes "id", n.id) ++ network_names o n
-unfolding network_rest
 lines_of_rest None n = simp append-nil
 lines_of_rest (Some bytes) n = simp append-nil
 
 lines_of_network : (n : NetworkPartView) →
-    table_header (codes "network") ++ noted_lines (codes "network_descriptors") (name_note n.name) (network_table n) ≡ network_text n
-unfolding network_rest
+    table_header (codes "network") ++ noted_lines (codes "network_descriptors") (name_note n.name) (network_members n no_members) ≡ network_own n
 lines_of_network n =
     rw (
-      own_hex (codes "network_descriptors") (name_note n.name) n.descriptors (network_rest n.network_descriptors n) refl,
+      own_hex (codes "network_descriptors") (name_note n.name) n.descriptors (network_rest n.network_descriptors n no_members) refl,
       lines_of_rest n.network_descriptors n,
     ) refl
+
+-- its keys before its transport streams
+rest_pairs : (o : Option (List ℕ)) (n : NetworkPartView) (more : Members) → pairs more ≡ [] → pairs (network_rest o n more) ≡ pairs (network_rest o n no_members)
+rest_pairs None n more none = rw none refl
+rest_pairs (Some bytes) n more none = rw none refl
+
+hex_pairs : (bytes : List ℕ) (some none : Members) → pairs some ≡ pairs none →
+    pairs (with_hex (codes "descriptors") bytes some) ≡ pairs (with_hex (codes "descriptors") bytes none)
+hex_pairs [] some none same = ap pairs (hex_none some) ∙ (same ∙ sym (ap pairs (hex_none none)))
+hex_pairs (b ∷ bytes) some none same =
+    ap pairs (hex_some b bytes some)
+    ∙ (ap (λ (es : List Expression). (([], codes "descriptors"), key_value (string (encode_lower (b ∷ bytes)))) ∷ es) same
+    ∙ sym (ap pairs (hex_some b bytes none)))
+
+rest_sections : (path : List (List ℕ)) (o : Option (List ℕ)) (n : NetworkPartView) (more : Members) → sections path (network_rest o n more) ≡ sections path more
+rest_sections path None n more = refl
+rest_sections path (Some bytes) n more = refl
+
+hex_sections : (path : List (List ℕ)) (bytes : List ℕ) (more : Members) → sections path (with_hex (codes "descriptors") bytes more) ≡ sections path more
+hex_sections path [] more = ap (sections path) (hex_none more)
+hex_sections path (b ∷ bytes) more = ap (sections path) (hex_some b bytes more)
+
+hex_headed : (bytes : List ℕ) (more : Members) → needs_header more ≡ true → needs_header (with_hex (codes "descriptors") bytes more) ≡ true
+hex_headed [] more h = ap needs_header (hex_none more) ∙ h
+hex_headed (b ∷ bytes) more h = ap needs_header (hex_some b bytes more)
+
+network_expressions : (n : NetworkPartView) (ts : List Members) →
+    pairs (network_members n (with_tables (codes "stream") ts no_members))
+    ++ sections (codes "network" ∷ []) (network_members n (with_tables (codes "stream") ts no_members))
+    ≡ pairs (network_members n no_members) ++ elements (codes "network" ∷ [], codes "stream") (elements_of ts)
+network_expressions n ts =
+    let path = codes "network" ∷ [] in
+    let more = with_tables (codes "stream") ts no_members in
+    let rest = network_rest n.network_descriptors n more in
+    let own = rest_pairs n.network_descriptors n more (pairs_past (codes "stream") ts no_members) in
+    ap₂ (λ (xs ys : List Expression). xs ++ ys)
+    (hex_pairs n.descriptors rest (network_rest n.network_descriptors n no_members) own)
+    (hex_sections path n.descriptors rest
+    ∙ (rest_sections path n.network_descriptors n more
+    ∙ (sections_with path (codes "stream") ts no_members ∙ append-nil (elements (path, codes "stream") (elements_of ts)))))
+
+-- its keys in order
+last_sorted : (ts : List Members) → AreTables ts → members_are_sorted (with_tables (codes "stream") ts no_members) ≡ true
+last_sorted ts h = sorted_past (codes "stream") ts no_members refl h
+
+rest_sorted_of : (o : Option (List ℕ)) (n : NetworkPartView) (ts : List Members) → AreTables ts →
+    members_are_sorted (network_rest o n (with_tables (codes "stream") ts no_members)) ≡ true
+rest_sorted_of None n ts h = rw (before_tables (codes "name") (codes "stream") ts no_members refl refl, last_sorted ts h) refl
+rest_sorted_of (Some bytes) n ts h = rw (before_tables (codes "network_descriptors") (codes "stream") ts no_members refl refl, last_sorted ts h) refl
+
+network_sorted : (n : NetworkPartView) → All FitsNetworkStream n.streams → members_are_sorted (network_table n) ≡ true
+network_sorted n h =
+    hex_sorted n.descriptors (network_rest n.network_descriptors n (with_tables (codes "stream") (map network_stream_table n.streams) no_members)) refl
+    (rest_sorted_of n.network_descriptors n (map network_stream_table n.streams) (network_stream_tables n.streams h))
 
 -- The table of a network, if there is a network
 network_table_fits : (n : Option NetworkPartView) → FitsNetwork n → IsTable (option_map network_table n)
 network_table_fits None h = tt
-network_table_fits (Some n) h = (network_scalars n h, network_sorted n)
+network_table_fits (Some n) h = network_sorted n h.streams
 
 network_is_text : (n : Option NetworkPartView) → FitsNetwork n →
     AreCommented true (expressions_if_any (codes "network") (option_map network_table n)) (network_if_any n)
 unfolding key_text
 network_is_text None h = refl
 network_is_text (Some n) h =
-    subst (λ (t : List ℕ). AreCommented true (expressions_if_any (codes "network") (Some (network_table n))) t) (lines_of_network n)
-    (table_is_text (codes "network") (codes "network_descriptors") (name_note n.name) (network_table n) refl (name_tail n.name) (network_scalars n h))
+    let ts = map network_stream_table n.streams in
+    let own = noted_lines (codes "network_descriptors") (name_note n.name) (network_members n no_members) in
+    let others = flat_map network_stream_text n.streams in
+    let es = elements (codes "network" ∷ [], codes "stream") (elements_of ts) in
+    let keys = noted_are_text true (codes "network_descriptors") (name_note n.name) (network_members n no_members) (name_tail n.name) (own_network n h.id) in
+    let both = commented_both true (pairs (network_members n no_members)) es own others keys (network_streams_are_text n.streams h.streams) in
+    let head = hex_headed n.descriptors (network_rest n.network_descriptors n (with_tables (codes "stream") ts no_members)) refl in
+    let whole : table_header (codes "network") ++ (own ++ others) ≡ network_text n =
+    sym (append_assoc (table_header (codes "network")) own others) ∙ ap (λ (t : List ℕ). t ++ others) (lines_of_network n) in
+    subst (λ (t : List ℕ). AreCommented true (expressions_if_any (codes "network") (Some (network_table n))) t) whole
+    (table_is_text (codes "network") (network_table n) (pairs (network_members n no_members) ++ es) (own ++ others) refl head (network_expressions n ts) both)
 
 -- The table of a program
 clock_scalars : (p : ProgramPartView) (more : Members) → FitsProgram p → AreScalars more → AreScalars (with_clock p more)
@@ -477,9 +557,6 @@ lines_of_private : (t : TablePartView) → header (codes "table") ++ noted_lines
 lines_of_private t = simp (append_assoc, append-nil)
 
 -- Lists of events, programs and streams
-each : {X : Type 0} (P : X → Type 0) (x : X) (xs : List X) → All P (x ∷ xs) → P x × All P xs
-each P x xs h = (h 0 x (omega arith), λ k d less. h (suc k) d (omega (arith, less)))
-
 event_tables : (es : List EventPartView) → All FitsEvent es → AreTables (map event_table es)
 event_tables [] h = tt
 event_tables (e ∷ es) h = let f = each FitsEvent e es h in (event_scalars e.descriptors e f.0, event_sorted e.descriptors e, event_tables es f.1)
@@ -588,11 +665,11 @@ whole_sections : (h : HeadingView) (es : List Members) (n : Option Members) (ts 
 whole_sections h es n ts us ws =
     rw (
       any_sections (codes "clock_pid") h.clock_pid (after_clock h es n ts us ws),
-      sections_with (codes "event") es (after_events h n ts us ws),
+      sections_with [] (codes "event") es (after_events h n ts us ws),
       sections_with_table (codes "network") n (after_network h ts us ws),
-      sections_with (codes "program") ts (after_programs h us ws),
-      sections_with (codes "stream") us (after_streams h ws),
-      sections_with (codes "table") ws (after_tables h),
+      sections_with [] (codes "program") ts (after_programs h us ws),
+      sections_with [] (codes "stream") us (after_streams h ws),
+      sections_with [] (codes "table") ws (after_tables h),
       set_sections (codes "transponder") h.transponder (after_flag h),
     )
 
@@ -605,27 +682,27 @@ unfolding key_text
 last_is_text qs w =
     subst (λ (es : List Expression). AreCommented true es (flat_map table_text qs))
     (sym (append-nil (elements ([], codes "table") (elements_of (map table_table qs)))))
-    (elements_are_text (codes "table") [] table_table (λ t. []) table_text qs refl (λ t. no_tail) lines_of_private (private_tables qs w))
+    (elements_are_text ([], codes "table") (codes "table") [] table_table (λ t. []) table_text qs (record { text = refl; short = omega arith }) (λ t. no_tail) lines_of_private (private_tables qs w))
 
 streams_are_text : (ss : List StreamPartView) → All FitsStream ss
     → AreCommented true (elements ([], codes "stream") (elements_of (map stream_table ss))) (flat_map stream_text ss)
 unfolding key_text
 streams_are_text ss h =
-    elements_are_text (codes "stream") (codes "type") stream_table (λ s. type_note s.stream_type s.said) stream_text ss refl
+    elements_are_text ([], codes "stream") (codes "stream") (codes "type") stream_table (λ s. type_note s.stream_type s.said) stream_text ss (record { text = refl; short = omega arith })
     (λ s. type_tail s.stream_type s.said) lines_of_stream (stream_tables ss h)
 
 programs_are_text : (ps : List ProgramPartView) → All FitsProgram ps
     → AreCommented true (elements ([], codes "program") (elements_of (map program_table ps))) (flat_map program_text ps)
 unfolding key_text
 programs_are_text ps h =
-    elements_are_text (codes "program") (codes "service_descriptors") program_table (λ p. name_note p.name) program_text ps refl
+    elements_are_text ([], codes "program") (codes "program") (codes "service_descriptors") program_table (λ p. name_note p.name) program_text ps (record { text = refl; short = omega arith })
     (λ p. name_tail p.name) lines_of_program (program_tables ps h)
 
 events_are_text : (es : List EventPartView) → All FitsEvent es
     → AreCommented true (elements ([], codes "event") (elements_of (map event_table es))) (flat_map event_text es)
 unfolding key_text
 events_are_text es h =
-    elements_are_text (codes "event") (codes "descriptors") event_table (λ e. name_note e.name) event_text es refl
+    elements_are_text ([], codes "event") (codes "event") (codes "descriptors") event_table (λ e. name_note e.name) event_text es (record { text = refl; short = omega arith })
     (λ e. name_tail e.name) (λ e. lines_of_event e.descriptors e) (event_tables es h)
 
 arrays_are_text : (ps : List ProgramPartView) (ss : List StreamPartView) (qs : List TablePartView) → All FitsProgram ps → All FitsStream ss → All FitsTable qs

@@ -1,10 +1,9 @@
 -- The text after a number is a comment, and ends its line.
-use Rattle.std.proofs.Common.{◌≡◌, ℕ, zero, suc, ◌+◌, ◌/◌, ◌%◌, ◌*◌, ◌==◌, ◌≤◌, nat_le, nat_lt, Bool, true, false, List, [], ◌∷◌, ◌++◌, ◌||◌, ◌&&◌, if◌then◌else◌}
-use Rattle.std.proofs.Common.{length, map, flat_map, codes, decimal, encode_utf8}
+use Rattle.std.proofs.Common.{◌≡◌, ℕ, zero, suc, ◌+◌, ◌/◌, ◌%◌, ◌*◌, ◌==◌, ◌≤◌, nat_le, nat_lt, not, Bool, true, false, List, [], ◌∷◌, ◌++◌, ◌||◌, ◌&&◌, if◌then◌else◌}
+use Rattle.std.proofs.Common.{length, map, codes, decimal}
 use Rattle.std.proofs.Common.{refl, sym, ap, ◌∙◌, subst, arith, append_assoc, pos, negsuc, Some, inl, inr, ◌⊎◌}
 use Rattle.std.proofs.lemmas.Bool.{and_parts, and_from, cond_both, le-leb, leb-true}
 use Rattle.std.proofs.lemmas.Bool.Decides.{nat_tests}
-use Rattle.std.proofs.lemmas.Str.{encode_ascii}
 use Rattle.std.specs.List.{list_all, list_any}
 use Rattle.std.specs.Fmt.{digit_glyph, digits, digits_onto}
 use Rattle.toml_parser.specs.Lexical.{first, skip_ws, skip_from, skip_blank, skip_turn}
@@ -14,8 +13,8 @@ use Rattle.toml.specs.Parse.{ends_line}
 use Rattle.toml.proofs.Blanks.{skip_newline}
 use Rattle.job_text.specs.declared.measure.Measure.{Measure}
 use Rattle.job_text.specs.declared.measure.Measure.TheVariants.{Plain, Ticks, Clock, BitRate, Bytes, Milliseconds, Seconds, ServiceType}
-use Rattle.job_text.specs.Notes.{group, grouped, is_shown, measure_of, name_note, note, note_if_any, note_of, number_note, quotient, service_type_name}
-use Rattle.job_text.specs.Notes.{shown_byte, stream_type_name, thousandths, two_digits, type_note}
+use Rattle.job_text.specs.Notes.{group, grouped, is_named, is_shown, measure_of, name_note, note, note_if_any, note_of, number_note, quotient, service_type_name}
+use Rattle.job_text.specs.Notes.{stream_type_name, thousandths, two_digits, type_note}
 use Rattle.job_text.specs.ProfileWords.{said_words}
 use Rattle.stream_coding.specs.declared.profiles.ProfileLevel.{ProfileLevel}
 use Rattle.job_text.specs.Laws.{NotesAreShown}
@@ -147,43 +146,45 @@ type_is n said =
     cond_both (length (stream_type_name n) == 0) [] (note (stream_type_name n ++ said_words said)) IsNote (λ _. inl refl)
     (λ _. is_note (stream_type_name n ++ said_words said) (shown_both (stream_type_name n) (said_words said) (stream_name_shown n) (said_shown said)))
 
--- The note beside descriptors
-pub shown_alone : (b : ℕ) → (nat_le 32 b && nat_le b 126) ≡ true → encode_utf8 b ≡ b ∷ []
-shown_alone b h = let most = leb-true b 126 (and_parts (nat_le 32 b) (nat_le b 126) h).1 in encode_ascii b (omega (arith, most))
+-- Printable ASCII has no control character.
+abbrev Named : List ℕ → Type 0
+Named xs = list_all is_named xs ≡ true
 
-byte_shown : (b : ℕ) → Shown (shown_byte b)
-unfolding shown_byte
-byte_shown b =
-    cond_both (is_shown b) (b ∷ []) _ Shown (λ h. and_from (is_shown b) true h refl)
-    (λ _. cond_both (nat_le 0xC0 b) (codes "?") [] Shown (λ _. refl) (λ _. refl))
-
-bytes_shown : (bytes : List ℕ) → Shown (flat_map shown_byte bytes)
-bytes_shown [] = refl
-bytes_shown (b ∷ bytes) = shown_both (shown_byte b) (flat_map shown_byte bytes) (byte_shown b) (bytes_shown bytes)
-
-name_is : (name : List ℕ) → IsNote (name_note name)
-unfolding name_note
-name_is name =
-    cond_both (length name == 0) [] (note (flat_map shown_byte name)) IsNote (λ _. inl refl)
-    (λ _. is_note (flat_map shown_byte name) (bytes_shown name))
-
--- 3. A note ends its line
-
-shown_goes_on : (c next : ℕ) → is_shown c ≡ true → skip_turn true true c next ≡ Some true
-shown_goes_on c next h =
+byte_named : (c : ℕ) → is_shown c ≡ true → is_named c ≡ true
+byte_named c h =
     let parts = and_parts (nat_le 32 c) (nat_le c 126) h in
     let low : 32 ≤ c = leb-true 32 c parts.0 in
     let high : c ≤ 126 = leb-true c 126 parts.1 in
     grind (arith, nat_tests)
 
-words_skipped : (words rest : List ℕ) → Shown words → skip_from true true (words ++ 10 ∷ rest) ≡ skip_blank rest
+shown_named : (xs : List ℕ) → Shown xs → Named xs
+shown_named [] h = refl
+shown_named (c ∷ xs) h =
+    let parts = and_parts (is_shown c) (list_all is_shown xs) h in
+    and_from (is_named c) (list_all is_named xs) (byte_named c parts.0) (shown_named xs parts.1)
+
+-- The note beside descriptors has none either.
+name_named : (name : List ℕ) → Named (name_note name)
+unfolding name_note
+name_named name =
+    cond_both (length name == 0) [] _ Named (λ _. refl) (λ _. cond_both (list_all is_named name) (note name) [] Named (λ h. h) (λ _. refl))
+
+-- 3. A note ends its line
+
+named_goes_on : (c next : ℕ) → is_named c ≡ true → skip_turn true true c next ≡ Some true
+named_goes_on c next h =
+    let parts = and_parts (nat_le 32 c) (not (c == 127)) h in
+    let low : 32 ≤ c = leb-true 32 c parts.0 in
+    grind (arith, nat_tests)
+
+words_skipped : (words rest : List ℕ) → Named words → skip_from true true (words ++ 10 ∷ rest) ≡ skip_blank rest
 unfolding skip_from
 words_skipped [] rest h = refl
 words_skipped (c ∷ words) rest h =
-    let parts = and_parts (is_shown c) (list_all is_shown words) h in
-    rw (shown_goes_on c (first (words ++ 10 ∷ rest)) parts.0) (words_skipped words rest parts.1)
+    let parts = and_parts (is_named c) (list_all is_named words) h in
+    rw (named_goes_on c (first (words ++ 10 ∷ rest)) parts.0) (words_skipped words rest parts.1)
 
-note_skipped : (words rest : List ℕ) → Shown words → skip_blank (note words ++ 10 ∷ rest) ≡ skip_blank rest
+note_skipped : (words rest : List ℕ) → Named words → skip_blank (note words ++ 10 ∷ rest) ≡ skip_blank rest
 unfolding skip_from
 note_skipped words rest h = words_skipped words rest h
 
@@ -196,7 +197,7 @@ note_ends rest = rw (skip_ws_space (35 ∷ rest), skip_ws_none (35 ∷ rest) ref
 newline_tail : IsTail (10 ∷ [])
 newline_tail = record { stops = λ rest. ((refl, refl), (refl, refl)); ends = newline_ends; skipped = skip_newline }
 
-words_tail : (words : List ℕ) → Shown words → IsTail (note words ++ 10 ∷ [])
+words_tail : (words : List ℕ) → Named words → IsTail (note words ++ 10 ∷ [])
 words_tail words h = record {
   stops = λ rest. ((refl, refl), (refl, refl));
   ends = λ rest. note_ends (32 ∷ ((words ++ 10 ∷ []) ++ rest));
@@ -205,7 +206,7 @@ words_tail words h = record {
 
 tail_of : (text : List ℕ) → IsNote text → IsTail (text ++ 10 ∷ [])
 tail_of text (inl none) = rw none newline_tail
-tail_of text (inr (words, is, h)) = rw is (words_tail words h)
+tail_of text (inr (words, is, h)) = rw is (words_tail words (shown_named words h))
 
 pub note_tail : (key : List ℕ) (d : Data) → IsTail (note_of key d ++ 10 ∷ [])
 note_tail key d = tail_of (note_of key d) (note_is key d)
@@ -214,7 +215,10 @@ pub no_tail : IsTail (10 ∷ [])
 no_tail = tail_of [] (inl refl)
 
 pub name_tail : (name : List ℕ) → IsTail (name_note name ++ 10 ∷ [])
-name_tail name = tail_of (name_note name) (name_is name)
+unfolding name_note
+name_tail name =
+    cond_both (length name == 0) [] _ (λ text. IsTail (text ++ 10 ∷ [])) (λ _. newline_tail)
+    (λ _. cond_both (list_all is_named name) (note name) [] (λ text. IsTail (text ++ 10 ∷ [])) (words_tail name) (λ _. newline_tail))
 
 pub type_tail : (n : ℕ) (said : ProfileLevel) → IsTail (type_note n said ++ 10 ∷ [])
 type_tail n said = tail_of (type_note n said) (type_is n said)
@@ -228,5 +232,5 @@ pub notes_are_shown : NotesAreShown
 notes_are_shown = (
   λ key d. shown_of (note_of key d) (note_is key d),
   λ n said. shown_of (type_note n said) (type_is n said),
-  λ name. shown_of (name_note name) (name_is name),
+  name_named,
 )

@@ -2,6 +2,7 @@
 use Rattle.std.specs.Prelude.{ℕ, Bool, List, Option, option_map, map}
 use Rattle.unit_timing.specs.declared.allowance.Allowance.{Allowance}
 use Rattle.unit_timing.specs.declared.multiplexing_buffer.MultiplexingBuffer.{MultiplexingBuffer}
+use Rattle.dvb_tables.specs.TransportStreams.{TransportStreamView}
 use Rattle.stream_coding.specs.declared.profiles.ProfileLevel.{ProfileLevel}
 use Rattle.job_text.specs.declared.event_part.EventPart.{EventPart}
 use Rattle.job_text.specs.declared.framing_part.FramingPart.{FramingPart}
@@ -37,6 +38,7 @@ pub record NetworkPartView : Type 0 where
   pub name : List ℕ
   pub network_descriptors : Option (List ℕ)
   pub descriptors : List ℕ
+  pub streams : List TransportStreamView
 
 pub record ProgramPartView : Type 0 where
   pub number : ℕ
@@ -113,6 +115,7 @@ network_view n = record {
   name = n.name.now;
   network_descriptors = option_map (λ b. b.now) n.network_descriptors;
   descriptors = n.descriptors.now;
+  streams = n.streams.now;
 }
 
 abbrev pub program_view : ProgramPart → ProgramPartView

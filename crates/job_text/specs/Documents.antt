@@ -1,12 +1,13 @@
 -- The texts as tables of TOML.
-use Rattle.std.specs.Prelude.{ℕ, pos, List, [], ◌∷◌, codes, Option, Some, None}
+use Rattle.std.specs.Prelude.{ℕ, pos, List, [], ◌∷◌, map, codes, Option, Some, None}
+use Rattle.dvb_tables.specs.TransportStreams.{TransportStreamView}
 use Rattle.hex.specs.Hex.{encode_lower}
 use Rattle.toml.specs.Data.{string, integer, boolean, array, table, Items, no_items, item, Members, no_members, member}
 use Rattle.unit_timing.specs.declared.allowance.Allowance.{Allowance}
 use Rattle.unit_timing.specs.declared.multiplexing_buffer.MultiplexingBuffer.{MultiplexingBuffer}
 use Rattle.job_text.specs.DescriptionParts.{EventPartView, FramingPartView, HeadingView, NetworkPartView, ProgramPartView, StreamPartView, TablePartView}
 use Rattle.job_text.specs.KeyLines.{with_numbers, number_if_any, with_set, with_hex, with_list, digits_of}
-use Rattle.job_text.specs.Fields.{program_numbers, burst_numbers, frame_numbers, rest_numbers, group_numbers, time_numbers, size_numbers, pace_numbers}
+use Rattle.job_text.specs.Fields.{network_stream_numbers, program_numbers, burst_numbers, frame_numbers, rest_numbers, group_numbers, time_numbers, size_numbers, pace_numbers}
 use Rattle.job_text.specs.Fields.{place_numbers, leak_numbers, drain_numbers, last_numbers, table_numbers}
 
 -- tables as the elements of an array
@@ -44,14 +45,26 @@ event_members (Some bytes) e =
 abbrev pub event_table : EventPartView → Members
 event_table e = event_members e.descriptors e
 
--- for a network: its name, or all of its descriptors, and all keys
-abbrev pub network_last : Option (List ℕ) → NetworkPartView → Members
-network_last None n = member (codes "name") (string n.name) no_members
-network_last (Some bytes) n = member (codes "network_descriptors") (string (encode_lower bytes)) no_members
+-- for another transport stream of a network: its numbers, and all keys
+abbrev pub network_stream_ids : TransportStreamView → Members
+network_stream_ids s = with_numbers (network_stream_numbers s) no_members
+
+abbrev pub network_stream_table : TransportStreamView → Members
+network_stream_table s = with_hex (codes "descriptors") s.descriptors (network_stream_ids s)
+
+-- for a network before its transport streams: its name, or all of its descriptors, the keys from its number on, and all keys
+abbrev pub network_last : Option (List ℕ) → NetworkPartView → Members → Members
+network_last None n more = member (codes "name") (string n.name) more
+network_last (Some bytes) n more = member (codes "network_descriptors") (string (encode_lower bytes)) more
+
+abbrev pub network_rest : Option (List ℕ) → NetworkPartView → Members → Members
+network_rest o n more = member (codes "id") (integer (pos n.id)) (network_last o n more)
+
+abbrev pub network_members : NetworkPartView → Members → Members
+network_members n more = with_hex (codes "descriptors") n.descriptors (network_rest n.network_descriptors n more)
 
 abbrev pub network_table : NetworkPartView → Members
-network_table n =
-    with_hex (codes "descriptors") n.descriptors (member (codes "id") (integer (pos n.id)) (network_last n.network_descriptors n))
+network_table n = network_members n (with_tables (codes "stream") (map network_stream_table n.streams) no_members)
 
 -- for a program: the keys after its clock, with the keys of its service or with all descriptors of its service, and all keys
 abbrev pub program_service : ProgramPartView → Members

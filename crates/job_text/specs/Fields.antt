@@ -1,9 +1,17 @@
 -- The numbers of a description's parts, each with its key, in the order of the keys.
 use Rattle.std.specs.Prelude.{ℕ, List, [], ◌∷◌, Option, None, Some, codes}
+use Rattle.dvb_tables.specs.TransportStreams.{TransportStreamView}
 use Rattle.unit_timing.specs.declared.allowance.Allowance.{Allowance}
 use Rattle.unit_timing.specs.declared.allowance.Allowance.TheVariants.{Groups, Pace}
 use Rattle.unit_timing.specs.declared.multiplexing_buffer.MultiplexingBuffer.{MultiplexingBuffer}
 use Rattle.job_text.specs.DescriptionParts.{FramingPartView, ProgramPartView, StreamPartView, TablePartView}
+
+-- another transport stream of a network: its numbers
+abbrev pub network_ids : ℕ → ℕ → List (List ℕ × ℕ)
+network_ids original id = (codes "original_network_id", original) ∷ (codes "ts_id", id) ∷ []
+
+abbrev pub network_stream_numbers : TransportStreamView → List (List ℕ × ℕ)
+network_stream_numbers s = network_ids s.original_network_id s.transport_stream_id
 
 -- the numbers of a program, between its name and the PID of its clock references
 abbrev pub program_numbers : ProgramPartView → List (List ℕ × ℕ)

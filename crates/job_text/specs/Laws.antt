@@ -3,11 +3,12 @@ use Rattle.std.specs.Prelude.{◌≡◌, ◌<◌, ◌^◌, ℕ, true, List, ◌+
 use Rattle.std.specs.List.{flat_map, list_all}
 use Rattle.toml.specs.Data.{Data}
 use Rattle.toml.specs.Parse.{parse_document}
+use Rattle.dvb_tables.specs.TransportStreams.{TransportStreamView}
 use Rattle.unit_timing.specs.declared.allowance.Allowance.{Allowance}
 use Rattle.unit_timing.specs.declared.allowance.Allowance.TheVariants.{Groups, Pace}
 use Rattle.unit_timing.specs.declared.multiplexing_buffer.MultiplexingBuffer.{MultiplexingBuffer}
 use Rattle.job_text.specs.DescriptionParts.{EventPartView, FramingPartView, HeadingView, NetworkPartView, ProgramPartView, StreamPartView, TablePartView}
-use Rattle.job_text.specs.Notes.{is_shown, name_note, note_of, type_note}
+use Rattle.job_text.specs.Notes.{is_named, is_shown, name_note, note_of, type_note}
 use Rattle.stream_coding.specs.declared.profiles.ProfileLevel.{ProfileLevel}
 use Rattle.job_text.specs.Documents.{document, event_table, network_table, program_table, stream_table, table_table}
 use Rattle.job_text.specs.Texts.{event_text, heading_text, network_if_any, program_text, stream_text, table_text}
@@ -30,9 +31,18 @@ pub record FitsEvent (e : EventPartView) : Type 0 where
   pub id : Fits e.id
   pub program : Fits e.program
 
--- the number of a network, if there is one, is TOML's
+-- the numbers of another transport stream of a network are TOML's
+pub record FitsNetworkStream (s : TransportStreamView) : Type 0 where
+  pub transport_stream_id : Fits s.transport_stream_id
+  pub original_network_id : Fits s.original_network_id
+
+-- the numbers of a network, if there is one, are TOML's
+pub record FitsNetworkPart (n : NetworkPartView) : Type 0 where
+  pub id : Fits n.id
+  pub streams : All FitsNetworkStream n.streams
+
 abbrev pub FitsNetwork : Option NetworkPartView → Type 0
-FitsNetwork n = IfSome n (λ n. Fits n.id)
+FitsNetwork n = IfSome n FitsNetworkPart
 
 -- the numbers of a program are TOML's
 pub record FitsProgram (p : ProgramPartView) : Type 0 where
@@ -93,9 +103,9 @@ TextsAreRead =
     (heading_text h ++ (flat_map event_text es ++ (network_if_any n ++ (flat_map program_text ps ++ (flat_map stream_text ss ++ flat_map table_text ts)))))
     ≡ Some (document h (map event_table es) (option_map network_table n) (map program_table ps) (map stream_table ss) (map table_table ts))
 
--- the comments beside a value, beside a stream_type and beside descriptors are printable ASCII
+-- the comments beside a value and beside a stream_type are printable ASCII, and those beside descriptors have no control character
 abbrev pub NotesAreShown : Type 0
 NotesAreShown =
     ((key : List ℕ) (value : Data) → list_all is_shown (note_of key value) ≡ true)
     × ((stream_type : ℕ) (said : ProfileLevel) → list_all is_shown (type_note stream_type said) ≡ true)
-    × ((name : List ℕ) → list_all is_shown (name_note name) ≡ true)
+    × ((name : List ℕ) → list_all is_named (name_note name) ≡ true)

@@ -1,6 +1,6 @@
 -- The comments of TOML that explain numbers to people.
-use Rattle.std.specs.Prelude.{ℕ, pos, ◌*◌, ◌/◌, ◌%◌, ◌==◌, ◌&&◌, nat_le, nat_lt, Bool, if◌then◌else◌, List, [], ◌∷◌, ◌++◌, length, flat_map, bytes_eq, codes, decimal}
-use Rattle.std.specs.List.{list_any}
+use Rattle.std.specs.Prelude.{ℕ, pos, ◌*◌, ◌/◌, ◌%◌, ◌==◌, ◌&&◌, nat_le, nat_lt, not, Bool, if◌then◌else◌, List, [], ◌∷◌, ◌++◌, length, bytes_eq, codes, decimal}
+use Rattle.std.specs.List.{list_all, list_any}
 use Rattle.toml.specs.Data.{Data, integer}
 use Rattle.job_text.specs.declared.measure.Measure.{Measure}
 use Rattle.job_text.specs.declared.measure.Measure.TheVariants.{Plain, Ticks, Clock, BitRate, Bytes, Milliseconds, Seconds, ServiceType}
@@ -114,13 +114,13 @@ number_note ServiceType n = note_if_any (service_type_name n)
 unfoldable pub type_note : ℕ → ProfileLevel → List ℕ
 type_note n said = if length (stream_type_name n) == 0 then [] else note (stream_type_name n ++ said_words said)
 
--- a byte of a name as printable ASCII: a question mark in place of the first byte of any other character, and nothing in place of its further bytes
-unfoldable pub shown_byte : ℕ → List ℕ
-shown_byte b = if is_shown b then b ∷ [] else (if nat_le 0xC0 b then codes "?" else [])
+-- a byte of a name in a comment: TOML allows no control character there, and any other character of UTF-8
+abbrev pub is_named : ℕ → Bool
+is_named c = nat_le 32 c && not (c == 127)
 
--- beside descriptors: the name in them, if it has one
+-- beside descriptors: the name in them, if it has one without control characters
 unfoldable pub name_note : List ℕ → List ℕ
-name_note name = if length name == 0 then [] else note (flat_map shown_byte name)
+name_note name = if length name == 0 then [] else (if list_all is_named name then note name else [])
 
 -- a value that is no number has no comment
 abbrev pub note_of : List ℕ → Data → List ℕ

@@ -1,11 +1,13 @@
 -- The texts of a service description's parts: every key on its line, in ascending order.
 use Rattle.std.specs.Prelude.{ℕ, pos, List, [], ◌∷◌, ◌++◌, codes, Option, Some, None}
+use Rattle.std.specs.List.{flat_map}
+use Rattle.dvb_tables.specs.TransportStreams.{TransportStreamView}
 use Rattle.hex.specs.Hex.{encode_lower}
 use Rattle.toml.specs.Data.{string, integer, boolean, array}
 use Rattle.job_text.specs.DescriptionParts.{EventPartView, FramingPartView, HeadingView, NetworkPartView, ProgramPartView, StreamPartView, TablePartView}
 use Rattle.job_text.specs.KeyLines.{key_line, named_line, noted_line, number_line, number_lines, number_if_any, set_line, hex_line, list_line, digits_of, table_header, header}
 use Rattle.job_text.specs.Notes.{type_note}
-use Rattle.job_text.specs.Fields.{program_numbers, burst_numbers, frame_numbers, rest_numbers, group_numbers, time_numbers, size_numbers}
+use Rattle.job_text.specs.Fields.{network_stream_numbers, program_numbers, burst_numbers, frame_numbers, rest_numbers, group_numbers, time_numbers, size_numbers}
 use Rattle.job_text.specs.Fields.{pace_numbers, place_numbers, leak_numbers, drain_numbers, last_numbers, table_numbers}
 
 -- the keys of the document itself: its numbers up to the rate, the lines after its start, and all lines
@@ -47,11 +49,20 @@ abbrev pub network_names : Option (List ℕ) → NetworkPartView → List ℕ
 network_names None n = key_line (codes "name") (string n.name)
 network_names (Some bytes) n = named_line (codes "network_descriptors") bytes n.name
 
--- the table `network`, if there is one
-abbrev pub network_text : NetworkPartView → List ℕ
-network_text n =
+-- the keys of the table `network`; an element of the array `stream` in it; and the whole table, if there is one
+abbrev pub network_own : NetworkPartView → List ℕ
+network_own n =
     table_header (codes "network")
     ++ (hex_line (codes "descriptors") n.descriptors ++ (number_line (codes "id", n.id) ++ network_names n.network_descriptors n))
+
+abbrev pub network_stream_front : TransportStreamView → List ℕ
+network_stream_front s = header (codes "network.stream") ++ hex_line (codes "descriptors") s.descriptors
+
+abbrev pub network_stream_text : TransportStreamView → List ℕ
+network_stream_text s = network_stream_front s ++ number_lines (network_stream_numbers s)
+
+abbrev pub network_text : NetworkPartView → List ℕ
+network_text n = network_own n ++ flat_map network_stream_text n.streams
 
 abbrev pub network_if_any : Option NetworkPartView → List ℕ
 network_if_any None = []

@@ -2,9 +2,10 @@
 
 ghost use Rattle.std.specs.Prelude.{◌≡◌, ◌++◌, OnOk, string_bytes};
 ghost use Rattle.job_text.specs.DescriptionParts.{network_view};
-ghost use Rattle.job_text.specs.Texts.{network_names, network_text};
+ghost use Rattle.job_text.specs.Texts.{network_names, network_own, network_text};
 
 use crate::key_line::{write_hex, write_named, write_number, write_string, write_table_header};
+use crate::network_stream_part::{NetworkStreamPart, write_streams};
 use std::alloc::{AllocError, Allocator};
 
 /// The network of a description's network information table (EN 300 468, 5.2.1).
@@ -17,13 +18,24 @@ pub struct NetworkPart<'a> {
     pub network_descriptors: Option<&'a [u8]>,
     /// Whole descriptors of this transport stream in the table.
     pub descriptors: &'a [u8],
+    /// The other transport streams in the table.
+    pub streams: &'a [NetworkStreamPart],
 }
 
 impl NetworkPart<'_> {
     /// Appends an empty line, `[network]`, and its lines: every key, but `descriptors` only if there are any, and either
-    /// `name`, or `network_descriptors` with the name as a comment.
+    /// `name`, or `network_descriptors` with the name as a comment; then `[[network.stream]]` with the lines of each other
+    /// transport stream.
     pub fn write_text<A: Allocator + Clone>(&self, text: &mut String<A>) -> Result<(), AllocError>
         ensures { OnOk result (string_bytes text.new ≡ string_bytes text.old ++ network_text (network_view self.now)) }
+    {
+        self.write_own(text)?;
+        write_streams(self.streams, text)
+    }
+
+    // Appends the lines without other transport streams.
+    fn write_own<A: Allocator + Clone>(&self, text: &mut String<A>) -> Result<(), AllocError>
+        ensures { OnOk result (string_bytes text.new ≡ string_bytes text.old ++ network_own (network_view self.now)) }
     {
         write_table_header(text, "network")?;
         write_hex(text, "descriptors", self.descriptors)?;

@@ -1,6 +1,7 @@
 //! The comment beside a number, for people.
 
-ghost use Rattle.std.specs.Prelude.{◌≡◌, ◌/◌, ◌++◌, ◌<◌, ◌≤◌, OnOk, flat_map, string_bytes};
+ghost use Rattle.std.specs.Prelude.{◌≡◌, ◌/◌, ◌++◌, ◌<◌, ◌≤◌, OnOk, string_bytes};
+ghost use Rattle.std.specs.List.{list_all};
 ghost use Rattle.job_text.specs.Notes as spec;
 ghost use Rattle.job_text.specs.declared.measure.Measure.TheVariants.{Seconds};
 
@@ -182,33 +183,14 @@ fn write_name<A: Allocator>(text: &mut String<A>, name: &str) -> Result<(), Allo
     text.push_str(name)
 }
 
-// Appends a byte of a name, if it is printable ASCII, and a question mark in place of the first byte of any other
-// character.
-#[tactic(auto, using(crate::proofs::NoteLines::shown_alone), unfolding(crate::specs::Notes::shown_byte))]
-fn write_shown<A: Allocator>(text: &mut String<A>, byte: u8) -> Result<(), AllocError>
-    ensures { OnOk result (string_bytes text.new ≡ string_bytes text.old ++ spec.shown_byte byte) }
+// Returns whether a comment may have all these bytes.
+fn are_named(bytes: &[u8]) -> bool
+    ensures { result ≡ list_all spec.is_named bytes.now }
 {
-    if 32 <= byte && byte <= 126 {
-        return text.push(byte as char);
-    }
-    if 0xc0 <= byte {
-        text.push_str("?")
-    } else {
-        Ok(())
-    }
+    bytes.iter().all(|byte| 32 <= *byte && *byte != 127)
 }
 
-// Appends the bytes of a name as printable ASCII.
-fn write_all_shown<A: Allocator>(text: &mut String<A>, bytes: &[u8]) -> Result<(), AllocError>
-    ensures { OnOk result (string_bytes text.new ≡ string_bytes text.old ++ flat_map spec.shown_byte bytes.now) }
-{
-    for byte in bytes {
-        write_shown(text, *byte)?;
-    }
-    Ok(())
-}
-
-/// Appends the comment beside descriptors: the name in them, if it has a character.
+/// Appends the comment beside descriptors: the name in them, if it has characters and no control character.
 #[tactic(auto, unfolding(crate::specs::Notes::name_note))]
 pub(crate) fn write_name_note<A: Allocator>(
     text: &mut String<A>,
@@ -216,11 +198,11 @@ pub(crate) fn write_name_note<A: Allocator>(
 ) -> Result<(), AllocError>
     ensures { OnOk result (string_bytes text.new ≡ string_bytes text.old ++ spec.name_note name.now) }
 {
-    if name.is_empty() {
+    if name.is_empty() || !are_named(name.as_bytes()) {
         return Ok(());
     }
     text.push_str(" # ")?;
-    write_all_shown(text, name.as_bytes())
+    text.push_str(name)
 }
 
 /// Appends the comment beside a stream_type, if it has a name: its name, and what the headers of the stream say.
