@@ -38,12 +38,12 @@ moment_in d h (Some carousel) None st = absurd st
 moment_in d h None (Some kind) st = absurd st
 moment_in d h None None st = refl
 
-moment_is : (h : History) (m : MuxState) → Represents h m → moment_of_events m ≡ events_moment m.schedule h.changes h.slots
+pub moment_is : (h : History) (m : MuxState) → Represents h m → moment_of_events m ≡ events_moment m.schedule h.changes h.slots
 moment_is h m st = moment_in m.schedule h (slice_get m.carousels (events_table m.schedule.description))
     (slice_get (table_kinds m.schedule.description) (events_table m.schedule.description)) (st.tables (events_table m.schedule.description))
 
 -- What was sent
-sent_at : (h : History) (m : MuxState) → Represents h m → (n : ℕ) → get_or m.sent n false ≡ sent_of m.schedule h n
+pub sent_at : (h : History) (m : MuxState) → Represents h m → (n : ℕ) → get_or m.sent n false ≡ sent_of m.schedule h n
 sent_at h m st n = elim (cases_lt n sub_table_count) [
   | inl lt ↦ st.sent n lt ∙ sym (ap (λ (b : Bool). b && began_since m.schedule h.changes n (since_of h.changes n) h.slots) (lt-ltb n sub_table_count lt))
   | inr le ↦ get_or_past m.sent n false (omega (arith, le, st.sent_size))

@@ -105,7 +105,7 @@ begins_same d changes others t (suc s) =
     ap (λ (n : ℕ). cond ((table_over d changes t).own s && ((place_at (table_over d changes t) s).part == 0)) s n) (begins_same d changes others t s)
 
 -- the last round began before a slot in which the table had one
-round_within : (own : ℕ → Bool) (k s : ℕ) → round_before own k (suc s) ≤ s
+pub round_within : (own : ℕ → Bool) (k s : ℕ) → round_before own k (suc s) ≤ s
 unfolding round_before
 round_within own k zero = by (own 0 && (own_before own 0 % k == 0))
   where
@@ -118,13 +118,13 @@ round_within own k (suc s) = by (own (suc s) && (own_before own (suc s) % k == 0
     by true le = omega arith
     by false le = omega (arith, le)
 
-round_began : (own : ℕ → Bool) (k s : ℕ) → 0 < own_before own s → round_before own k s < s
+pub round_began : (own : ℕ → Bool) (k s : ℕ) → 0 < own_before own s → round_before own k s < s
 unfolding own_before
 round_began own k zero some = absurd (omega (arith, some))
 round_began own k (suc s) some = let within : round_before own k (suc s) ≤ s = round_within own k s in omega (arith, within)
 
 -- its moment, by the texts of that slot
-moment_stays : (d : Scheduled) (change : Change) (earlier : TextsSoFar) (t s : ℕ) →
+pub moment_stays : (d : Scheduled) (change : Change) (earlier : TextsSoFar) (t s : ℕ) →
     round_before (table_over d earlier t).own (round_places (table_over d earlier t).lengths) s < change.from →
     moment_before (table_over d (NextTexts change earlier) t) s ≡ moment_before (table_over d earlier t) s
 moment_stays d change earlier t s lt =
@@ -236,7 +236,7 @@ began table zero some =
     absurd (omega (arith, some, first))
 began table (suc s) some = let within : begin_before table (suc s) ≤ s = begin_within table s in omega (arith, within)
 
-had_slot : (table : TableSlots) (s : ℕ) → 0 < (place_at table s).part → 0 < own_before table.own s
+pub had_slot : (table : TableSlots) (s : ℕ) → 0 < (place_at table s).part → 0 < own_before table.own s
 had_slot table s some = elim (cases_lt 0 (own_before table.own s)) [
   | inl had ↦ had
   | inr none ↦
