@@ -31,7 +31,7 @@ use Rattle.monitor.specs.Gaps.{late}
 use Rattle.monitor.specs.Begins.{pcr_places}
 use Rattle.monitor.specs.Faults.{pcr_late}
 use Rattle.mux_core.specs.Scheduled.{Scheduled}
-use Rattle.mux_core.specs.Histories.{owned_stream, table_of, stream_in, pcr_content, table_in, content_in, content_at, content_over}
+use Rattle.mux_core.specs.Histories.{owned_stream, table_of, stream_in, pcr_content, table_in, content_in, content_at, content_over, unchanged}
 use Rattle.mux_core.specs.Headline.{ProgramKept}
 use Rattle.laws_run.specs.Monitored.{IsWide}
 use Rattle.laws_run.proofs.Lateness.{all_late}
@@ -103,7 +103,7 @@ clock_none d pid slot i (Some other) e none =
     let clock = clock_program d i other e in
     sym (ap (λ (n : ℕ). n == pid) clock.2) ∙ none i clock.0 clock.1
 
-table_none : (d : Scheduled) (pid slot t : ℕ) (o : Option TableKind) → NoClock pid (table_in d [] slot t o)
+table_none : (d : Scheduled) (pid slot t : ℕ) (o : Option TableKind) → NoClock pid (table_in d unchanged slot t o)
 unfolding table_in part_content
 table_none d pid slot t None = tt
 table_none d pid slot t (Some kind) = by (part_at (table_of d t) slot)
@@ -113,7 +113,7 @@ table_none d pid slot t (Some kind) = by (part_at (table_of d t) slot)
     by (Some part) = tt
 
 slot_none : (d : Scheduled) (units : ℕ → List AccessUnit) (pid slot : ℕ) (item : Slot) → NoProgram d.description.programs pid →
-    NoClock pid (content_in d [] units slot item)
+    NoClock pid (content_in d unchanged units slot item)
 unfolding content_in
 slot_none d units pid slot (Stream k) none = stream_none d units pid slot k (slice_get d.description.streams k)
 slot_none d units pid slot (Pcr i) none = clock_none d.description pid slot i (slot_pid d.description (Pcr i)) refl none

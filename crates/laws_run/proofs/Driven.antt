@@ -10,7 +10,7 @@ use Rattle.slot_plan.specs.Schedule.{slot_of}
 use Rattle.unit_queue.specs.declared.refusal.FeedError.{FeedError}
 use Rattle.mux_core.specs.declared.room.Room.{Room}
 use Rattle.mux_core.specs.Scheduled.{Scheduled}
-use Rattle.mux_core.specs.Histories.{Change, History, empty_history, next_slot, with_unit, content_at, content_over}
+use Rattle.mux_core.specs.Histories.{History, empty_history, next_slot, with_unit, content_at, content_over, TextsSoFar}
 use Rattle.mux_core.specs.MuxStates.{MuxState, Represents, feed_cause, refusal_of}
 use Rattle.mux_core.specs.SlotSteps.{sends, after, fed, queue_cause}
 use Rattle.mux_core.specs.NewMux.{first_queue, first_carousels}
@@ -124,12 +124,12 @@ pub driven : DrivenLaw
 driven d capacity steps r =
     let h : History = history_after d capacity empty_history steps in
     let w = all_represent d capacity empty_history steps r (first d capacity r) in
-    subst (λ (l : List Change). GivenBack d h.units h.slots (run_bytes (content_over d l h.units) 0 h.slots))
+    subst (λ (l : TextsSoFar). GivenBack d h.units h.slots (run_bytes (content_over d l h.units) 0 h.slots))
     (sym (changes_after d capacity empty_history steps)) (given_back_of d capacity h h.slots r w w.few)
 
 pub driven_clean : DrivenCleanLaw
 driven_clean d capacity steps r =
     let h : History = history_after d capacity empty_history steps in
     let w = all_represent d capacity empty_history steps r (first d capacity r) in
-    subst (λ (l : List Change). IsClean d (run_bytes (content_over d l h.units) 0 h.slots))
+    subst (λ (l : TextsSoFar). IsClean d (run_bytes (content_over d l h.units) 0 h.slots))
     (sym (changes_after d capacity empty_history steps)) (clean_of d capacity h h.slots r w w.few)

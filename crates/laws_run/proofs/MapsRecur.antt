@@ -84,7 +84,7 @@ map_in_time d units n t i since r promised kept few is =
     table = (headline d units n r promised kept).tables t there
 
     all : (s : ℕ) → s < n → own s ≡ true → begun pid content s ≡ true
-    all s lt y = begins_there (table_of d t) 0 s n content fits (table.begins 0 s within lt y)
+    all s lt y = begins_there (table_of d t) 0 s n content fits (table.begins 0 s within refl lt y)
 
 -- Sections of program maps begin in time on each PID.
 pub maps_in_time : (d : Scheduled) (units : ℕ → List AccessUnit) (n : ℕ) → IsInRange d.description → Promised d.description d.schedule → UnitsKept d units →

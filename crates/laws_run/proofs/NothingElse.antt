@@ -21,7 +21,7 @@ use Rattle.table_rounds.specs.Tables.{payloads_before, part_at}
 use Rattle.table_rounds.specs.Parts.{part_content}
 use Rattle.laws_run.specs.PidLaws.{IsOfPid}
 use Rattle.mux_core.specs.Scheduled.{Scheduled}
-use Rattle.mux_core.specs.Histories.{Change, owned_stream, table_over, stream_in, pcr_content, table_in, content_in, content_over}
+use Rattle.mux_core.specs.Histories.{owned_stream, table_over, stream_in, pcr_content, table_in, content_in, content_over, TextsSoFar}
 use Rattle.laws_run.specs.GivenBack.{IsSentOn, IsOfSent}
 
 -- PIDs that carry neither a stream nor a table
@@ -45,7 +45,7 @@ unfolding pcr_content
 clock_silent d pid slot None = refl
 clock_silent d pid slot (Some other) = refl
 
-table_silent : (d : Scheduled) (changes : List Change) (pid slot t : ℕ) (o : Option TableKind) → slice_get (table_kinds d.description) t ≡ o →
+table_silent : (d : Scheduled) (changes : TextsSoFar) (pid slot t : ℕ) (o : Option TableKind) → slice_get (table_kinds d.description) t ≡ o →
     IsSilent d.description pid → payload_in pid slot (table_in d changes slot t o) ≡ []
 unfolding table_in part_content
 table_silent d changes pid slot t None e none = refl
@@ -55,7 +55,7 @@ table_silent d changes pid slot t (Some kind) e none = by (part_at (table_over d
     by None = refl
     by (Some part) = let no = none.tables t (slice_get_within (table_kinds d.description) t kind e) in rw no refl
 
-slot_silent : (d : Scheduled) (changes : List Change) (units : ℕ → List AccessUnit) (pid slot : ℕ) (item : Slot) → IsSilent d.description pid →
+slot_silent : (d : Scheduled) (changes : TextsSoFar) (units : ℕ → List AccessUnit) (pid slot : ℕ) (item : Slot) → IsSilent d.description pid →
     payload_in pid slot (content_in d changes units slot item) ≡ []
 unfolding content_in
 slot_silent d changes units pid slot (Stream k) none = stream_silent d units pid slot k (slice_get d.description.streams k) refl none
@@ -63,7 +63,7 @@ slot_silent d changes units pid slot (Pcr i) none = clock_silent d.description p
 slot_silent d changes units pid slot (Table t) none = table_silent d changes pid slot t (slice_get (table_kinds d.description) t) refl none
 slot_silent d changes units pid slot Null none = refl
 
-pub all_silent : (d : Scheduled) (changes : List Change) (units : ℕ → List AccessUnit) (pid slot : ℕ) → IsSilent d.description pid →
+pub all_silent : (d : Scheduled) (changes : TextsSoFar) (units : ℕ → List AccessUnit) (pid slot : ℕ) → IsSilent d.description pid →
     payload_in pid slot (content_over d changes units slot) ≡ []
 unfolding content_over
 all_silent d changes units pid slot none = slot_silent d changes units pid slot (slot_of d.schedule slot) none

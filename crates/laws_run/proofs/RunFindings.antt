@@ -28,7 +28,7 @@ use Rattle.laws_run.proofs.TablesAndStreams.{tables_come_back, streams_come_back
 use Rattle.laws_run.proofs.FoundInRun.{nothing_comes_back}
 use Rattle.laws_run.proofs.OfPids.{all_is_of_pids, found_in_order}
 use Rattle.mux_core.specs.Scheduled.{Scheduled}
-use Rattle.mux_core.specs.Histories.{Change, owned_stream, table_of, content_at, content_over}
+use Rattle.mux_core.specs.Histories.{owned_stream, table_of, content_at, content_over, TextsSoFar, unchanged}
 use Rattle.mux_core.specs.Headline.{UnitsKept}
 use Rattle.mux_core.proofs.StreamsAlone.{stream_alone, stream_alone_over}
 use Rattle.mux_core.proofs.TablesRead.{table_alone}
@@ -44,12 +44,12 @@ use Rattle.mux_core.proofs.TablesRead.{there as kind_there}
 
 -- The premises of the laws on one PID
 
-run_over : (d : Scheduled) (changes : List Change) (units : ℕ → List AccessUnit) (n : ℕ) → IsInRange d.description → UnitsKept d units → n < 2 ^ 64 - 1 →
+run_over : (d : Scheduled) (changes : TextsSoFar) (units : ℕ → List AccessUnit) (n : ℕ) → IsInRange d.description → UnitsKept d units → n < 2 ^ 64 - 1 →
     IsRun n (content_over d changes units)
 run_over d changes units n r kept few = record { fits = contents_fit_over d changes units r kept; few = few }
 
 pub is_run : (d : Scheduled) (units : ℕ → List AccessUnit) (n : ℕ) → IsInRange d.description → UnitsKept d units → n < 2 ^ 64 - 1 → IsRun n (content_at d units)
-is_run d units n r kept few = run_over d [] units n r kept few
+is_run d units n r kept few = run_over d unchanged units n r kept few
 
 units_fit : (rules : StreamParameters) (us : List AccessUnit) → ParametersInRange rules → All (IsUnit rules) us →
     All (λ u. IsTrue (fits_packet rules.stream_id (length u.bytes))) us
@@ -75,11 +75,15 @@ pub has_places : (d : Scheduled) (t : ℕ) → IsInRange d.description → t < t
 has_places d t r lt = (sections_law d.description t r lt).2
 
 pub has_room : (d : Scheduled) (t : ℕ) → IsInRange d.description → HasRoom (table_of d t)
-has_room d t r = record { steady = λ s other j moment. refl; fits = λ s j moment within. table_bytes_fit d.description t j moment r within }
+has_room d t r = record {
+  from = refl;
+  steady = λ s other j moment. refl;
+  fits = λ s j moment within. table_bytes_fit d.description t j moment r within;
+}
 
 -- The findings of each stream and each table
 
-stream_back : (d : Scheduled) (changes : List Change) (units : ℕ → List AccessUnit) (n k : ℕ) (s : DescribedStream) → IsInRange d.description →
+stream_back : (d : Scheduled) (changes : TextsSoFar) (units : ℕ → List AccessUnit) (n k : ℕ) (s : DescribedStream) → IsInRange d.description →
     UnitsKept d units → n < 2 ^ 64 - 1 → slice_get d.description.streams k ≡ Some s →
     found_on s.pid (run_bytes (content_over d changes units) 0 n) ≡ stream_findings d units n k s
 stream_back d changes units n k s r kept few is =
@@ -103,7 +107,7 @@ table_back d units n t r kept few lt reported =
 
 -- The findings of the whole run
 
-silent_over : (d : Scheduled) (changes : List Change) (units : ℕ → List AccessUnit) (n pid : ℕ) → IsRun n (content_over d changes units) →
+silent_over : (d : Scheduled) (changes : TextsSoFar) (units : ℕ → List AccessUnit) (n pid : ℕ) → IsRun n (content_over d changes units) →
     (pid == 8191) ≡ false → IsSilent d.description pid → found_on pid (run_bytes (content_over d changes units) 0 n) ≡ []
 silent_over d changes units n pid run reported none =
     nothing_comes_back pid n (content_over d changes units) run reported (λ t lt. all_silent d changes units pid t none)
@@ -111,9 +115,9 @@ silent_over d changes units n pid run reported none =
 pub silent_back : (d : Scheduled) (units : ℕ → List AccessUnit) (n pid : ℕ) → IsRun n (content_at d units) → (pid == 8191) ≡ false →
     IsSilent d.description pid →
     found_on pid (run_bytes (content_at d units) 0 n) ≡ []
-silent_back d units n pid run reported none = silent_over d [] units n pid run reported none
+silent_back d units n pid run reported none = silent_over d unchanged units n pid run reported none
 
-known : (d : Scheduled) (changes : List Change) (units : ℕ → List AccessUnit) (n : ℕ) → IsRun n (content_over d changes units) → (pid : ℕ) →
+known : (d : Scheduled) (changes : TextsSoFar) (units : ℕ → List AccessUnit) (n : ℕ) → IsRun n (content_over d changes units) → (pid : ℕ) →
     (pid == 8191) ≡ false → IsSentOn d.description pid ⊎ (found_of pid (all_found (run_bytes (content_over d changes units) 0 n)) ≡ [])
 known d changes units n run pid reported = elim (sent_or_silent d.description pid) [
   | inl sent ↦ inl sent
@@ -132,7 +136,7 @@ streams_back d changes units n r kept few =
 
 pub given_back : GivenBackLaw
 given_back d units n r kept few =
-    let back = streams_back d [] units n r kept few in
+    let back = streams_back d unchanged units n r kept few in
     record {
       streams = back.streams;
       tables = λ t lt reported. table_back d units n t r kept few lt reported;

@@ -18,7 +18,7 @@ use Rattle.own_slots.proofs.Counts.{own_before_own, own_before_other}
 use Rattle.ts_packet.specs.Beginnings.{start_by}
 use Rattle.slot_contents.specs.Contents.{Payload, Piece, put}
 use Rattle.table_rounds.specs.Parts.{places_of, filled, part_of}
-use Rattle.table_rounds.specs.Tables.{Table, SectionPlace, round_places, place_in, place_at, round_before, begin_before, moment_of, moment_before, part_at}
+use Rattle.table_rounds.specs.Tables.{Table, SectionPlace, round_places, place_in, place_at, round_before, begin_before, moment_of, moment_before, not_yet, bytes_at, part_at}
 use Rattle.table_rounds.specs.Payloads.{table_payloads}
 use Rattle.table_rounds.proofs.Places.{place_inside, place_after}
 use Rattle.unit_queue.specs.Payloads.{marked, piece_in}
@@ -225,7 +225,9 @@ part_is : (table : Table) (n : ℕ) → HasRoom table → part_at table n
     ≡ place_part (λ j. table.bytes (round_before table.own (round_places table.lengths) (suc n)) j
     (moment_of table (round_before table.own (round_places table.lengths) (suc n))))
     (place_in 0 table.lengths (own_before table.own n % round_places table.lengths))
-part_is table n room = ap (λ (l : List ℕ). part_of l (place_at table n).part)
+part_is table n room =
+    ap (λ (from : Option ℕ). cond (not_yet from (begin_before table (suc n))) None (part_of (bytes_at table n) (place_at table n).part)) room.from
+    ∙ ap (λ (l : List ℕ). part_of l (place_at table n).part)
     (room.steady (begin_before table (suc n)) (round_before table.own (round_places table.lengths) (suc n)) (place_at table n).section
     (moment_before table (suc n)))
 

@@ -61,7 +61,7 @@ made_in_time d units n limit t k ends r promised kept few is made le end =
     table = (headline d units n r promised kept).tables t there
 
     all : (s : ℕ) → s < 0 + n → own s ≡ true → begun pid content s ≡ true
-    all s lt y = begins_there (table_of d t) 0 s n content fits (table.begins 0 s within (omega (arith, lt)) y)
+    all s lt y = begins_there (table_of d t) 0 s n content fits (table.begins 0 s within refl (omega (arith, lt)) y)
 
 pub pat_in_time : (d : Scheduled) (units : ℕ → List AccessUnit) (n : ℕ) → IsInRange d.description → Promised d.description d.schedule → UnitsKept d units →
     n < 2 ^ 64 - 1 →

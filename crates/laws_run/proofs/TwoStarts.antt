@@ -197,8 +197,8 @@ table_again : (d : Scheduled) (t slots : ℕ) (bytes : List ℕ) → 0 < section
     BeginsAgain (pieces_on (table_pid d.description t) bytes)
 table_again d t slots bytes some kept two =
     let es : List Entry = pid_list (table_pid d.description t) bytes in
-    let a = kept.begins 0 two.one some (omega (arith, two.apart, two.within)) two.one_own in
-    let b = kept.begins 0 two.two some two.within two.two_own in
+    let a = kept.begins 0 two.one some refl (omega (arith, two.apart, two.within)) two.one_own in
+    let b = kept.begins 0 two.two some refl two.within two.two_own in
     let l = later_of es a.number b.number a.entry b.entry a.listed b.listed (omega (arith, a.slot, b.slot, two.apart)) a.start b.start in
     record {
       before = l.before;

@@ -13,7 +13,7 @@ use Rattle.laws_run.specs.Sections.{section_found}
 use Rattle.laws_run.specs.PidLaws.{all_found, found_on, InOrder}
 use Rattle.mux_core.specs.declared.room.Room.{Room}
 use Rattle.mux_core.specs.Scheduled.{Scheduled}
-use Rattle.mux_core.specs.Histories.{Change, History, empty_history, owned_stream, table_of, content_at, content_over, bytes_of}
+use Rattle.mux_core.specs.Histories.{History, empty_history, owned_stream, table_of, content_at, content_over, bytes_of, TextsSoFar}
 use Rattle.mux_core.specs.Headline.{UnitsKept}
 use Rattle.mux_core.specs.MuxStates.{MuxState, Represents}
 use Rattle.mux_core.specs.Events.{Step, history_after}
@@ -60,7 +60,7 @@ pub record StreamsGivenBack (d : Scheduled) (units : ℕ → List AccessUnit) (n
 
 -- this holds however the texts change, and so for all that a multiplexer represents
 abbrev pub StreamsBackLaw : Type 0
-StreamsBackLaw = (d : Scheduled) (changes : List Change) (units : ℕ → List AccessUnit) (n : ℕ) → IsInRange d.description → UnitsKept d units →
+StreamsBackLaw = (d : Scheduled) (changes : TextsSoFar) (units : ℕ → List AccessUnit) (n : ℕ) → IsInRange d.description → UnitsKept d units →
     n < 2 ^ 64 - 1 → StreamsGivenBack d units n (run_bytes (content_over d changes units) 0 n)
 
 abbrev pub AnyStateStreamsLaw : Type 0

@@ -1,5 +1,5 @@
 -- The sections that a table sends in rounds, as one list, and the units of a stream in its own slots.
-use Rattle.std.specs.Prelude.{◌≡◌, ℕ, suc, ◌<◌, ◌≤◌, IsTrue, List, [], ◌∷◌, length, map, take, All, slice_index_or}
+use Rattle.std.specs.Prelude.{◌≡◌, ℕ, suc, ◌<◌, ◌≤◌, IsTrue, List, [], ◌∷◌, None, length, map, take, All, slice_index_or}
 use Rattle.std.specs.List.{flat_map}
 use Rattle.own_slots.specs.Slots.{own_slots}
 use Rattle.own_slots.specs.Rounds.{starts}
@@ -31,8 +31,9 @@ round_sections table s = sections_from (λ j. table.bytes s j (moment_of table s
 abbrev pub sections_of_rounds : Table → ℕ → List (List ℕ)
 sections_of_rounds table n = flat_map (round_sections table) (own_slots (starts table.own (round_places table.lengths) 0) 0 n)
 
--- the texts do not change from slot to slot, and no section is ever longer than its places were made for
+-- the table is on air from slot 0 on, its texts do not change from slot to slot, and no section is ever longer than its places were made for
 pub record HasRoom (table : Table) : Type 0 where
+  pub from : table.from ≡ None
   pub steady : (s other j moment : ℕ) → table.bytes s j moment ≡ table.bytes other j moment
   pub fits : (s j moment : ℕ) → j < length table.lengths → length (table.bytes s j moment) ≤ slice_index_or table.lengths j 0
 

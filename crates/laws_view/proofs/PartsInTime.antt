@@ -205,7 +205,7 @@ parts_in_time d units n limit t k r promised kept few is parts le m parted =
     begin_there : (j part s : ℕ) → j < section_count d.description t → kind_part d.description k j ≡ part → s < n →
         section_starts d.description d.schedule t j s ≡ true → chosen (begins_part table_id part) pid content s ≡ true
     begin_there j part s within e lt y =
-        let b : Begins table j s bytes = kept_table.begins j s within lt y in
+        let b : Begins table j s bytes = kept_table.begins j s within refl lt y in
         let h = of_part d.description t j (moment_before table (suc s)) k is parts within in
         let here : begins_part table_id part b.entry.packet ≡ true =
         ap₂ (λ (x : Bool) (p : ℕ). x && (p == part)) b.start (ap (part_after table_id) b.first ∙ h.first ∙ e) ∙ itself part in
