@@ -12,7 +12,7 @@ use Rattle.mux_core.specs.Buffer.{waiting_of, Buffered, IsOutput, Took}
 use Rattle.mux_core.proofs.Written.{holds_none}
 use Rattle.mux_core.specs.Scheduled.{Scheduled}
 use Rattle.mux_core.specs.Headline.{HeadlineOver, UnitsKept}
-use Rattle.mux_core.specs.Histories.{Change, bytes_of, empty_history}
+use Rattle.mux_core.specs.Histories.{bytes_of, empty_history, TextsSoFar, unchanged}
 use Rattle.mux_core.specs.MuxStates.{MuxState}
 use Rattle.mux_core.specs.WholeJobs.{run_output, output_of}
 use Rattle.mux_core.proofs.Accepted.{units_kept}
@@ -32,7 +32,7 @@ use Rattle.on_air.specs.AirStates.{AirState, Carries, with_slots, WroteOn, Promi
 use Rattle.on_air.specs.Hearing.{Fails}
 
 -- If a multiplexer carries these units, the bytes of any number of slots keep every promise, whatever texts change.
-pub keeps : (run : Run) (units : List (ℕ × AccessUnit)) (so_far changes : List Change) (n slots : ℕ) (m : MuxState) → Promises run.scheduled →
+pub keeps : (run : Run) (units : List (ℕ × AccessUnit)) (so_far changes : TextsSoFar) (n slots : ℕ) (m : MuxState) → Promises run.scheduled →
     Carries run (history_by units n so_far) m →
     HeadlineOver run.scheduled changes (λ k. units_of k units) slots (bytes_of run.scheduled (history_by units slots changes))
 keeps run units so_far changes n slots m promises c =
@@ -369,5 +369,5 @@ begins d terms hex start s carries promises none unsent same t r l g leap n one 
   records = n;
   one_plan = one;
   output = holds_none start s.packets none unsent;
-  headline = keeps (run_with d terms hex) [] [] [] 0 0 s.mux promises carries;
+  headline = keeps (run_with d terms hex) [] unchanged unchanged 0 0 s.mux promises carries;
 }

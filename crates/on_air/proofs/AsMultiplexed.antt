@@ -19,7 +19,7 @@ use Rattle.mux_core.specs.declared.room.Room.{Room}
 use Rattle.mux_core.specs.Rooms.{room_in}
 use Rattle.mux_core.specs.RecordRuns.{after_records}
 use Rattle.mux_core.specs.Scheduled.{Scheduled}
-use Rattle.mux_core.specs.Histories.{Change, owned_stream}
+use Rattle.mux_core.specs.Histories.{owned_stream, TextsSoFar, unchanged}
 use Rattle.mux_core.specs.MuxStates.{feed_cause}
 use Rattle.mux_core.specs.WholeJobs.{job_history, output_of, or_cause, unit_refused, cause_after, first_refused}
 use Rattle.mux_core.specs.declared.multiplexing.MuxError.{MuxError}
@@ -130,7 +130,7 @@ pub record Taken (run : Run) (a : Air) (units : List (ℕ × AccessUnit)) : Type
   pub accepted : a.accepted ≡ units
   pub greatest : a.greatest ≡ greatest_of units
   pub slots : a.slots ≡ settled_at run (greatest_of units)
-  pub changes : a.changes ≡ []
+  pub changes : a.changes ≡ unchanged
 
 pub none_taken : (run : Run) → Taken run silence []
 none_taken run = record {
@@ -221,6 +221,6 @@ aired_as_multiplexed run other n xs job none =
     let later = no_later run (greatest_of (records_of n xs)) (limit_of run.terms) run.terms.slots in
     let slots : on_to (heard run n xs).slots (last_at run (heard run n xs).greatest) ≡ last_at run (greatest_of (records_of n xs)) =
     omega (arith, last, later, so.slots) in
-    ap (λ (cs : List Change). output_of run.hex run.scheduled (history_by (heard run n xs).accepted (ended run (heard run n xs)).slots cs)) so.changes
+    ap (λ (cs : TextsSoFar). output_of run.hex run.scheduled (history_by (heard run n xs).accepted (ended run (heard run n xs)).slots cs)) so.changes
     ∙ ap (λ (us : List (ℕ × AccessUnit)). output_of run.hex run.scheduled (job_history us (ended run (heard run n xs)).slots)) so.accepted
     ∙ ap (λ (k : ℕ). output_of run.hex run.scheduled (job_history (records_of n xs) k)) slots

@@ -13,7 +13,7 @@ use Rattle.mux_core.specs.RecordRuns.{after_records}
 use Rattle.mux_core.specs.Formats.{formatted}
 use Rattle.mux_core.specs.Scheduled.{Scheduled}
 use Rattle.mux_core.specs.Headline.{UnitsKept}
-use Rattle.mux_core.specs.Histories.{Change, bytes_of, content_over}
+use Rattle.mux_core.specs.Histories.{bytes_of, content_over, TextsSoFar}
 use Rattle.mux_core.specs.WholeJobs.{run_output, output_of}
 use Rattle.mux_core.proofs.FedUnits.{bytes_kept}
 use Rattle.mux_core.proofs.JobWriting.{output_more}
@@ -57,7 +57,7 @@ slots_more hex content n (suc k) =
       is = ap (λ (m : ℕ). run_output hex content 0 m) next ∙ output_more hex content (n + k);
     })
 
-on_more : (run : Run) (units : List (ℕ × AccessUnit)) (changes : List Change) (slots target : ℕ) →
+on_more : (run : Run) (units : List (ℕ × AccessUnit)) (changes : TextsSoFar) (slots target : ℕ) →
     BeginsWith (output_of run.hex run.scheduled (history_by units (on_to slots target) changes))
     (output_of run.hex run.scheduled (history_by units slots changes))
 on_more run units changes slots target = slots_more run.hex (content_over run.scheduled changes (λ k. units_of k units)) slots (target - slots)
@@ -69,7 +69,7 @@ on_later slots target = omega arith
 units_within : (d : Scheduled) (units : List (ℕ × AccessUnit)) → IsInRange d.description → AllKept d units → UnitsKept d (λ k. units_of k units)
 units_within d units ranges kept = record { parameters = parameters_known d ranges; kept = kept }
 
-units_fit : (d : Scheduled) (changes : List Change) (units : List (ℕ × AccessUnit)) → IsInRange d.description → AllKept d units →
+units_fit : (d : Scheduled) (changes : TextsSoFar) (units : List (ℕ × AccessUnit)) → IsInRange d.description → AllKept d units →
     Fits (content_over d changes (λ k. units_of k units))
 units_fit d changes units ranges kept = contents_fit_over d changes (λ k. units_of k units) ranges (units_within d units ranges kept)
 

@@ -5,7 +5,7 @@ use Rattle.pes_packet.specs.AccessUnits.{AccessUnit}
 use Rattle.unit_records.specs.Records.{after_record, record_at}
 use Rattle.unit_records.specs.declared.reading.UnitFileError.{UnitFileError}
 use Rattle.mux_core.specs.RecordRuns.{after_records}
-use Rattle.mux_core.specs.Histories.{Change}
+use Rattle.mux_core.specs.Histories.{TextsSoFar, NextTexts}
 use Rattle.mux_core.specs.TextChanges.{next_change}
 use Rattle.on_air.specs.declared.refusals.AirRefusal.{AirRefusal}
 use Rattle.mux_core.specs.declared.output.OutputFault.{OutputFault}
@@ -125,7 +125,7 @@ change_more : (a b c : Air) (index slot : ℕ) → AddsNone a b → AddsChange b
 change_more a b c index slot first next = record {
   refused = next.refused ∙ first.refused;
   change = next.change;
-  changes = next.changes ∙ ap (λ (l : List Change). next.change ∷ l) first.changes;
+  changes = next.changes ∙ ap (λ (l : TextsSoFar). NextTexts next.change l) first.changes;
   from = next.from;
   slots = next.slots;
   records = next.records;

@@ -30,7 +30,7 @@ use Rattle.mux_core.specs.declared.room.Room.{Room}
 use Rattle.mux_core.specs.Rooms.{declared_units, needed_units, room_in, spaced_units}
 use Rattle.mux_core.specs.RecordRuns.{after_records}
 use Rattle.mux_core.specs.Scheduled.{Scheduled}
-use Rattle.mux_core.specs.Histories.{Change, History, owned_stream}
+use Rattle.mux_core.specs.Histories.{History, owned_stream, TextsSoFar, unchanged}
 use Rattle.mux_core.specs.MuxStates.{if_on_air, feed_cause}
 use Rattle.mux_core.specs.WholeJobs.{job_history, cause_after, first_refused}
 use Rattle.mux_core.proofs.FedUnits.{accepted_on_air}
@@ -64,7 +64,7 @@ kept_own d h other k u s ranges is none kept =
     kept_law (owned_stream d k s) h.slots (room_in other s) (h.units k) u (parameters_known d ranges k s is) (accepted_on_air _ _ none).1 kept
 
 -- The units of a history are these, with an accepted unit after them.
-pub kept_more : (d : Scheduled) (slots : ℕ) (changes : List Change) (other : Room) (units : List (ℕ × AccessUnit)) (entry : ℕ × AccessUnit) →
+pub kept_more : (d : Scheduled) (slots : ℕ) (changes : TextsSoFar) (other : Room) (units : List (ℕ × AccessUnit)) (entry : ℕ × AccessUnit) →
     IsInRange d.description →
     feed_cause d other (history_by units slots changes) entry.0 entry.1 (slice_get d.description.streams entry.0) ≡ None → AllKept d units →
     AllKept d (units ++ (entry ∷ []))
@@ -167,7 +167,7 @@ record SoFar (run : Run) (a : Air) (records : List (ℕ × AccessUnit)) : Type 0
   greatest : a.greatest ≡ greatest_of records
   slots : a.slots ≡ settled_at run (greatest_of records)
   refused : a.refused ≡ []
-  changes : a.changes ≡ []
+  changes : a.changes ≡ unchanged
   kept : AllKept run.scheduled (without_ticks records)
 
 is_near : (run : Run) (a : Air) (other : Room) (records : List (ℕ × AccessUnit)) (entry : ℕ × AccessUnit) → SoFar run a records →
@@ -208,7 +208,7 @@ none_refused run a other records entry so job tick last =
     (omega (arith, written, rises)) room in
     let none = taken_stream run.scheduled run.capacity a.slots units entry found.stream found.on_air taken in
     let unit : unit_refusal run a entry ≡ None =
-    ap (λ (cs : List Change). feed_cause run.scheduled run.capacity (history_by a.accepted a.slots cs) entry.0 entry.1
+    ap (λ (cs : TextsSoFar). feed_cause run.scheduled run.capacity (history_by a.accepted a.slots cs) entry.0 entry.1
     (slice_get run.scheduled.description.streams entry.0)) so.changes
     ∙ ap (λ (us : List (ℕ × AccessUnit)). feed_cause run.scheduled run.capacity (job_history us a.slots) entry.0 entry.1
     (slice_get run.scheduled.description.streams entry.0)) so.accepted
@@ -241,7 +241,7 @@ so_far_unit run a other records entry so job tick =
       slots = more_slots run a records entry so;
       refused = so.refused;
       changes = so.changes;
-      kept = subst (AllKept run.scheduled) (sym more) (kept_more run.scheduled 0 [] other (without_ticks records) entry job.promises.ranges last.1 so.kept);
+      kept = subst (AllKept run.scheduled) (sym more) (kept_more run.scheduled 0 unchanged other (without_ticks records) entry job.promises.ranges last.1 so.kept);
     }))
 
 so_far_tick : (run : Run) (a : Air) (other : Room) (records : List (ℕ × AccessUnit)) (entry : ℕ × AccessUnit) → SoFar run a records →

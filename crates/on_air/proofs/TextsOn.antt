@@ -17,7 +17,7 @@ use Rattle.pes_packet.specs.Units.{units_of}
 use Rattle.slot_contents.specs.Contents.{Content, packet_of}
 use Rattle.mux_core.specs.Buffer.{Buffered, IsOutput, Took}
 use Rattle.mux_core.specs.Formats.{formatted}
-use Rattle.mux_core.specs.Histories.{Change, content_over, last_texts, with_change}
+use Rattle.mux_core.specs.Histories.{Change, content_over, last_texts, with_change, NextTexts}
 use Rattle.mux_core.specs.TextChanges.{next_change, text_cause}
 use Rattle.mux_core.specs.MuxStates.{MuxState, Represents, Changes}
 use Rattle.mux_core.specs.Scheduled.{Scheduled}
@@ -184,7 +184,7 @@ pub texts_output : (run : Run) (a : Air) (texts : Described) → air_output run 
 unfolding changes_with
 texts_output run a texts =
     outputs_same run.hex
-    (content_over run.scheduled (next_change run.scheduled (job_of a) texts ∷ a.changes) (λ k. units_of k a.accepted))
+    (content_over run.scheduled (NextTexts (next_change run.scheduled (job_of a) texts) a.changes) (λ k. units_of k a.accepted))
     (content_over run.scheduled a.changes (λ k. units_of k a.accepted)) 0 a.slots
     (λ t lt. content_before run.scheduled (next_change run.scheduled (job_of a) texts) a.changes (λ k. units_of k a.accepted) t (omega (arith, lt)))
 
@@ -220,7 +220,7 @@ put_on run a texts refused start now old new m h moves packets greatest leap rec
       one_plan = moves.one_plan ∙ h.one_plan;
       output = subst (λ (l : List ℕ). IsOutput start now new.packets l) (sym (texts_output run a texts))
           (subst (λ (p : Buffered). IsOutput start now p (air_output run a)) (sym packets) h.output);
-      headline = keeps run a.accepted (next_change run.scheduled (job_of a) texts ∷ a.changes) (next_change run.scheduled (job_of a) texts ∷ a.changes) a.slots
+      headline = keeps run a.accepted (NextTexts (next_change run.scheduled (job_of a) texts) a.changes) (NextTexts (next_change run.scheduled (job_of a) texts) a.changes) a.slots
           a.slots new.mux h.promises carries;
     }
 
@@ -304,6 +304,6 @@ texts_fail run a entry due sent texts start later m promises carries t is none r
       accepted,
       subst (λ (b : Air). Fails run b start later sent) (sym last) (record {
         took = subst (λ (l : List ℕ). Took start later sent l) (sym (texts_output run (taken run a entry a.accepted a.changes) texts)) before.took;
-        headline = keeps run a.accepted a.changes (change ∷ a.changes) a.slots (taken run a entry a.accepted a.changes).slots m promises carries;
+        headline = keeps run a.accepted a.changes (NextTexts change a.changes) a.slots (taken run a entry a.accepted a.changes).slots m promises carries;
       }),
     )

@@ -17,7 +17,7 @@ use Rattle.unit_records.specs.declared.reading.UnitFileError.{UnitFileError}
 use Rattle.mux_core.specs.RecordRuns.{after_records}
 use Rattle.mux_core.specs.Rooms.{needed_units, room_in}
 use Rattle.mux_core.specs.Scheduled.{Scheduled}
-use Rattle.mux_core.specs.Histories.{Change, History, last_texts}
+use Rattle.mux_core.specs.Histories.{History, last_texts, TextsSoFar, unchanged, NextTexts}
 use Rattle.mux_core.specs.TextChanges.{next_change}
 use Rattle.mux_core.specs.MuxStates.{feed_cause}
 use Rattle.mux_core.specs.WholeJobs.{output_of}
@@ -50,13 +50,13 @@ pub record Air : Type 0 where
   pub leap : Leap
   pub records : ℕ
   pub refused : List (ℕ × AirRefusal)
-  pub changes : List Change
+  pub changes : TextsSoFar
 
 abbrev pub silence : Air
-silence = record { accepted = []; slots = 0; greatest = 0; leap = no_leap; records = 0; refused = []; changes = [] }
+silence = record { accepted = []; slots = 0; greatest = 0; leap = no_leap; records = 0; refused = []; changes = unchanged }
 
 -- the history of the multiplexer, and its output
-abbrev pub history_by : List (ℕ × AccessUnit) → ℕ → List Change → History
+abbrev pub history_by : List (ℕ × AccessUnit) → ℕ → TextsSoFar → History
 history_by units slots changes = record { units = λ k. units_of k units; changes = changes; slots = slots }
 
 abbrev pub job_of : Air → History
@@ -189,7 +189,7 @@ leap_left run a entry (Followed packet from to) = no_leap
 leap_left run a entry (Texts refusal) = a.leap
 
 -- a unit, a tick or texts are taken: the slots that its DTS settles are written
-abbrev pub taken : Run → Air → ℕ × AccessUnit → List (ℕ × AccessUnit) → List Change → Air
+abbrev pub taken : Run → Air → ℕ × AccessUnit → List (ℕ × AccessUnit) → TextsSoFar → Air
 taken run a entry accepted changes = record {
   accepted = accepted;
   slots = on_to a.slots (settled_at run entry.1.dts);
@@ -201,8 +201,8 @@ taken run a entry accepted changes = record {
 }
 
 -- the changes with the texts that bytes are read as, which are in force from the next slot on
-unfoldable pub changes_with : Run → Air → Result Described DescError → List Change
-changes_with run a (Ok texts) = next_change run.scheduled (job_of a) texts ∷ a.changes
+unfoldable pub changes_with : Run → Air → Result Described DescError → TextsSoFar
+changes_with run a (Ok texts) = NextTexts (next_change run.scheduled (job_of a) texts) a.changes
 changes_with run a (Err refusal) = a.changes
 
 -- the progress with the texts that bytes are read as on air

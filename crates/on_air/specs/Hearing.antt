@@ -7,7 +7,7 @@ use Rattle.description_keys.specs.declared.fault.DescError.{DescError}
 use Rattle.description_keys.specs.declared.fault.DescError.TheVariants as read_error
 use Rattle.pes_packet.specs.AccessUnits.{AccessUnit}
 use Rattle.mux_core.specs.Buffer.{Took}
-use Rattle.mux_core.specs.Histories.{Change}
+use Rattle.mux_core.specs.Histories.{Change, NextTexts}
 use Rattle.mux_core.specs.declared.output.OutputFault.{OutputFault}
 use Rattle.unit_records.specs.Records.{IsRecord, ReadsRecord}
 use Rattle.unit_records.specs.declared.reading.UnitFileError.TheVariants.{Cut, Size, Device, Memory}
@@ -177,7 +177,7 @@ pub record AddsRefusal (a b : Air) (index : ℕ) (cause : AirRefusal) : Type 0 w
 pub record AddsChange (a b : Air) (index slot : ℕ) : Type 0 where
   pub refused : b.refused ≡ a.refused
   pub change : Change
-  pub changes : b.changes ≡ change ∷ a.changes
+  pub changes : b.changes ≡ NextTexts change a.changes
   pub from : change.from ≡ slot
   pub slots : b.slots ≡ slot
   pub records : b.records ≡ index + 1

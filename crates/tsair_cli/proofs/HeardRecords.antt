@@ -8,7 +8,7 @@ use Rattle.devices.specs.Lines.{Reports}
 use Rattle.mux_core.specs.declared.output.OutputFault.{OutputFault}
 use Rattle.unit_records.specs.declared.reading.UnitFileError.TheVariants.{Cut, Size, Device as AtReader, Memory}
 use Rattle.mux_core.specs.RecordRuns.{after_records}
-use Rattle.mux_core.specs.Histories.{Change, last_texts}
+use Rattle.mux_core.specs.Histories.{last_texts, TextsSoFar, listed_changes}
 use Rattle.on_air.specs.declared.refusals.AirRefusal.{AirRefusal}
 use Rattle.on_air.specs.declared.answers.Heard.TheVariants.{Taken, Refused, Changed, Ended}
 use Rattle.on_air.specs.declared.answers.Ending.{Ending}
@@ -56,11 +56,11 @@ changed_same : (lines : List Reported) (index : ℕ) (cause : AirRefusal) (a b :
 unfolding with_changed
 changed_same lines index cause a b are is =
     fold-append (λ changes r. with_changed changes r) [] lines (OfRefusal index cause ∷ []) ∙ are
-    ∙ ap (λ (l : List Change). map (λ c. (c.from, c.texts)) l) (sym is)
+    ∙ ap (λ (l : TextsSoFar). map (λ c. (c.from, c.texts)) (listed_changes l)) (sym is)
 
 -- The texts in force after a change are those of the change.
 texts_of_change : (run : Run) (a b : Air) (index slot : ℕ) (adds : AddsChange a b index slot) → texts_now run b ≡ adds.change.texts
-texts_of_change run a b index slot adds = ap (λ (l : List Change). last_texts run.scheduled.description l) adds.changes
+texts_of_change run a b index slot adds = ap (λ (l : TextsSoFar). last_texts run.scheduled.description l) adds.changes
 
 changed_more : (lines : List Reported) (index slot : ℕ) (texts : Described) (lost : Bool) (a b : Air) → changed_among lines ≡ changes_of a →
     (adds : AddsChange a b index slot) → texts ≡ adds.change.texts → changed_among (lines ++ (OfChange index slot texts lost ∷ [])) ≡ changes_of b
@@ -70,7 +70,7 @@ changed_more lines index slot texts lost a b are adds is =
     ∙ ap (λ (l : List (ℕ × Described)). (slot, texts) ∷ l) are
     ∙ ap (λ (d : Described). (slot, d) ∷ changes_of a) is
     ∙ ap (λ (n : ℕ). (n, adds.change.texts) ∷ changes_of a) (sym adds.from)
-    ∙ ap (λ (l : List Change). map (λ c. (c.from, c.texts)) l) (sym adds.changes)
+    ∙ ap (λ (l : TextsSoFar). map (λ c. (c.from, c.texts)) (listed_changes l)) (sym adds.changes)
 
 lost_same : (before : Bool) (lines : List Reported) (index : ℕ) (cause : AirRefusal) (lost : Bool) → lost ≡ lost_among before lines →
     lost ≡ lost_among before (lines ++ (OfRefusal index cause ∷ []))
@@ -276,7 +276,7 @@ pub ends : (saving : Saving) (run : Run) (stop : Bool) (mid start now : Option (
 ends saving run stop mid start now input output faults refused lost s new why m (b, (rest, heard_on, ends_at), adds, state) n first_one = record {
   rest = rest;
   airs = airs_on saving run input.before.bytes mid rest faults m.airs b heard_on adds.refused;
-  changed = m.changed ∙ ap (λ (l : List Change). map (λ c. (c.from, c.texts)) l) (sym adds.changes);
+  changed = m.changed ∙ ap (λ (l : TextsSoFar). map (λ c. (c.from, c.texts)) (listed_changes l)) (sym adds.changes);
   ends = ends_at;
   stops = λ on. adds.refused ∙ none_refused refused m.airs.came.refused m.refused_is (first_one on);
   refused = m.refused_is ∙ ap (λ (l : List (ℕ × AirRefusal)). nat_lt 0 (length l)) (sym adds.refused);

@@ -2,6 +2,7 @@
 use Rattle.std.specs.Prelude.{◌≡◌, ◌⊎◌, ◌≤◌, ◌<◌, ◌||◌, ℕ, Bool, true, nat_lt, List, [], ◌∷◌, ◌++◌, fold, length, map, Option, Some, None, Result, Ok, Err, codes}
 use Rattle.devices.specs.Devices.{Device, Port, HasFailed, IsClean, between}
 use Rattle.devices.specs.Lines.{Reports, line_text}
+use Rattle.mux_core.specs.Histories.{listed_changes}
 use Rattle.mux_core.specs.declared.output.OutputFault.{OutputFault}
 use Rattle.unit_records.specs.declared.reading.UnitFileError.TheVariants.{Cut, Size, Device as AtReader, Memory}
 use Rattle.on_air.specs.declared.refusals.AirRefusal.{AirRefusal}
@@ -89,7 +90,7 @@ lost_among before reported = fold (λ lost r. with_lost lost r) before reported
 
 -- the slots from which on texts are in force, with the texts, the last first
 abbrev pub changes_of : Air → List (ℕ × Described)
-changes_of a = map (λ c. (c.from, c.texts)) a.changes
+changes_of a = map (λ c. (c.from, c.texts)) (listed_changes a.changes)
 
 abbrev pub has_refused : Air → Bool
 has_refused a = nat_lt 0 (length a.refused)
