@@ -17,8 +17,11 @@ pub mod StreamsAlone
 pub mod StreamsKept
 pub mod Whole
 pub mod TextLaws
-pub mod StillTables
+pub mod EventMoments
+pub mod PlacedTables
+pub mod RisenVersions
 pub mod SentVersions
+pub mod EventVersions
 pub mod MeasuredRuns
 pub mod MeasurableRuns
 pub mod PutTogether

@@ -1,5 +1,5 @@
 -- A stream has its PID to itself.
-use Rattle.std.proofs.Common.{◌≡◌, ℕ, true, List, [], Some, slice_get, refl, ap, sym, ◌∙◌, eq-eqb}
+use Rattle.std.proofs.Common.{◌≡◌, ℕ, true, List, Some, slice_get, refl, ap, sym, ◌∙◌, eq-eqb}
 use Rattle.std.proofs.lemmas.Bool.{false≢true, eqb-true}
 use Rattle.pes_packet.specs.AccessUnits.{AccessUnit}
 use Rattle.slot_contents.specs.RunLaws.{Fits}

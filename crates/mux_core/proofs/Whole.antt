@@ -1,5 +1,5 @@
 -- The finished bytes of a history keep all promises.
-use Rattle.std.specs.Prelude.{ℕ, List, []}
+use Rattle.std.specs.Prelude.{ℕ, List}
 use Rattle.pes_packet.specs.AccessUnits.{AccessUnit}
 use Rattle.description_parts.specs.Ranges.{IsInRange}
 use Rattle.slot_contents.specs.Contents.{run_bytes}

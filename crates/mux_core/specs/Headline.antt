@@ -1,6 +1,6 @@
 -- The promises of the finished bytes of a run, at every moment and for runs of any length: every accepted unit is on its PID, in order and in time, and no
 -- buffer of the decoder model (ISO/IEC 13818-1, 2.4.2) ever overflows.
-use Rattle.std.specs.Prelude.{◌≡◌, ◌⊎◌, ℕ, ◌+◌, ◌*◌, ◌%◌, ◌<◌, ◌≤◌, true, false, List, [], length, map, take, slice_get, Some, None, All}
+use Rattle.std.specs.Prelude.{◌≡◌, ◌⊎◌, ℕ, ◌+◌, ◌*◌, ◌%◌, ◌<◌, ◌≤◌, true, false, List, length, map, take, slice_get, Some, None, All}
 use Rattle.clock27.specs.Recurrence.{Recur}
 use Rattle.clock27.specs.Reference.{Reference, pcr_at}
 use Rattle.pes_packet.specs.AccessUnits.{AccessUnit}

@@ -6,7 +6,7 @@ ghost use Rattle.mux_core.specs.MeasuredRuns.{MeasuredLaw, MeasurableLaw};
 ghost use Rattle.mux_core.specs.Decoder.{PutLaw};
 ghost use Rattle.mux_core.specs.DecodedRuns.{DecodedLaw};
 ghost use Rattle.mux_core.specs.Events.{WrittenStays, OrderIsFree};
-ghost use Rattle.mux_core.specs.TextLaws.{OthersUntouchedLaw, SameTableLaw, WholeSectionsLaw, VersionLaw};
+ghost use Rattle.mux_core.specs.TextLaws.{OthersUntouchedLaw, SameTableLaw, WholeSectionsLaw, VersionLaw, EventVersionLaw};
 ghost use Rattle.mux_core.specs.WholeJobs.{RoomForAll};
 ghost use Rattle.mux_core.specs.TimingLaws.{UnitsArrive, TransportFits, MainFits, SystemFits, PcrsRecur, SectionsRecur};
 ghost use Rattle.mux_core.specs.TimingLaws.{OfPlan, OfSwitch};
@@ -143,4 +143,5 @@ pub fn texts()
     ensures same { SameTableLaw }
     ensures whole { WholeSectionsLaw }
     ensures versions { VersionLaw }
+    ensures events { EventVersionLaw }
 {}
