@@ -117,7 +117,7 @@ other_kept d h j k t u None ne = refl
 other_kept d h j k t u (Some s) ne =
     ap (λ (b : Bool). stream_content (owned_stream d j s) (cond b (h.units j ++ (u ∷ [])) (h.units j)) t) (ne_eqb j k ne)
 
-content_kept : LaterUnitLaw → (d : Scheduled) (h : History) (capacity : Room) (k t : ℕ) (u : AccessUnit) (slot : Slot) →
+pub content_kept : LaterUnitLaw → (d : Scheduled) (h : History) (capacity : Room) (k t : ℕ) (u : AccessUnit) (slot : Slot) →
     slot_of d.schedule t ≡ slot → feed_cause d capacity h k u (slice_get d.description.streams k) ≡ None → t < h.slots →
     content_in d h.changes (with_unit h k u).units t slot ≡ content_in d h.changes h.units t slot
 unfolding content_in
