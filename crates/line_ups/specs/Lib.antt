@@ -1,0 +1,4 @@
+pub mod Kept
+pub mod Faults
+pub mod Versions
+pub mod Laws

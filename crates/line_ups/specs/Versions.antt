@@ -1,0 +1,43 @@
+-- The version of each sub-table of a line-up that takes the place of another: a sub-table that was on air goes on from its version, and has the next one if
+-- what it says changes and a section with its version was sent (ISO/IEC 13818-1, 2.4.4.5: version_number; EN 300 468, 5.1.1). Sub-tables are known by their
+-- programs' numbers; one that was not on air has the version that the description gives.
+use Rattle.std.specs.Prelude.{◌≡◌, ℕ, ◌+◌, ◌-◌, ◌%◌, ◌||◌, not, Bool, Option, None, Some, option_map, if◌then◌else◌}
+use Rattle.description_parts.specs.Described.{Described}
+use Rattle.description_parts.specs.Ranges.{IsInRange}
+use Rattle.description.specs.SubTables.{numbered_sub_table, sub_table_number, says_same, version_of, count_of}
+use Rattle.description.specs.Versions.{without_versions}
+use Rattle.description.specs.declared.sub_table.SubTable.{SubTable}
+use Rattle.description.specs.declared.sub_table.SubTable.TheVariants.{Pat, Nit, Sdt, Map, Events}
+use Rattle.changed_texts.specs.Versions.{with_counts}
+use Rattle.line_ups.specs.Kept.{program_before}
+
+-- the sub-table that it was
+abbrev pub sub_table_before : Described → Described → SubTable → Option SubTable
+sub_table_before old new Pat = Some Pat
+sub_table_before old new Nit = Some Nit
+sub_table_before old new Sdt = Some Sdt
+sub_table_before old new (Map j) = option_map Map (program_before old new j)
+sub_table_before old new (Events j) = option_map Events (program_before old new j)
+
+-- the number with which the new sub-table shows, at a moment, the version that the old one shows there, and the one after it
+abbrev pub followed_count : Described → SubTable → Described → SubTable → ℕ → ℕ
+followed_count old x new y moment = (version_of old x moment + count_of new y + 32 - version_of new y moment) % 32
+
+abbrev pub follows : Described → SubTable → Described → SubTable → ℕ → (ℕ → Bool) → ℕ
+follows old x new y moment sent =
+    if says_same old x new y moment || not (sent (sub_table_number x)) then followed_count old x new y moment
+    else (followed_count old x new y moment + 1) % 32
+
+abbrev pub count_after : Described → Described → ℕ → (ℕ → Bool) → SubTable → ℕ
+count_after old new moment sent y = elim (sub_table_before old new y) [ None ↦ count_of new y | Some x ↦ follows old x new y moment sent ]
+
+-- the new description with these versions
+abbrev pub follow_versions : Described → Described → ℕ → (ℕ → Bool) → Described
+follow_versions old new moment sent = with_counts new (λ n. count_after old new moment sent (numbered_sub_table n))
+
+-- versions are all that it has otherwise than the new description: it is in range
+abbrev pub SameFollowedLaw : Type 0
+SameFollowedLaw = (old new : Described) (moment : ℕ) (sent : ℕ → Bool) → without_versions (follow_versions old new moment sent) ≡ without_versions new
+
+abbrev pub FollowedRangeLaw : Type 0
+FollowedRangeLaw = (old new : Described) (moment : ℕ) (sent : ℕ → Bool) → IsInRange new → IsInRange (follow_versions old new moment sent)
