@@ -333,17 +333,26 @@ def network_table(s):
 
 def network(stream, ts_id):
     """What the first network information section in force says that has this stream: network_id, original_network_id, the network's descriptors and
-    the stream's. And the packet in which the first section ends that says anything else."""
-    known, first = original(stream), None
+    the stream's. The other transport streams of this network, each as a section lists it first, at most 64. And the packet in which the first section
+    ends that says anything else."""
+    known, first, others = original(stream), None, {}
 
-    def said(s):
-        table = network_table(s)
-        entry = next(((o, d) for t, o, d in table[2] if t == ts_id and known in (None, o)), None) if table else None
-        return ((table[0], entry[0], table[1], entry[1]), is_whole(table[1], 700) and len(table[2]) == 1) if entry and is_whole(entry[1], 700) else (None, False)
+    def said(table):
+        entry = next(((o, d) for t, o, d in table[2] if t == ts_id and known in (None, o)), None)
+        return (table[0], entry[0], table[1], entry[1]) if entry and is_whole(entry[1], 700) else None
 
-    tables = [(packet, said(s)) for packet, s in stream.sections(0x10, 0x40)]
-    found = next((network for _, (network, _) in tables if network), None)
-    carried = [packet for packet, (network, only) in tables if only and network == found]
+    tables = [(packet, table) for packet, table in ((packet, network_table(s)) for packet, s in stream.sections(0x10, 0x40)) if table]
+    found = next((network for network in (said(table) for _, table in tables) if network), None)
+    tables = [(packet, table) for packet, table in tables if found and table[0] == found[0]]
+    for t, o, d in (entry for _, table in tables for entry in table[2]):
+        if (t, o) != (ts_id, found[1]) and (t, o) not in others and is_whole(d, 700) and len(others) < 64:
+            others[t, o] = d
+
+    def is_carried(table):
+        loops = {**others, (ts_id, found and found[1]): found and found[3]}
+        return (not table[1] or is_whole(table[1], 700) and table[1] == found[2]) and all(loops.get((t, o)) == d for t, o, d in table[2])
+
+    carried = [packet for packet, table in tables if is_carried(table)]
     for pid in stream.pids:
         for packet, _, kind, value in stream.found(pid):
             if kind == "section" and value[0] == 0x40:
@@ -351,7 +360,7 @@ def network(stream, ts_id):
                     carried.remove(packet)
                 else:
                     first = packet if first is None else min(first, packet)
-    return found, first
+    return found, others, first
 
 
 def seconds(coded):

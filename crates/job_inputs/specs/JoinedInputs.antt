@@ -6,6 +6,7 @@ use Rattle.std.specs.Str.{bytes_eq}
 use Rattle.pes_packet.specs.AccessUnits.{AccessUnit}
 use Rattle.pes_packet.specs.Units.{units_of}
 use Rattle.description_parts.specs.Described.{Described, DescribedStream}
+use Rattle.dvb_tables.specs.TransportStreams.{TransportStreamView}
 use Rattle.pid_findings.specs.Views.{FindingView}
 use Rattle.job_text.specs.DescriptionParts.{NetworkPartView}
 use Rattle.job_programs.specs.Answers.{and_then, unless}
@@ -16,6 +17,7 @@ use Rattle.job_programs.specs.Information.{JobInformationView}
 use Rattle.job_inputs.specs.JobInput.{JobInputView, AreStreams}
 use Rattle.job_programs.specs.JobPrograms.{JobProgramView}
 use Rattle.job_programs.specs.JobStreams.{TimedStreamView}
+use Rattle.job_programs.specs.OtherStreams.{is_same_stream}
 use Rattle.job_inputs.specs.NewNumbers.{others}
 use Rattle.job_inputs.specs.RenumberedInputs.{RenumberingView, found_pids, program_numbers, renumbered, renumbering_of}
 use Rattle.job_inputs.specs.declared.new_numbers.NewNumber.{NewNumber}
@@ -76,10 +78,18 @@ is_same_loop None None = true
 is_same_loop (Some a) (Some b) = bytes_eq a b
 is_same_loop _ _ = false
 
+-- the transport streams of a network are those of another one, in their order
+unfoldable pub are_same_streams : List TransportStreamView → List TransportStreamView → Bool
+are_same_streams [] ts = length ts == 0
+are_same_streams (s ∷ ss) [] = false
+are_same_streams (s ∷ ss) (t ∷ ts) = is_same_stream s t && are_same_streams ss ts
+
 -- two networks are one
+abbrev pub has_same_loops : NetworkPartView → NetworkPartView → Bool
+has_same_loops a b = is_same_loop a.network_descriptors b.network_descriptors && bytes_eq a.descriptors b.descriptors
+
 unfoldable pub is_same_network : NetworkPartView → NetworkPartView → Bool
-is_same_network a b =
-    a.id == b.id && (bytes_eq a.name b.name && (is_same_loop a.network_descriptors b.network_descriptors && bytes_eq a.descriptors b.descriptors))
+is_same_network a b = a.id == b.id && (bytes_eq a.name b.name && (has_same_loops a b && are_same_streams a.streams b.streams))
 
 -- whether the network of an input differs from the job's network
 unfoldable pub is_other_network : Option NetworkPartView → Option NetworkPartView → Bool

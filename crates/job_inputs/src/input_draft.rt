@@ -130,7 +130,7 @@ fn table_warnings(
         &mut warnings,
     )?;
     let id = association.transport_stream_id;
-    push_network_warnings(options.network, id, findings, &mut warnings)?;
+    push_network_warnings(alloc, options.network, id, findings, &mut warnings)?;
     Ok(warnings)
 }
 

@@ -4,6 +4,7 @@ ghost use Rattle.std.specs.Prelude.{◌≡◌, ◌≤◌, ◌++◌, ◌∷◌, B
 ghost use Rattle.std.specs.List.{AllZip};
 ghost use Rattle.pid_findings.specs.Views.{FindingView};
 ghost use Rattle.job_programs.specs.Answers.{Answers, Refuses};
+ghost use Rattle.job_programs.specs.OtherStreams.{is_same_stream};
 ghost use Rattle.job_inputs.specs.JoinedInputs.{AreMadeOf, AreMovedByOne, AreStreamsIn, IsMovedIn};
 ghost use Rattle.job_inputs.specs.JoinedInputs as spec;
 ghost use Rattle.job_programs.specs.declared.program_clock.ProgramClock.{ProgramClock};
@@ -18,6 +19,7 @@ use job_programs::{
     JobError, JobEvent, JobInformation, JobNetwork, JobProgram, JobRefusal, ProgramClock,
     TimedStream,
 };
+use job_text::NetworkStreamPart;
 use job_units::declarations::too_many;
 use std::alloc::{AllocError, Global};
 use std::collections::VecDeque;
@@ -145,15 +147,51 @@ fn is_same_loop(one: &Option<Vec<u8>>, other: &Option<Vec<u8>>) -> bool
     }
 }
 
+// Returns whether two transport streams have the same ids and descriptors.
+fn is_same_stream(one: &NetworkStreamPart, other: &NetworkStreamPart) -> bool
+    ensures { result ≡ is_same_stream one.now other.now }
+{
+    (other.transport_stream_id == one.transport_stream_id
+        && other.original_network_id == one.original_network_id)
+        && one.descriptors.as_slice() == other.descriptors.as_slice()
+}
+
+// Returns whether the transport streams of two networks are the same, in their order.
+#[tactic(auto, unfolding(crate::specs::JoinedInputs::are_same_streams))]
+fn are_same_streams(ones: &[NetworkStreamPart], others: &[NetworkStreamPart]) -> bool
+    ensures { result ≡ spec.are_same_streams ones.now others.now }
+{
+    let mut left = ones;
+    let mut rest = others;
+    'streams: while let Some((one, later_ones)) = left.split_first() {
+        let Some((other, later)) = rest.split_first() else {
+            return false;
+        };
+        if !is_same_stream(one, other) {
+            return false;
+        }
+        left = later_ones;
+        rest = later;
+    }
+    rest.is_empty()
+}
+
+// Returns whether two networks, and this transport stream in them, have the same descriptors.
+fn has_same_loops(one: &JobNetwork, other: &JobNetwork) -> bool
+    ensures { result ≡ spec.has_same_loops one.now other.now }
+{
+    is_same_loop(&one.network_descriptors, &other.network_descriptors)
+        && one.descriptors.as_slice() == other.descriptors.as_slice()
+}
+
 // Returns whether two networks are one.
 #[tactic(auto, unfolding(crate::specs::JoinedInputs::is_same_network))]
 fn is_same_network(one: &JobNetwork, other: &JobNetwork) -> bool
     ensures { result ≡ spec.is_same_network one.now other.now }
 {
     one.id == other.id
-        && one.name.as_str() == other.name.as_str()
-        && is_same_loop(&one.network_descriptors, &other.network_descriptors)
-        && one.descriptors.as_slice() == other.descriptors.as_slice()
+        && (one.name.as_str() == other.name.as_str()
+            && (has_same_loops(one, other) && are_same_streams(&one.streams, &other.streams)))
 }
 
 // Returns whether an input names a network that differs from the network of the job.

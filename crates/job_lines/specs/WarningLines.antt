@@ -75,7 +75,7 @@ packet_text Bad = codes " bad-packet\n"
 packet_text Errored = codes " errored\n"
 packet_text AssociationChanges = codes " PAT changes: the first is used\n"
 packet_text ProgramLoss = codes " PAT names a program or PMT PID that the first does not: left out\n"
-packet_text NetworkSurplus = codes " NIT says other or more than one network and this stream: left out\n"
+packet_text NetworkSurplus = codes " NIT says other or more than one network and its streams: left out\n"
 
 unfoldable pub packet_line : ℕ → PacketWarning → List ℕ
 packet_line packet what = codes "packet " ++ decimal packet ++ packet_text what

@@ -149,7 +149,7 @@ fn packet_text(what: PacketWarning) -> &'static str
             " PAT names a program or PMT PID that the first does not: left out\n"
         }
         PacketWarning::NetworkSurplus => {
-            " NIT says other or more than one network and this stream: left out\n"
+            " NIT says other or more than one network and its streams: left out\n"
         }
     }
 }

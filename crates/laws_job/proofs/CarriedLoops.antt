@@ -9,6 +9,7 @@ use Rattle.pid_findings.specs.Views.{FindingView}
 use Rattle.ts_services.specs.NetworkInformation.{FoundNetworkView, stream_network}
 use Rattle.ts_services.specs.Services.{FoundServiceView, service}
 use Rattle.dvb_tables.specs.EventEntries.{EventView}
+use Rattle.dvb_tables.specs.TransportStreams.{TransportStreamView}
 use Rattle.dvb_texts.specs.Texts.{decode_text}
 use Rattle.description_parts.specs.Described.{DescribedEvent, DescribedNetwork}
 use Rattle.service_information.specs.CodedTimes.{moment_in, seconds_in}
@@ -23,6 +24,7 @@ use Rattle.job_programs.specs.GivenNames.{name_given}
 use Rattle.job_programs.specs.Information.{JobInformationView, information_of, named_service, network_loop, network_or, network_with, service_by, service_for}
 use Rattle.job_programs.specs.Information.{service_loop, service_with}
 use Rattle.job_programs.specs.JobPrograms.{JobProgramView}
+use Rattle.job_programs.specs.OtherStreams.{other_streams}
 use Rattle.job_inputs.proofs.MovedInputs.{moved_of}
 use Rattle.stream_jobs.specs.CarriedLoops.{NetworkIs, events_of}
 use Rattle.stream_jobs.proofs.Agreement.{some_same}
@@ -172,25 +174,30 @@ without_some (d ∷ ds) (e ∷ es) is =
 
 -- 4. The network
 
-network_carried : (given : Option NetworkNameView) (found : Option FoundNetworkView) (n : FoundNetworkView) → given ≡ None → found ≡ Some n →
-    network_or given found ≡ Some (network_with n (decode_text 200 n.name))
+network_carried : (given : Option NetworkNameView) (found : Option FoundNetworkView) (others : List TransportStreamView) (n : FoundNetworkView) → given ≡ None →
+    found ≡ Some n → network_or given found others ≡ Some (network_with others n (decode_text 200 n.name))
 unfolding network_or
-network_carried given found n none is = rw (none, is) refl
+network_carried given found others n none is = rw (none, is) refl
 
-loop_carried : (n : FoundNetworkView) → can_be_kept 700 n.network_descriptors ≡ true →
-    network_loop (network_with n (decode_text 200 n.name)) ≡ Some n.network_descriptors
+loop_carried : (others : List TransportStreamView) (n : FoundNetworkView) → can_be_kept 700 n.network_descriptors ≡ true →
+    network_loop (network_with others n (decode_text 200 n.name)) ≡ Some n.network_descriptors
 unfolding network_with
-loop_carried n can = kept_is 700 (given_network (decode_text 200 n.name)) n.network_descriptors can
+loop_carried others n can = kept_is 700 (given_network (decode_text 200 n.name)) n.network_descriptors can
 
-stream_stays : (n : FoundNetworkView) (name : List ℕ) → (network_with n name).descriptors ≡ n.descriptors
+stream_stays : (others : List TransportStreamView) (n : FoundNetworkView) (name : List ℕ) → (network_with others n name).descriptors ≡ n.descriptors
 unfolding network_with
-stream_stays n name = refl
+stream_stays others n name = refl
 
-of_network : (a : DescribedNetwork) (n : FoundNetworkView) → NetworkIs a (network_with n (decode_text 200 n.name)) →
-    can_be_kept 700 n.network_descriptors ≡ true → NetworkCarried a n
-of_network a n is can = record {
-  network = some_same a.network_descriptors n.network_descriptors (sym is.network ∙ loop_carried n can);
-  stream = is.stream ∙ stream_stays n (decode_text 200 n.name);
+others_stay : (others : List TransportStreamView) (n : FoundNetworkView) (name : List ℕ) → (network_with others n name).streams ≡ others
+unfolding network_with
+others_stay others n name = refl
+
+of_network : (a : DescribedNetwork) (others : List TransportStreamView) (n : FoundNetworkView) →
+    NetworkIs a (network_with others n (decode_text 200 n.name)) → can_be_kept 700 n.network_descriptors ≡ true → NetworkCarried a n others
+of_network a others n is can = record {
+  network = some_same a.network_descriptors n.network_descriptors (sym is.network ∙ loop_carried others n can);
+  stream = is.stream ∙ stream_stays others n (decode_text 200 n.name);
+  others = is.others ∙ others_stay others n (decode_text 200 n.name);
 }
 
 pub loops_carried : LoopsCarriedLaw
@@ -213,7 +220,9 @@ loops_carried options count findings input by d is agree =
           ap (λ (x : JobInformationView). map event_loop (events_of p.number x.events)) (sym from.information_is) ∙ loops.events k p here in
           without_some p.events (own_events p.number all) (sym same ∙ events_carried p.number all (job_events_said findings input.programs)));
       network = λ a n here none found can. (
-          let at : input.information.network ≡ Some (network_with n (decode_text 200 n.name)) =
-          ap (λ (x : JobInformationView). x.network) from.information_is ∙ network_carried options.network (stream_network from.id findings) n none found in
-          of_network a n (loops.network a (network_with n (decode_text 200 n.name)) here at) can);
+          let others = other_streams from.id findings in
+          let at : input.information.network ≡ Some (network_with others n (decode_text 200 n.name)) =
+          ap (λ (x : JobInformationView). x.network) from.information_is
+          ∙ network_carried options.network (stream_network from.id findings) others n none found in
+          of_network a others n (loops.network a (network_with others n (decode_text 200 n.name)) here at) can);
     }

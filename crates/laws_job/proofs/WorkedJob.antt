@@ -36,6 +36,7 @@ use Rattle.job_programs.specs.JobStreams.{is_stream_of as job_streams_is_stream_
 use Rattle.job_programs.specs.JobTables.{can_take, has_table, is_left_out, is_reported, job_tables, packet_at, packet_span, span_if, table_if, table_of}
 use Rattle.job_programs.specs.JobTables.{tables_on}
 use Rattle.job_programs.specs.LaterPrograms.{has_lost, is_kept, is_read, loses, program_loss}
+use Rattle.job_programs.specs.OtherStreams.{is_said as other_streams_is_said, is_surplus as other_streams_is_surplus, others_of, surplus_from}
 use Rattle.job_programs.specs.Packets.{is_bad as packets_is_bad, no_packets}
 use Rattle.job_programs.specs.ProgramClocks.{clock_by, is_same_clock}
 use Rattle.job_programs.specs.Warnings.{buffer_warning, map_warnings, name_warning, network_warnings, option_warnings, packet_warning, packet_warning_of}
@@ -111,11 +112,9 @@ use Rattle.stream_programs.specs.StrayPids.{is_pes, omitted_pid, pes_count, pes_
 use Rattle.stream_programs.specs.Streams.{has_no_pes, holder, is_alike, is_reserved, is_shared_with, is_stream_of as streams_is_stream_of, omission_of}
 use Rattle.stream_programs.specs.Streams.{shared_by}
 use Rattle.ts_services.specs.NetworkInformation.{can_be_said as network_information_can_be_said, coded_name, entry_of, first_network}
-use Rattle.ts_services.specs.NetworkInformation.{is_entry as network_information_is_entry, is_network_section, is_one, is_original}
-use Rattle.ts_services.specs.NetworkInformation.{is_said as network_information_is_said, is_same as network_information_is_same}
-use Rattle.ts_services.specs.NetworkInformation.{is_surplus as network_information_is_surplus, known_stream, network_in, network_said, network_surplus}
-use Rattle.ts_services.specs.NetworkInformation.{network_with, nit_found, nit_in, nit_in_force, nit_of_section, says_no_more, says_only, stream_network}
-use Rattle.ts_services.specs.NetworkInformation.{surplus_from}
+use Rattle.ts_services.specs.NetworkInformation.{is_entry as network_information_is_entry, is_network_section, is_original}
+use Rattle.ts_services.specs.NetworkInformation.{known_stream, network_in, network_said}
+use Rattle.ts_services.specs.NetworkInformation.{network_with, nit_found, nit_in, nit_in_force, nit_of_section, stream_network}
 use Rattle.ts_services.specs.Networks.{network, network_found as networks_network_found}
 use Rattle.ts_services.specs.ServiceDescriptions.{in_force as service_descriptions_in_force, sdt_found, sdt_in, sdt_of_section}
 use Rattle.ts_services.specs.Services.{in_descriptors as services_in_descriptors, in_entries, length_prefixed, of_descriptor as services_of_descriptor}
@@ -172,9 +171,8 @@ unfolding descriptors_from descriptors_in first_descriptor has_ca has_of_multipl
     programs_of shares with_access with_map with_multiplex with_program_by with_program_if programs_with_programs with_shared with_stream
     with_stream_if programs_with_streams with_table is_pes omitted_pid pes_count pes_number stray_pid stray_pids unknown_pid has_no_pes holder
     is_alike is_reserved is_shared_with streams_is_stream_of omission_of shared_by network_information_can_be_said coded_name entry_of first_network
-    network_information_is_entry is_network_section is_one is_original network_information_is_said network_information_is_same
-    network_information_is_surplus known_stream network_in network_said network_surplus network_with nit_found nit_in nit_in_force nit_of_section
-    says_no_more says_only stream_network surplus_from network networks_network_found service_descriptions_in_force sdt_found sdt_in sdt_of_section
+    network_information_is_entry is_network_section is_original other_streams_is_said other_streams_is_surplus others_of known_stream network_in network_said
+    network_with nit_found nit_in nit_in_force nit_of_section stream_network surplus_from network networks_network_found service_descriptions_in_force sdt_found sdt_in sdt_of_section
     services_in_descriptors in_entries length_prefixed services_of_descriptor of_entry service service_found service_in with_provider all_later
     dts_are_made is_later found_stream made_for makes_dts makes_itself begin_later crosses_into do_cross why_no_unit without_unit
 input = refl

@@ -3,20 +3,23 @@ use Rattle.std.specs.Prelude.{◌≡◌, ℕ, ◌==◌, true, List, map, filter,
 use Rattle.pid_findings.specs.Views.{FindingView}
 use Rattle.ts_services.specs.NetworkInformation.{FoundNetworkView, stream_network}
 use Rattle.ts_services.specs.Services.{FoundServiceView, service}
-use Rattle.description_parts.specs.Described.{Described, DescribedNetwork, DescribedProgram}
+use Rattle.dvb_tables.specs.TransportStreams.{TransportStreamView}
+use Rattle.description_parts.specs.Described.{Described, DescribedNetwork, DescribedProgram, network_stream_view}
 use Rattle.given_values.specs.declared.clock_sharing.ClockSharing.{ClockSharing}
 use Rattle.job_programs.specs.Events.{job_events}
 use Rattle.job_programs.specs.GivenLoops.{can_be_kept}
 use Rattle.job_programs.specs.GivenNames.{name_given}
 use Rattle.job_programs.specs.JobOptions.{JobOptionsView}
 use Rattle.job_programs.specs.JobPrograms.{JobProgramView}
+use Rattle.job_programs.specs.OtherStreams.{other_streams}
 use Rattle.job_inputs.specs.JobInput.{JobInputView, job_input}
 use Rattle.stream_jobs.specs.Jobs.{AllAgree}
 
--- the descriptors of a network, and of this transport stream in it, are those that were found
-pub record NetworkCarried (a : DescribedNetwork) (n : FoundNetworkView) : Type 0 where
+-- the descriptors of a network, and of this transport stream in it, are those that were found, and so are its other transport streams
+pub record NetworkCarried (a : DescribedNetwork) (n : FoundNetworkView) (others : List TransportStreamView) : Type 0 where
   pub network : a.network_descriptors ≡ n.network_descriptors
   pub stream : a.descriptors ≡ n.descriptors
+  pub others : map network_stream_view a.streams ≡ others
 
 -- of a stream with this transport_stream_id and these programs
 pub record LoopsCarried (options : JobOptionsView) (findings : List FindingView) (programs : List JobProgramView) (d : Described) : Type 0 where
@@ -30,7 +33,7 @@ pub record LoopsCarried (options : JobOptionsView) (findings : List FindingView)
       map (λ e. e.descriptors) p.events ≡ map (λ e. e.descriptors) (filter (λ e. e.program == p.number) (job_events findings programs))
   -- so has the network, if no option gives one, and a description can have its descriptors: at most 700 bytes
   pub network : (a : DescribedNetwork) (n : FoundNetworkView) → d.network ≡ Some a → options.network ≡ None → stream_network id findings ≡ Some n →
-      can_be_kept 700 n.network_descriptors ≡ true → NetworkCarried a n
+      can_be_kept 700 n.network_descriptors ≡ true → NetworkCarried a n (other_streams id findings)
 
 abbrev pub LoopsCarriedLaw : Type 0
 LoopsCarriedLaw = (options : JobOptionsView) (count : ℕ) (findings : List FindingView) (input : JobInputView) (by : ClockSharing) (d : Described) →

@@ -59,7 +59,7 @@ pub fn found_again()
 }
 
 /// States that a job's description has the descriptors that the input's SDT, EIT and NIT have of services, events and
-/// the network, loop for loop.
+/// the network, loop for loop, and the other transport streams of that network.
 pub fn loops()
     ensures { LoopsCarriedLaw }
 {}

@@ -9,16 +9,18 @@ use Rattle.toml.specs.Data.{Data, string, integer, boolean, array}
 use Rattle.unit_timing.specs.declared.allowance.Allowance.{Allowance}
 use Rattle.unit_timing.specs.declared.allowance.Allowance.TheVariants.{Groups, Pace}
 use Rattle.unit_timing.specs.declared.multiplexing_buffer.MultiplexingBuffer.{MultiplexingBuffer}
+use Rattle.dvb_tables.specs.TransportStreams.{TransportStreamView}
 use Rattle.pid_findings.specs.Views.{FindingView}
 use Rattle.job_text.specs.DescriptionParts.{EventPartView, FramingPartView, HeadingView, NetworkPartView, ProgramPartView, StreamPartView, TablePartView}
-use Rattle.job_text.specs.Fields.{burst_numbers, drain_numbers, frame_numbers, rest_numbers, group_numbers, last_numbers, leak_numbers}
+use Rattle.job_text.specs.Fields.{burst_numbers, drain_numbers, frame_numbers, rest_numbers, group_numbers, last_numbers, leak_numbers, network_stream_numbers}
 use Rattle.job_text.specs.Fields.{pace_numbers, place_numbers, program_numbers, size_numbers, table_numbers, time_numbers}
 use Rattle.job_text.specs.KeyLines.{digits_of, header, hex_line, items_of, items_text, key_line, list_line, named_line, noted_line, number_if_any, number_line, number_lines, set_line, table_header}
 use Rattle.job_text.specs.KeyLines.{value_text}
-use Rattle.job_text.specs.Notes.{is_shown, name_note, note_of, type_note}
+use Rattle.job_text.specs.Notes.{is_named, is_shown, name_note, note_of, type_note}
 use Rattle.job_text.proofs.NoteLines.{notes_are_shown}
 use Rattle.job_text.specs.Texts.{event_lines, event_names, event_numbers, event_place, event_text, framing_if_any, framing_text, heading_back, heading_numbers}
-use Rattle.job_text.specs.Texts.{heading_text, network_if_any, network_names, program_back, program_clock, program_front, program_service, program_text}
+use Rattle.job_text.specs.Texts.{heading_text, network_if_any, network_names, network_own, network_stream_front, network_stream_text}
+use Rattle.job_text.specs.Texts.{program_back, program_clock, program_front, program_service, program_text}
 use Rattle.job_text.specs.Texts.{stream_end, stream_front, stream_place, stream_text, stream_times, table_back, table_front, table_text, type_line}
 use Rattle.ts_services.specs.NetworkInformation.{stream_network}
 use Rattle.ts_services.specs.Services.{service}
@@ -29,6 +31,7 @@ use Rattle.job_programs.specs.Information.{JobInformationView, NamedServiceView,
 use Rattle.job_inputs.specs.JobInput.{JobInputView}
 use Rattle.job_programs.specs.JobOptions.{JobOptionsView}
 use Rattle.job_programs.specs.JobPrograms.{JobProgramView}
+use Rattle.job_programs.specs.OtherStreams.{other_streams}
 use Rattle.job_programs.specs.JobTables.{table_lines, table_part, tables_text}
 use Rattle.stream_jobs.specs.SharedClocks.{sharing}
 use Rattle.stream_jobs.specs.Texts.{description_text, heading_of, program_lines, program_part, program_with, programs_text, stream_lines}
@@ -75,7 +78,7 @@ key_passes key value other plain flat = noted_passes key value (note_of key valu
 named_passes : (key bytes name : List ℕ) → IsOther key → is_flat key ≡ true → Passes (named_line key bytes name)
 named_passes key bytes name other plain =
     noted_passes key (string (encode_lower bytes)) (name_note name) other plain (string_flat (encode_lower bytes) (hex_flat bytes))
-    (flat_if is_shown (name_note name) refl (notes_are_shown.2 name))
+    (flat_if is_named (name_note name) refl (notes_are_shown.2 name))
 
 -- The line of a number passes.
 number_passes : (key : List ℕ) (n : ℕ) → IsOther key → is_flat key ≡ true → Passes (number_line (key, n))
@@ -177,6 +180,18 @@ names_pass : (o : Option (List ℕ)) (n : NetworkPartView) → is_flat n.name �
 names_pass None n plain = text_passes (codes "name") n.name (λ rest. refl) refl plain
 names_pass (Some bytes) n plain = named_passes (codes "network_descriptors") bytes n.name (λ rest. refl) refl
 
+network_stream_header : Passes (header (codes "network.stream"))
+unfolding header
+network_stream_header = both_pass (codes "\n") (codes "[[network.stream]]\n") empty_line (line_passes (codes "[[network.stream]]") refl (λ rest. refl))
+
+network_streams_pass : (ts : List TransportStreamView) → Passes (flat_map network_stream_text ts)
+network_streams_pass [] = none_passes
+network_streams_pass (t ∷ ts) =
+    let front = both_pass (header (codes "network.stream")) (hex_line (codes "descriptors") t.descriptors) network_stream_header (bytes_pass t.descriptors) in
+    let numbers = numbers_pass (network_stream_numbers t) ((λ rest. refl), (refl, ((λ rest. refl), (refl, tt)))) in
+    both_pass (network_stream_text t) (flat_map network_stream_text ts) (both_pass (network_stream_front t) (number_lines (network_stream_numbers t)) front numbers)
+    (network_streams_pass ts)
+
 network_passes : (n : Option NetworkPartView) → PlainPart n → Passes (network_if_any n)
 network_passes None plain = none_passes
 network_passes (Some n) plain =
@@ -184,7 +199,8 @@ network_passes (Some n) plain =
     let id = both_pass (number_line (codes "id", n.id)) names (number_passes (codes "id") n.id (λ rest. refl) refl)
     (names_pass n.network_descriptors n plain) in
     let keys = both_pass (hex_line (codes "descriptors") n.descriptors) _ (bytes_pass n.descriptors) id in
-    both_pass (table_header (codes "network")) _ network_header keys
+    let own = both_pass (table_header (codes "network")) _ network_header keys in
+    both_pass (network_own n) (flat_map network_stream_text n.streams) own (network_streams_pass n.streams)
 
 program_header : Passes (header (codes "program"))
 unfolding header
@@ -360,7 +376,7 @@ pub information_plain : (w : JobOptionsView) (id : ℕ) (findings : List Finding
 unfolding information_of
 information_plain w id findings programs plain = record {
   start = begin_flat w.start (job_events findings programs) findings plain.start;
-  network = part_plain w.network (stream_network id findings) plain.network;
+  network = part_plain w.network (stream_network id findings) (other_streams id findings) plain.network;
   events = each_mapped event_part PlainEvent (job_events findings programs) one_event;
   services = each_mapped (service_for w.names findings) PlainService programs (λ p. service_plain w.names p.number (service p.number findings) plain.names);
 }

@@ -11,6 +11,7 @@ use Rattle.std.proofs.lemmas.List.Sums.{list_all-from_AllPass}
 use Rattle.std.proofs.lemmas.Str.{NoCharPasses-byte}
 use Rattle.clap.specs.Words.{Row, Text, first_of}
 use Rattle.pid_findings.specs.Views.{FindingView}
+use Rattle.dvb_tables.specs.TransportStreams.{TransportStreamView}
 use Rattle.ts_services.specs.NetworkInformation.{FoundNetworkView}
 use Rattle.ts_services.specs.Services.{FoundServiceView}
 use Rattle.dvb_texts.specs.Texts.{characters, decode_text}
@@ -295,8 +296,9 @@ abbrev pub PlainPart : Option NetworkPartView → Type 0
 PlainPart None = Unit {0}
 PlainPart (Some n) = is_flat n.name ≡ true
 
-pub part_plain : (given : Option NetworkNameView) (found : Option FoundNetworkView) → PlainNetwork given → PlainPart (network_or given found)
+pub part_plain : (given : Option NetworkNameView) (found : Option FoundNetworkView) (others : List TransportStreamView) → PlainNetwork given →
+    PlainPart (network_or given found others)
 unfolding network_or network_part_with network_of
-part_plain None None h = tt
-part_plain None (Some n) h = decoded_flat 200 n.name
-part_plain (Some n) found h = h
+part_plain None None others h = tt
+part_plain None (Some n) others h = decoded_flat 200 n.name
+part_plain (Some n) found others h = h

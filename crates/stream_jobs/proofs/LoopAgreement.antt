@@ -2,13 +2,16 @@
 use Rattle.std.proofs.Common.{◌≡◌, ℕ, zero, suc, ◌==◌, true, false, Option, Some, None, List, [], ◌∷◌, length, map, slice_get, sym, refl, ap, ap₂, subst, ◌∙◌, inl, inr, arith}
 use Rattle.std.proofs.lemmas.Bool.{and_parts, cases_Bool, cond_both, eqb-true, false≢true}
 use Rattle.std.proofs.lemmas.Bool.Decides.{nat_tests}
-use Rattle.description_parts.specs.Described.{Described, DescribedEvent, DescribedNetwork, DescribedProgram}
+use Rattle.dvb_tables.specs.TransportStreams.{TransportStreamView}
+use Rattle.description_parts.specs.Described.{Described, DescribedEvent, DescribedNetwork, DescribedProgram, network_stream_view}
+use Rattle.description_parts.specs.declared.network_stream.NetworkStream.{NetworkStream}
 use Rattle.job_text.specs.DescriptionParts.{EventPartView, NetworkPartView}
 use Rattle.job_programs.specs.Events.{event_loop}
 use Rattle.job_programs.specs.GivenLoops.{is_loop}
 use Rattle.job_programs.specs.Information.{JobInformationView, NamedServiceView, network_loop, service_loop}
+use Rattle.job_programs.specs.OtherStreams.{is_same_stream}
 use Rattle.stream_jobs.specs.CarriedLoops.{HasLoops, NetworkIs, after_event, are_events, are_from, are_services, events_of, has_loops, have_events, is_event}
-use Rattle.stream_jobs.specs.CarriedLoops.{is_network, past_event}
+use Rattle.stream_jobs.specs.CarriedLoops.{are_streams, is_network, past_event}
 use Rattle.stream_jobs.proofs.Agreement.{same_bytes, some_same}
 
 pub loop_is : (descriptors : List ℕ) (o : Option (List ℕ)) → is_loop descriptors o ≡ true → o ≡ Some descriptors
@@ -79,6 +82,28 @@ each_events (x ∷ ps) es h zero p at =
     rw (sym (some_same x p at)) (events_are x.number x.events es (and_parts (are_events x.number x.events es) (have_events ps es) h).0)
 each_events (x ∷ ps) es h (suc k) p at = each_events ps es (and_parts (are_events x.number x.events es) (have_events ps es) h).1 k p at
 
+same_stream : (a b c d : ℕ) (x y : List ℕ) → a ≡ b → c ≡ d → x ≡ y →
+    let t : TransportStreamView = record { transport_stream_id = a; original_network_id = c; descriptors = x } in
+    t ≡ record { transport_stream_id = b; original_network_id = d; descriptors = y }
+same_stream a b c d x y id original descriptors = rw (id, original, descriptors) refl
+
+stream_is : (t u : TransportStreamView) → is_same_stream t u ≡ true → t ≡ u
+stream_is t u h =
+    let all = and_parts _ _ h in
+    let ids = and_parts _ _ all.0 in
+    same_stream t.transport_stream_id u.transport_stream_id t.original_network_id u.original_network_id t.descriptors u.descriptors
+    (sym (eqb-true u.transport_stream_id t.transport_stream_id ids.0)) (sym (eqb-true u.original_network_id t.original_network_id ids.1))
+    (same_bytes t.descriptors u.descriptors all.1)
+
+streams_are : (ds : List NetworkStream) (ts : List TransportStreamView) → are_streams ds ts ≡ true → map network_stream_view ds ≡ ts
+unfolding are_streams
+streams_are [] [] h = refl
+streams_are [] (t ∷ ts) h = let some : (length (t ∷ ts) == 0) ≡ false = grind (arith, nat_tests) in absurd (false≢true (sym some ∙ h))
+streams_are (d ∷ ds) [] h = absurd cc
+streams_are (d ∷ ds) (t ∷ ts) h =
+    let all = and_parts _ _ h in
+    ap₂ (λ (x : TransportStreamView) (xs : List TransportStreamView). x ∷ xs) (stream_is (network_stream_view d) t all.0) (streams_are ds ts all.1)
+
 network_is : (o : Option DescribedNetwork) (m : Option NetworkPartView) → is_network o m ≡ true →
     (d : DescribedNetwork) (n : NetworkPartView) → o ≡ Some d → m ≡ Some n → NetworkIs d n
 unfolding is_network
@@ -87,10 +112,12 @@ network_is (Some x) None h d n at there = absurd cc
 network_is (Some x) (Some y) h d n at there =
     let all = and_parts _ _ h in
     let after_id = and_parts _ _ all.1 in
+    let loops = and_parts _ _ after_id.0 in
     rw (sym (some_same x d at), sym (some_same y n there)) (record {
       id = eqb-true x.id y.id all.0;
-      network = loop_is x.network_descriptors (network_loop y) after_id.0;
-      stream = same_bytes x.descriptors y.descriptors after_id.1;
+      network = loop_is x.network_descriptors (network_loop y) loops.0;
+      stream = same_bytes x.descriptors y.descriptors loops.1;
+      others = streams_are x.streams y.streams after_id.1;
     })
 
 pub loops_are : (d : Described) (i : JobInformationView) → has_loops d i ≡ true → HasLoops d i

@@ -1,11 +1,14 @@
 -- Whether a description has the descriptors of services, events and the network that an input has.
 use Rattle.std.specs.Prelude.{◌≡◌, ℕ, ◌==◌, ◌&&◌, Bool, true, false, if◌then◌else◌, List, [], ◌∷◌, length, map, filter, slice_get, Option, Some, None}
 use Rattle.std.specs.Str.{bytes_eq}
-use Rattle.description_parts.specs.Described.{Described, DescribedEvent, DescribedNetwork, DescribedProgram}
+use Rattle.dvb_tables.specs.TransportStreams.{TransportStreamView}
+use Rattle.description_parts.specs.Described.{Described, DescribedEvent, DescribedNetwork, DescribedProgram, network_stream_view}
+use Rattle.description_parts.specs.declared.network_stream.NetworkStream.{NetworkStream}
 use Rattle.job_text.specs.DescriptionParts.{EventPartView, NetworkPartView}
 use Rattle.job_programs.specs.Events.{event_loop}
 use Rattle.job_programs.specs.GivenLoops.{is_loop}
 use Rattle.job_programs.specs.Information.{JobInformationView, NamedServiceView, network_loop, service_loop}
+use Rattle.job_programs.specs.OtherStreams.{is_same_stream}
 
 -- 1. Services: of the programs, in their order
 
@@ -40,10 +43,18 @@ unfoldable pub have_events : List DescribedProgram → List EventPartView → Bo
 have_events [] es = true
 have_events (p ∷ ps) es = are_events p.number p.events es && have_events ps es
 
--- 3. The network
+-- 3. The network: its other transport streams in their order, its descriptors, and this transport stream's
+
+unfoldable pub are_streams : List NetworkStream → List TransportStreamView → Bool
+are_streams [] ts = length ts == 0
+are_streams (d ∷ ds) [] = false
+are_streams (d ∷ ds) (t ∷ ts) = is_same_stream (network_stream_view d) t && are_streams ds ts
+
+abbrev pub has_network_loops : DescribedNetwork → NetworkPartView → Bool
+has_network_loops d n = is_loop d.network_descriptors (network_loop n) && bytes_eq d.descriptors n.descriptors
 
 abbrev pub is_same_network : DescribedNetwork → NetworkPartView → Bool
-is_same_network d n = d.id == n.id && (is_loop d.network_descriptors (network_loop n) && bytes_eq d.descriptors n.descriptors)
+is_same_network d n = d.id == n.id && (has_network_loops d n && are_streams d.streams n.streams)
 
 unfoldable pub is_network : Option DescribedNetwork → Option NetworkPartView → Bool
 is_network None None = true
@@ -63,6 +74,7 @@ pub record NetworkIs (d : DescribedNetwork) (n : NetworkPartView) : Type 0 where
   pub id : d.id ≡ n.id
   pub network : network_loop n ≡ Some d.network_descriptors
   pub stream : d.descriptors ≡ n.descriptors
+  pub others : map network_stream_view d.streams ≡ n.streams
 
 pub record HasLoops (d : Described) (i : JobInformationView) : Type 0 where
   pub services : (k : ℕ) (p : DescribedProgram) (s : NamedServiceView) → slice_get d.programs k ≡ Some p → slice_get i.services k ≡ Some s →

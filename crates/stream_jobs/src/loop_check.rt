@@ -1,12 +1,15 @@
 //! Whether a description has the descriptors of services, events and the network that an input has.
 
 ghost use Rattle.std.specs.Prelude.{◌≡◌, IsTrue, option_map};
+ghost use Rattle.description_parts.specs.Described.{network_stream_view};
+ghost use Rattle.job_programs.specs.OtherStreams.{is_same_stream};
 ghost use Rattle.stream_jobs.specs.CarriedLoops.{HasLoops};
 ghost use Rattle.stream_jobs.specs.CarriedLoops as spec;
 
 use description::Description;
-use description_parts::{EventDescription, Network, ProgramDescription};
+use description_parts::{EventDescription, Network, NetworkStream, ProgramDescription};
 use job_programs::{JobEvent, JobInformation, JobNetwork, NamedService};
+use job_text::NetworkStreamPart;
 
 // Returns whether the services of programs have the declared descriptors.
 #[tactic(auto, unfolding(crate::specs::CarriedLoops::are_services))]
@@ -105,13 +108,50 @@ fn have_events(declared: &[ProgramDescription], events: &[JobEvent]) -> bool
     true
 }
 
-// Returns whether a network has the declared descriptors.
+// Returns whether a transport stream has the declared ids and descriptors.
+fn is_stream(declared: &NetworkStream, stream: &NetworkStreamPart) -> bool
+    ensures { result ≡ is_same_stream (network_stream_view declared.now) stream.now }
+{
+    (stream.transport_stream_id == declared.transport_stream_id
+        && stream.original_network_id == declared.original_network_id)
+        && declared.descriptors.as_bytes() == stream.descriptors.as_slice()
+}
+
+// Returns whether the other transport streams of a network are the declared ones.
+#[tactic(auto, unfolding(crate::specs::CarriedLoops::are_streams))]
+fn are_streams(declared: &[NetworkStream], streams: &[NetworkStreamPart]) -> bool
+    ensures { result ≡ spec.are_streams declared.now streams.now }
+{
+    let mut ones = declared;
+    let mut rest = streams;
+    'streams: while let Some((one, later_ones)) = ones.split_first() {
+        let Some((stream, later)) = rest.split_first() else {
+            return false;
+        };
+        if !is_stream(one, stream) {
+            return false;
+        }
+        ones = later_ones;
+        rest = later;
+    }
+    rest.is_empty()
+}
+
+// Returns whether a network, and this transport stream in it, have the declared descriptors.
+fn has_network_loops(declared: &Network, network: &JobNetwork) -> bool
+    ensures { result ≡ spec.has_network_loops declared.now network.now }
+{
+    network.has_loop(declared.network_descriptors.as_bytes())
+        && declared.descriptors.as_bytes() == network.descriptors.as_slice()
+}
+
+// Returns whether a network has the declared descriptors and other transport streams.
 fn is_same_network(declared: &Network, network: &JobNetwork) -> bool
     ensures { result ≡ spec.is_same_network declared.now network.now }
 {
     declared.id == network.id
-        && (network.has_loop(declared.network_descriptors.as_bytes())
-            && declared.descriptors.as_bytes() == network.descriptors.as_slice())
+        && (has_network_loops(declared, network)
+            && are_streams(declared.streams.as_slice(), &network.streams))
 }
 
 // Returns whether there is the declared network, or no network and no declared one.
