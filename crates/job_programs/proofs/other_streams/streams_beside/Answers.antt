@@ -1,4 +1,4 @@
-use Rattle.std.proofs.Common.{◌≡◌, ◌∙◌, List, [], Global, map, sym, ap}
+use Rattle.std.proofs.Common.{◌∙◌, List, Global, map, sym, ap}
 use Rattle.dvb_tables.specs.TransportStreams.{TransportStreamView}
 use Rattle.pid_findings.specs.Shown.{finding_view}
 use Rattle.ts_services.specs.NetworkInformation.{found_network_view}
