@@ -12,7 +12,7 @@ ghost use Rattle.job_programs.specs.declared.program_clock.ProgramClock.{Program
 use crate::input::JobInput;
 use crate::new_numbers::{NewNumber, others};
 use crate::renumbered_inputs::{
-    Renumbering, found_pids, program_numbers, renumbered, renumbering_of,
+    Renumbering, found_pids, program_numbers, renumber, renumbering_of,
 };
 use job_programs::job_programs::clock_in;
 use job_programs::{
@@ -76,63 +76,44 @@ impl Model for JoinedInputs {
     ghost view = { λ j. record { input = j.input; origins = j.origins.items; notes = j.notes.items } };
 }
 
-// Returns one list after another.
-fn both<T: Drop>(one: Vec<T>, other: Vec<T>) -> Result<Vec<T>, AllocError>
-    ensures { IfOk result (λ all. all.items ≡ one.items ++ other.items) }
+// Appends the elements of another list, which has none then.
+fn append<T: Drop>(all: &mut Vec<T>, more: &mut Vec<T>) -> Result<(), AllocError>
+    ensures { OnOk result (all.new.items ≡ all.old.items ++ more.old.items) }
 {
-    let mut all = one;
-    let mut more = other;
-    all.append(&mut more)?;
-    Ok(all)
+    all.append(more)
 }
 
-// Returns the events of both inputs, up to the most of a description.
-fn both_events(one: Vec<JobEvent>, other: Vec<JobEvent>) -> Result<Vec<JobEvent>, AllocError>
-    ensures { IfOk result (λ events. events.items ≡ take spec.most_events (one.items ++ other.items)) }
+// Appends events, up to the most of a description.
+fn append_events(all: &mut Vec<JobEvent>, more: &mut Vec<JobEvent>) -> Result<(), AllocError>
+    ensures { OnOk result (all.new.items ≡ take spec.most_events (all.old.items ++ more.old.items)) }
 {
-    let mut events = both(one, other)?;
-    events.truncate(MOST_EVENTS);
-    Ok(events)
+    append(all, more)?;
+    all.truncate(MOST_EVENTS);
+    Ok(())
 }
 
-// Joins the events of two inputs; network and time are of the first input.
+// Joins the services and events of a second input to the first; network and time stay those of the first input.
 #[tactic(auto, unfolding(crate::specs::JoinedInputs::information_joined))]
-fn information_joined(
-    one: JobInformation,
-    other: JobInformation,
-) -> Result<JobInformation, AllocError>
-    ensures { IfOk result (λ i. i ≡ spec.information_joined one other) }
+fn join_information(one: &mut JobInformation, other: &mut JobInformation) -> Result<(), AllocError>
+    ensures { OnOk result (one.new ≡ spec.information_joined one.old other.old) }
 {
-    let sdt = one.sdt || other.sdt;
-    let services = both(one.services, other.services)?;
-    let events = both_events(one.events, other.events)?;
-    Ok(JobInformation {
-        transport_stream_id: one.transport_stream_id,
-        original_network_id: one.original_network_id,
-        start: one.start,
-        tdt: one.tdt,
-        sdt,
-        network: one.network,
-        events,
-        services,
-    })
+    one.sdt = one.sdt || other.sdt;
+    append(&mut one.services, &mut other.services)?;
+    append_events(&mut one.events, &mut other.events)
 }
 
-// Joins two inputs.
+// Joins a second input to the first, whose clock stays.
 #[tactic(auto, unfolding(crate::specs::JoinedInputs::joined))]
-fn joined(one: JobInput, other: JobInput) -> Result<JobInput, AllocError>
-    ensures { IfOk result (λ m. m ≡ spec.joined one other) }
+fn join(one: &mut JobInput, other: &mut JobInput) -> Result<(), AllocError>
+    ensures { OnOk result (one.new ≡ spec.joined one.old other.old) }
 {
-    Ok(JobInput {
-        information: information_joined(one.information, other.information)?,
-        base0: one.base0,
-        programs: both(one.programs, other.programs)?,
-        tables: both(one.tables, other.tables)?,
-        streams: both(one.streams, other.streams)?,
-        unit_counts: both(one.unit_counts, other.unit_counts)?,
-        choices: both(one.choices, other.choices)?,
-        warnings: both(one.warnings, other.warnings)?,
-    })
+    join_information(&mut one.information, &mut other.information)?;
+    append(&mut one.programs, &mut other.programs)?;
+    append(&mut one.tables, &mut other.tables)?;
+    append(&mut one.streams, &mut other.streams)?;
+    append(&mut one.unit_counts, &mut other.unit_counts)?;
+    append(&mut one.choices, &mut other.choices)?;
+    append(&mut one.warnings, &mut other.warnings)
 }
 
 // Returns whether two descriptor loops are one, or both networks have their names alone.
@@ -329,50 +310,40 @@ fn first_input(alloc: Global, input: JobInput) -> Result<JoinedInputs, AllocErro
 
 // Joins an input, with its new numbers, to the inputs before it.
 #[tactic(auto, unfolding(crate::specs::JoinedInputs::with_renumbered))]
-fn with_renumbered(
+fn add_renumbered(
     alloc: Global,
-    all: JoinedInputs,
-    input: JobInput,
+    all: &mut JoinedInputs,
+    input: &mut JobInput,
     numbers: &Renumbering,
-) -> Result<JoinedInputs, AllocError>
-    ensures { IfOk result (λ j. j ≡ spec.with_renumbered all input numbers.now) }
+) -> Result<(), AllocError>
+    ensures { OnOk result (all.new ≡ spec.with_renumbered all.old input.old numbers.now) }
 {
-    let mut notes = all.notes;
-    push_input_notes(alloc, numbers, &all.input, &input, &mut notes)?;
-    let origins = both(all.origins, origins_in(alloc, numbers.input, &input)?)?;
-    let more = renumbered(alloc, numbers, input)?;
-    Ok(JoinedInputs {
-        input: joined(all.input, more)?,
-        origins,
-        notes,
-    })
+    push_input_notes(alloc, numbers, &all.input, input, &mut all.notes)?;
+    let mut origins = origins_in(alloc, numbers.input, input)?;
+    append(&mut all.origins, &mut origins)?;
+    renumber(alloc, numbers, input)?;
+    join(&mut all.input, input)
 }
 
-// Refuses more programs or streams than a description may have.
-#[tactic(auto, unfolding(crate::specs::JoinedInputs::within_limits, job_programs::specs::Answers::unless, job_programs::specs::Answers::Answers, job_programs::specs::Answers::Refuses))]
-fn within_limits(all: JoinedInputs) -> Result<JoinedInputs, JobError>
-    ensures { Answers (spec.within_limits all) result }
-{
-    match too_many(all.input.programs.len(), all.input.streams.len()) {
-        Some(refusal) => Err(JobError::Refused(refusal)),
-        None => Ok(all),
-    }
-}
-
-// Joins an input to the inputs before it.
-#[tactic(auto, unfolding(crate::specs::JoinedInputs::with_input, job_programs::specs::Answers::and_then, job_programs::specs::Answers::Answers, job_programs::specs::Answers::Refuses))]
-fn with_input(
+// Joins an input to the inputs before it. Refuses more programs or streams than a description may have.
+#[tactic(auto, unfolding(crate::specs::JoinedInputs::with_input, crate::specs::JoinedInputs::within_limits, job_programs::specs::Answers::unless, job_programs::specs::Answers::and_then, job_programs::specs::Answers::Refuses))]
+fn add_input(
     alloc: Global,
     number: usize,
-    all: JoinedInputs,
-    input: JobInput,
-) -> Result<JoinedInputs, JobError>
-    ensures { Answers (spec.with_input number all input) result }
+    all: &mut JoinedInputs,
+    input: &mut JobInput,
+) -> Result<(), JobError>
+    ensures joined { OnOk result (spec.with_input number all.old input.old ≡ Ok all.new) }
+    ensures refused { IfErr result (Refuses (spec.with_input number all.old input.old)) }
 {
-    let Some(numbers) = renumbering_of(alloc, number, &all.input, &input)? else {
+    let Some(numbers) = renumbering_of(alloc, number, &all.input, input)? else {
         return Err(JobError::Refused(JobRefusal::Pids));
     };
-    within_limits(with_renumbered(alloc, all, input, &numbers)?)
+    add_renumbered(alloc, all, input, &numbers)?;
+    match too_many(all.input.programs.len(), all.input.streams.len()) {
+        Some(refusal) => Err(JobError::Refused(refusal)),
+        None => Ok(()),
+    }
 }
 
 // Joins all inputs, one after another.
@@ -384,9 +355,9 @@ fn all_joined(alloc: Global, first: JobInput, more: Vec<JobInput>) -> Result<Joi
     let mut all = first_input(alloc, first)?;
     let mut number: usize = 0;
     let mut left = VecDeque::from(more);
-    'inputs: while let Some(input) = left.pop_front() {
+    'inputs: while let Some(mut input) = left.pop_front() {
         number = number.saturating_add(1);
-        all = with_input(alloc, number, all, input)?;
+        add_input(alloc, number, &mut all, &mut input)?;
     }
     Ok(all)
 }

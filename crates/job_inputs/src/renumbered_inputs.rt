@@ -10,6 +10,7 @@ use crate::new_numbers::{NewNumber, all_become, becomes, new_numbers};
 use job_programs::{JobEvent, JobInformation, JobProgram, TimedStream};
 use std::alloc::{AllocError, Global};
 use std::marker::Model;
+use std::mem;
 
 /// The least new number of a program, and the least new PID.
 const LEAST_PROGRAM: u16 = 1;
@@ -258,72 +259,33 @@ fn push_events(
     Ok(())
 }
 
-// Returns the information of a job with the new program numbers in its events.
+// Gives the events of a job's information the new program numbers.
 #[tactic(auto, unfolding(crate::specs::RenumberedInputs::information_with))]
-fn information_with(
+fn renumber_information(
     alloc: Global,
     numbers: &Renumbering,
-    information: JobInformation,
-) -> Result<JobInformation, AllocError>
-    ensures { IfOk result (λ i. i ≡ spec.information_with numbers.now information) }
+    information: &mut JobInformation,
+) -> Result<(), AllocError>
+    ensures { OnOk result (information.new ≡ spec.information_with numbers.now information.old) }
 {
-    let JobInformation {
-        events: found,
-        transport_stream_id,
-        original_network_id,
-        start,
-        tdt,
-        sdt,
-        network,
-        services,
-    } = information;
-    let mut events = Vec::new(alloc);
-    push_events(numbers, found, &mut events)?;
-    Ok(JobInformation {
-        transport_stream_id,
-        original_network_id,
-        start,
-        tdt,
-        sdt,
-        network,
-        events,
-        services,
-    })
+    let found = mem::replace(&mut information.events, Vec::new(alloc));
+    push_events(numbers, found, &mut information.events)
 }
 
-/// Returns the input with its new numbers.
+/// Gives an input its new numbers.
 #[tactic(auto, unfolding(crate::specs::RenumberedInputs::renumbered))]
-pub(crate) fn renumbered(
+pub(crate) fn renumber(
     alloc: Global,
     numbers: &Renumbering,
-    input: JobInput,
-) -> Result<JobInput, AllocError>
-    ensures { IfOk result (λ m. m ≡ spec.renumbered numbers.now input) }
+    input: &mut JobInput,
+) -> Result<(), AllocError>
+    ensures { OnOk result (input.new ≡ spec.renumbered numbers.now input.old) }
 {
-    let JobInput {
-        information,
-        base0,
-        programs: found_programs,
-        tables: found_tables,
-        streams: found_streams,
-        unit_counts,
-        choices,
-        warnings,
-    } = input;
-    let mut programs = Vec::new(alloc);
-    push_programs(numbers, found_programs, &mut programs)?;
-    let mut tables = Vec::new(alloc);
-    push_tables(numbers, found_tables, &mut tables)?;
-    let mut streams = Vec::new(alloc);
-    push_streams(alloc, numbers, found_streams, &mut streams)?;
-    Ok(JobInput {
-        information: information_with(alloc, numbers, information)?,
-        base0,
-        programs,
-        tables,
-        streams,
-        unit_counts,
-        choices,
-        warnings,
-    })
+    let programs = mem::replace(&mut input.programs, Vec::new(alloc));
+    push_programs(numbers, programs, &mut input.programs)?;
+    let tables = mem::replace(&mut input.tables, Vec::new(alloc));
+    push_tables(numbers, tables, &mut input.tables)?;
+    let streams = mem::replace(&mut input.streams, Vec::new(alloc));
+    push_streams(alloc, numbers, streams, &mut input.streams)?;
+    renumber_information(alloc, numbers, &mut input.information)
 }
