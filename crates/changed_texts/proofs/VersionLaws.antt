@@ -32,7 +32,7 @@ events_below moment [] i = omega arith
 events_below moment (p ∷ ps) zero = omega arith
 events_below moment (p ∷ ps) (suc i) = events_below moment ps i
 
-version_below : (d : Described) (x : SubTable) (moment : ℕ) → IsInRange d → version_of d x moment < 32
+pub version_below : (d : Described) (x : SubTable) (moment : ℕ) → IsInRange d → version_of d x moment < 32
 version_below d Pat moment h = h.versions.pat
 version_below d Nit moment h = h.versions.nit
 version_below d Sdt moment h = h.versions.sdt
@@ -60,24 +60,23 @@ shown_count : (b : Bool) (v c : ℕ) → v < 32
 shown_count true v c h = omega (arith, h)
 shown_count false v c h = omega (arith, h)
 
-shown_next : (old new next : Described) (x : SubTable) (moment : ℕ) (b : Bool) → IsInRange old → without_versions next ≡ without_versions new
-    → count_of next x ≡ (if b then kept_count old new x moment else (kept_count old new x moment + 1) % 32)
-    → version_of next x moment ≡ (if b then version_of old x moment else (version_of old x moment + 1) % 32)
-shown_next old new next Pat moment b ranges same is = is ∙ shown_count b old.versions.pat new.versions.pat ranges.versions.pat
-shown_next old new next Nit moment b ranges same is = is ∙ shown_count b old.versions.nit new.versions.nit ranges.versions.nit
-shown_next old new next Sdt moment b ranges same is = is ∙ shown_count b old.versions.sdt new.versions.sdt ranges.versions.sdt
-shown_next old new next (Map p) moment b ranges same is =
-    is ∙ shown_count b (count_of old (Map p)) (count_of new (Map p)) (map_below old.programs p ranges.programs)
-shown_next old new next (Events p) moment b ranges same is =
-    let v = version_of old (Events p) moment in
+pub shown : (new next : Described) (y : SubTable) (v moment : ℕ) (b : Bool) → v < 32 → without_versions next ≡ without_versions new
+    → count_of next y ≡ (if b then (v + count_of new y + 32 - version_of new y moment) % 32
+    else ((v + count_of new y + 32 - version_of new y moment) % 32 + 1) % 32)
+    → version_of next y moment ≡ (if b then v else (v + 1) % 32)
+shown new next Pat v moment b low same is = is ∙ shown_count b v new.versions.pat low
+shown new next Nit v moment b low same is = is ∙ shown_count b v new.versions.nit low
+shown new next Sdt v moment b low same is = is ∙ shown_count b v new.versions.sdt low
+shown new next (Map p) v moment b low same is = is ∙ shown_count b v (count_of new (Map p)) low
+shown new next (Events p) v moment b low same is =
     let c = count_of new (Events p) in
     let k = program_number_by (eit_version moment) (slice_get (map without_number new.programs) p) in
-    let shown : version_of new (Events p) moment ≡ (c + k) % 32 = events_counted moment new.programs p in
+    let now : version_of new (Events p) moment ≡ (c + k) % 32 = events_counted moment new.programs p in
     events_counted moment next.programs p
     ∙ ap (λ (d : Described). (count_of next (Events p) + program_number_by (eit_version moment) (slice_get d.programs p)) % 32) same
     ∙ ap (λ (n : ℕ). (n + k) % 32) is
-    ∙ ap (λ (w : ℕ). ((if b then (v + c + 32 - w) % 32 else ((v + c + 32 - w) % 32 + 1) % 32) + k) % 32) shown
-    ∙ shown_events b v c k (events_below moment old.programs p) (events_below moment (map without_number new.programs) p)
+    ∙ ap (λ (w : ℕ). ((if b then (v + c + 32 - w) % 32 else ((v + c + 32 - w) % 32 + 1) % 32) + k) % 32) now
+    ∙ shown_events b v c k low (events_below moment (map without_number new.programs) p)
 
 pub next_version_law : CountedLaw → CountLaw → SameTablesLaw → NextVersionLaw
 next_version_law counted law tables old new t section x moment sent ranges new_ranges within of =
@@ -85,7 +84,8 @@ next_version_law counted law tables old new t section x moment sent ranges new_r
     let count = λ (n : ℕ). next_count old new (numbered_sub_table n) moment sent in
     let set = count_set counted law tables count new t section x place within of in
     let is = set ∙ ap (λ y. next_count old new y moment sent) (numbered_number x place) in
-    shown_next old new (next_texts old new moment sent) x moment (keeps_version old new x moment sent) ranges (same_counts counted count new) is
+    shown new (next_texts old new moment sent) x (version_of old x moment) moment (keeps_version old new x moment sent)
+    (version_below old x moment ranges) (same_counts counted count new) is
 
 -- Another version
 another : (v : ℕ) → v < 32 → (v + 1) % 32 ≡ v → ⊥
@@ -174,7 +174,7 @@ fixed_alike : (ps : List DescribedProgram) → map fixed_program (map without_nu
 fixed_alike [] = refl
 fixed_alike (p ∷ ps) = ap (λ qs. fixed_program p ∷ qs) (fixed_alike ps)
 
-text_alike : (frame new next : Described) → without_versions next ≡ without_versions new → HasSameTables next new → IsTextOf frame new → IsTextOf frame next
+pub text_alike : (frame new next : Described) → without_versions next ≡ without_versions new → HasSameTables next new → IsTextOf frame new → IsTextOf frame next
 text_alike frame new next same tables text = record {
   rate = ap (λ d. d.rate) same ∙ text.rate;
   base0 = ap (λ d. d.base0) same ∙ text.base0;

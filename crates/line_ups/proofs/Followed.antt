@@ -1,16 +1,18 @@
 -- The versions that follow those of another line-up
-use Rattle.std.proofs.Common.{◌≡◌, ℕ, zero, suc, ◌+◌, ◌%◌, ◌<◌, ◌||◌, not, Bool, true, false, List, [], ◌∷◌, slice_get, slice_index_or, Option, None, Some, All}
-use Rattle.std.proofs.Common.{◌∙◌, arith, if◌then◌else◌}
+use Rattle.std.proofs.Common.{◌≡◌, ℕ, zero, suc, ◌+◌, ◌%◌, ◌<◌, ◌-◌, Bool, true, false, List, [], ◌∷◌, slice_get, slice_index_or, Option, None, Some, All}
+use Rattle.std.proofs.Common.{ap, ◌∙◌, arith, if◌then◌else◌}
 use Rattle.std.proofs.lemmas.List.Elements.{All-head, All-tail}
 use Rattle.description_parts.specs.Described.{Described, DescribedProgram}
 use Rattle.description_parts.specs.Ranges.{IsInRange, IsProgram}
-use Rattle.description.specs.SubTables.{numbered_sub_table, sub_table_number, program_number_by, count_of, says_same}
-use Rattle.description.specs.Versions.{CountedLaw}
+use Rattle.description.specs.SubTables.{numbered_sub_table, program_number_by, count_of, version_of}
+use Rattle.description.specs.Versions.{without_versions, CountedLaw, CountLaw, SameTablesLaw}
 use Rattle.description.specs.declared.sub_table.SubTable.{SubTable}
 use Rattle.description.specs.declared.sub_table.SubTable.TheVariants.{Pat, Nit, Sdt, Map, Events}
 use Rattle.changed_texts.specs.Versions.{with_counts}
-use Rattle.changed_texts.proofs.Counts.{alike_counts, same_counts, range_counts}
-use Rattle.line_ups.specs.Versions.{sub_table_before, followed_count, follows, count_after, follow_versions, SameFollowedLaw, FollowedRangeLaw}
+use Rattle.changed_texts.proofs.Counts.{alike_counts, same_counts, range_counts, has_place, numbered_number, count_set}
+use Rattle.changed_texts.proofs.VersionLaws.{shown, version_below, text_alike}
+use Rattle.line_ups.specs.Versions.{sub_table_before, keeps_version, followed_count, follows, count_after, follow_versions}
+use Rattle.line_ups.specs.Versions.{SameFollowedLaw, FollowedRangeLaw, FollowedTextLaw, FollowedVersionLaw}
 
 -- Numbers are below 32.
 number_below : (f : DescribedProgram → ℕ) (ps : List DescribedProgram) (i : ℕ) → ((p : DescribedProgram) → IsProgram p → f p < 32) → All IsProgram ps →
@@ -32,7 +34,7 @@ one_more_below c false h = omega arith
 
 follows_below : (old : Described) (x : SubTable) (new : Described) (y : SubTable) (moment : ℕ) (sent : ℕ → Bool) → follows old x new y moment sent < 32
 follows_below old x new y moment sent =
-    one_more_below (followed_count old x new y moment) (says_same old x new y moment || not (sent (sub_table_number x))) (omega arith)
+    one_more_below (followed_count old x new y moment) (keeps_version old x new y moment sent) (omega arith)
 
 after_below : (old new : Described) (moment : ℕ) (sent : ℕ → Bool) (y : SubTable) (o : Option SubTable) → IsInRange new →
     elim o [ None ↦ count_of new y | Some x ↦ follows old x new y moment sent ] < 32
@@ -57,3 +59,33 @@ same_followed counted old new moment sent = same_counts counted (λ n. count_aft
 pub range_followed : CountedLaw → FollowedRangeLaw
 range_followed counted old new moment sent r =
     range_counts counted (λ n. count_after old new moment sent (numbered_sub_table n)) (below_32 old new moment sent r) new r
+
+pub text_followed : CountedLaw → SameTablesLaw → FollowedTextLaw
+text_followed counted tables frame old new moment sent text =
+    let next = follow_versions old new moment sent in
+    let same = same_followed counted old new moment sent in
+    text_alike frame new next same (tables next new same) text
+
+-- The version that a sub-table shows
+no_other : (v c : ℕ) → v < 32 → c < 32 → c ≡ (v + c + 32 - v) % 32
+no_other v c low few = omega (arith, low, few)
+
+version_by : (old new next : Described) (moment : ℕ) (sent : ℕ → Bool) (y : SubTable) (o : Option SubTable) → IsInRange old → IsInRange new →
+    without_versions next ≡ without_versions new → count_of next y ≡ (elim o [ None ↦ count_of new y | Some x ↦ follows old x new y moment sent ]) →
+    version_of next y moment ≡ (elim o [
+      | None ↦ version_of new y moment
+      | Some x ↦ if keeps_version old x new y moment sent then version_of old x moment else (version_of old x moment + 1) % 32
+    ])
+version_by old new next moment sent y None r r' same is =
+    shown new next y (version_of new y moment) moment true (version_below new y moment r') same
+    (is ∙ no_other (version_of new y moment) (count_of new y) (version_below new y moment r') (count_below new y r'))
+version_by old new next moment sent y (Some x) r r' same is =
+    shown new next y (version_of old x moment) moment (keeps_version old x new y moment sent) (version_below old x moment r) same is
+
+pub version_followed : CountedLaw → CountLaw → SameTablesLaw → FollowedVersionLaw
+version_followed counted law tables old new t section y moment sent r r' within of =
+    let place = has_place law new t section y r' within of in
+    let count = λ (n : ℕ). count_after old new moment sent (numbered_sub_table n) in
+    let set = count_set counted law tables count new t section y place within of in
+    version_by old new (follow_versions old new moment sent) moment sent y (sub_table_before old new y) r r' (same_counts counted count new)
+    (set ∙ ap (λ z. count_after old new moment sent z) (numbered_number y place))
