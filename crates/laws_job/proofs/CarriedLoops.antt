@@ -197,7 +197,7 @@ of_network : (a : DescribedNetwork) (others : List TransportStreamView) (n : Fou
 of_network a others n is can = record {
   network = some_same a.network_descriptors n.network_descriptors (sym is.network ∙ loop_carried others n can);
   stream = is.stream ∙ stream_stays others n (decode_text 200 n.name);
-  others = is.others ∙ others_stay others n (decode_text 200 n.name);
+  streams = is.others ∙ others_stay others n (decode_text 200 n.name);
 }
 
 pub loops_carried : LoopsCarriedLaw

@@ -19,7 +19,7 @@ use Rattle.stream_jobs.specs.Jobs.{AllAgree}
 pub record NetworkCarried (a : DescribedNetwork) (n : FoundNetworkView) (others : List TransportStreamView) : Type 0 where
   pub network : a.network_descriptors ≡ n.network_descriptors
   pub stream : a.descriptors ≡ n.descriptors
-  pub others : map network_stream_view a.streams ≡ others
+  pub streams : map network_stream_view a.streams ≡ others
 
 -- of a stream with this transport_stream_id and these programs
 pub record LoopsCarried (options : JobOptionsView) (findings : List FindingView) (programs : List JobProgramView) (d : Described) : Type 0 where
