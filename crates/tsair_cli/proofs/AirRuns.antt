@@ -69,6 +69,7 @@ run_ended saving o run input begin mid end before so_far after why s t records s
       end = why;
       ends = e.ends;
       stops = e.stops;
+      lines = e.lines;
       changed = e.changed;
       refused = e.refused;
       lost = e.lost;

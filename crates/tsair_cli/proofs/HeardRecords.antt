@@ -1,87 +1,30 @@
 -- Records that arrive one after another, and the lines for refused records
-use Rattle.std.proofs.Common.{◌≡◌, ◌≤◌, ◌<◌, ◌+◌, ◌||◌, ℕ, Bool, true, false, nat_lt, List, [], ◌∷◌, ◌++◌, length, map, Option, Some, None, Result, Ok, Err, refl}
-use Rattle.std.proofs.Common.{sym, ap, ◌∙◌, subst, arith, below_none, length-append}
+use Rattle.std.proofs.Common.{◌≡◌, ◌≤◌, ◌<◌, ◌+◌, ◌||◌, ℕ, Bool, true, false, nat_lt, List, [], ◌∷◌, ◌++◌, length, Option, Some, None, Ok, Err, refl}
+use Rattle.std.proofs.Common.{sym, ap, ◌∙◌, subst, arith, below_none, length-append, inl, inr}
 use Rattle.std.proofs.lemmas.Bool.{false≢true, lt-ltb}
-use Rattle.std.proofs.lemmas.List.Sums.{fold-append}
 use Rattle.devices.specs.Devices.{Device, Port, HasFailed, IsClean, between}
 use Rattle.devices.specs.Lines.{Reports}
 use Rattle.mux_core.specs.declared.output.OutputFault.{OutputFault}
 use Rattle.unit_records.specs.declared.reading.UnitFileError.TheVariants.{Cut, Size, Device as AtReader, Memory}
 use Rattle.mux_core.specs.RecordRuns.{after_records}
-use Rattle.mux_core.specs.Histories.{last_texts, TextsSoFar, listed_changes}
 use Rattle.on_air.specs.declared.refusals.AirRefusal.{AirRefusal}
-use Rattle.on_air.specs.declared.answers.Heard.TheVariants.{Taken, Refused, Changed, Ended}
+use Rattle.on_air.specs.declared.answers.Heard.TheVariants.{Refused, Changed, Ended}
 use Rattle.on_air.specs.declared.answers.Ending.{Ending}
 use Rattle.on_air.specs.declared.answers.Ending.TheVariants.{Input, Unread, Slots, Records, TextsMemory}
 use Rattle.on_air.specs.Airing.{Run, Air, caught_up, heard, silence, limit_of, texts_now}
 use Rattle.on_air.specs.AirStates.{AirState, IsOnAir}
-use Rattle.on_air.specs.Hearing.{AddsChange, Fails, HasHeard, HeardOn, HearsOn, NamesDevice}
-use Rattle.tsair_cli.specs.declared.hearing.RecordsEnd.{RecordsEnd}
+use Rattle.on_air.specs.Hearing.{Fails, HeardOn, HearsOn, NamesDevice}
 use Rattle.explained_jobs.specs.declared.unit_limits.UnitLimits.{UnitLimits}
 use Rattle.description_parts.specs.Described.{Described}
-use Rattle.tsair_cli.specs.HeardRecords.{Airs, EndsRecords, FailsRecords, HearsAll, NamesReader, OfChange, OfRefusal, Reported, ReportsChange, ReportsRecord, ReportsRecords}
-use Rattle.tsair_cli.specs.HeardRecords.{ReportsRefusal, StopsAtFirst, changed_among, changes_of, has_refused, limits_in, lost_among, refused_among, with_changed, with_lost}
-use Rattle.tsair_cli.specs.HeardRecords.{with_refused}
+use Rattle.tsair_cli.specs.declared.repeats.Repeats.{Repeats}
+use Rattle.tsair_cli.specs.Repeats.{none_refused, repeats_text, with_cause}
+use Rattle.tsair_cli.specs.HeardRecords.{Airs, EndsRecords, FailsRecords, NamesReader, OfChange, OfMore, Reported}
+use Rattle.tsair_cli.specs.HeardRecords.{ReportsChange, StopsAtFirst, all_lines, changed_among}
+use Rattle.tsair_cli.specs.HeardRecords.{changes_of, has_refused, limits_in, lines_among, lines_by, lost_among, said_of}
 use Rattle.tsair_cli.specs.States.{KeepsState, Saving}
-
--- 1. The lines about records
-
-reported_more : (saving : Saving) (streams : List UnitLimits) (before mid after : Port) (old : List Reported) (reported : Reported) →
-    ReportsRecords saving streams before mid old → ReportsRecord saving streams reported (between mid after) →
-    ReportsRecords saving streams before after (old ++ (reported ∷ []))
-unfolding ReportsRecords
-reported_more saving streams before mid after [] reported t r = (after, subst (λ (p : Port). ReportsRecord saving streams reported (between p after)) t r, refl)
-reported_more saving streams before mid after (first ∷ old) reported t r = (t.0, t.1, reported_more saving streams t.0 mid after old reported t.2 r)
-
-reported_none : (saving : Saving) (streams : List UnitLimits) (port : Port) → ReportsRecords saving streams port port []
-unfolding ReportsRecords
-reported_none saving streams port = refl
-
--- A further line is of a refused record, or of a change.
-refused_more : (lines : List Reported) (index : ℕ) (cause : AirRefusal) (old new : List (ℕ × AirRefusal)) → refused_among lines ≡ old →
-    new ≡ old ++ ((index, cause) ∷ []) → refused_among (lines ++ (OfRefusal index cause ∷ [])) ≡ new
-unfolding with_refused
-refused_more lines index cause old new are is =
-    fold-append (λ refused r. with_refused refused r) [] lines (OfRefusal index cause ∷ [])
-    ∙ ap (λ (l : List (ℕ × AirRefusal)). l ++ ((index, cause) ∷ [])) are ∙ sym is
-
-refused_same : (lines : List Reported) (index slot : ℕ) (texts : Described) (lost : Bool) (old new : List (ℕ × AirRefusal)) → refused_among lines ≡ old →
-    new ≡ old → refused_among (lines ++ (OfChange index slot texts lost ∷ [])) ≡ new
-unfolding with_refused
-refused_same lines index slot texts lost old new are is =
-    fold-append (λ refused r. with_refused refused r) [] lines (OfChange index slot texts lost ∷ []) ∙ are ∙ sym is
-
-changed_same : (lines : List Reported) (index : ℕ) (cause : AirRefusal) (a b : Air) → changed_among lines ≡ changes_of a → b.changes ≡ a.changes →
-    changed_among (lines ++ (OfRefusal index cause ∷ [])) ≡ changes_of b
-unfolding with_changed
-changed_same lines index cause a b are is =
-    fold-append (λ changes r. with_changed changes r) [] lines (OfRefusal index cause ∷ []) ∙ are
-    ∙ ap (λ (l : TextsSoFar). map (λ c. (c.from, c.texts)) (listed_changes l)) (sym is)
-
--- The texts in force after a change are those of the change.
-texts_of_change : (run : Run) (a b : Air) (index slot : ℕ) (adds : AddsChange a b index slot) → texts_now run b ≡ adds.change.texts
-texts_of_change run a b index slot adds = ap (λ (l : TextsSoFar). last_texts run.scheduled.description l) adds.changes
-
-changed_more : (lines : List Reported) (index slot : ℕ) (texts : Described) (lost : Bool) (a b : Air) → changed_among lines ≡ changes_of a →
-    (adds : AddsChange a b index slot) → texts ≡ adds.change.texts → changed_among (lines ++ (OfChange index slot texts lost ∷ [])) ≡ changes_of b
-unfolding with_changed
-changed_more lines index slot texts lost a b are adds is =
-    fold-append (λ changes r. with_changed changes r) [] lines (OfChange index slot texts lost ∷ [])
-    ∙ ap (λ (l : List (ℕ × Described)). (slot, texts) ∷ l) are
-    ∙ ap (λ (d : Described). (slot, d) ∷ changes_of a) is
-    ∙ ap (λ (n : ℕ). (n, adds.change.texts) ∷ changes_of a) (sym adds.from)
-    ∙ ap (λ (l : TextsSoFar). map (λ c. (c.from, c.texts)) (listed_changes l)) (sym adds.changes)
-
-lost_same : (before : Bool) (lines : List Reported) (index : ℕ) (cause : AirRefusal) (lost : Bool) → lost ≡ lost_among before lines →
-    lost ≡ lost_among before (lines ++ (OfRefusal index cause ∷ []))
-unfolding with_lost
-lost_same before lines index cause lost is = is ∙ sym (fold-append (λ l r. with_lost l r) before lines (OfRefusal index cause ∷ []))
-
-lost_more : (before : Bool) (lines : List Reported) (index slot : ℕ) (texts : Described) (now old new : Bool) → old ≡ lost_among before lines →
-    new ≡ (now || old) → new ≡ lost_among before (lines ++ (OfChange index slot texts now ∷ []))
-unfolding with_lost
-lost_more before lines index slot texts now old new is more =
-    more ∙ ap (λ (l : Bool). now || l) is ∙ sym (fold-append (λ l r. with_lost l r) before lines (OfChange index slot texts now ∷ []))
+use Rattle.tsair_cli.proofs.ReportedLines.{reported_more, reported_none, reported_on, ReportsLines, lines_reported, more_reported, change_aside}
+use Rattle.tsair_cli.proofs.ReportedLines.{lines_more, repeats_more, lines_all, changed_same, changed_last, texts_of_change, changed_more, lost_same}
+use Rattle.tsair_cli.proofs.ReportedLines.{lost_last, lost_more}
 
 some_refused : (old new : List (ℕ × AirRefusal)) (refused : ℕ × AirRefusal) → new ≡ old ++ (refused ∷ []) → nat_lt 0 (length new) ≡ true
 some_refused old new refused is =
@@ -90,9 +33,9 @@ some_refused old new refused is =
     lt-ltb 0 (length new) (omega (arith, size, more))
 
 -- No record is refused if none is counted.
-none_refused : (refused : Bool) (l : List (ℕ × AirRefusal)) → refused ≡ nat_lt 0 (length l) → refused ≡ false → l ≡ []
-none_refused refused [] is none = refl
-none_refused refused (r ∷ rs) is none = absurd (false≢true (sym none ∙ is ∙ lt-ltb 0 (length (r ∷ rs)) (omega arith)))
+none_refused_yet : (refused : Bool) (l : List (ℕ × AirRefusal)) → refused ≡ nat_lt 0 (length l) → refused ≡ false → l ≡ []
+none_refused_yet refused [] is none = refl
+none_refused_yet refused (r ∷ rs) is none = absurd (false≢true (sym none ∙ is ∙ lt-ltb 0 (length (r ∷ rs)) (omega arith)))
 
 -- After no other record a refused record is the only one.
 one_refused : (old new : List (ℕ × AirRefusal)) (refused : ℕ × AirRefusal) → new ≡ old ++ (refused ∷ []) → old ≡ [] → length new ≡ 1
@@ -108,20 +51,24 @@ pub stopped_at_most : (came : Air) (why : Option Ending) → StopsAtFirst came w
 stopped_at_most came None one = at_most_one came.refused one
 stopped_at_most came (Some why) none = at_most_none came.refused none
 
--- 2. Up to a refused record, or to the end
+-- 1. Up to a refused record, or to the end
 
-pub record Midway (saving : Saving) (run : Run) (origin left start now : Option (List ℕ)) (faults : Device) (refused lost : Bool) (s : AirState) : Type 0 where
+pub record Midway (saving : Saving) (run : Run) (origin left start now : Option (List ℕ)) (faults : Device) (refused lost : Bool) (repeats : Repeats)
+    (s : AirState) : Type 0 where
   pub airs : Airs saving run origin left faults
+  pub lines : lines_among airs.reported ≡ (said_of airs.came.refused).lines
+  pub repeats_are : repeats ≡ (said_of airs.came.refused).repeats
   pub changed : changed_among airs.reported ≡ changes_of airs.came
   pub refused_is : refused ≡ has_refused airs.came
   pub lost_is : lost ≡ lost_among airs.begun_lost airs.reported
   pub state : IsOnAir run airs.came start now s
 
-pub first : (saving : Saving) (run : Run) (origin start now : Option (List ℕ)) (before after : Port) (texts : Described) (lost : Bool) (s : AirState) →
-    IsOnAir run silence start now s → texts ≡ texts_now run silence → KeepsState saving texts (between before after) lost →
-    Midway saving run origin origin start now (between before after) false lost s
-unfolding heard after_records
-first saving run origin start now before after texts lost s h are keeps = record {
+pub first : (saving : Saving) (run : Run) (origin start now : Option (List ℕ)) (before after : Port) (texts : Described) (lost : Bool) (repeats : Repeats)
+    (s : AirState) →
+    IsOnAir run silence start now s → texts ≡ texts_now run silence → KeepsState saving texts (between before after) lost → repeats ≡ none_refused →
+    Midway saving run origin origin start now (between before after) false lost repeats s
+unfolding heard after_records lines_among
+first saving run origin start now before after texts lost repeats s h are keeps is = record {
   airs = record {
     came = silence;
     heard_is = record {
@@ -141,8 +88,10 @@ first saving run origin start now before after texts lost s h are keeps = record
     begun = subst (λ (d : Described). KeepsState saving d (between before after) lost) are keeps;
     reported = [];
     so_far = reported_none saving (limits_in run) after;
-    refused = refl;
+    lines = inl refl;
   };
+  lines = refl;
+  repeats_are = is;
   changed = refl;
   refused_is = refl;
   lost_is = refl;
@@ -150,25 +99,42 @@ first saving run origin start now before after texts lost s h are keeps = record
 }
 
 -- A refused record is reported, and the run has followed it if the run follows such records.
-abbrev airs_refused : (saving : Saving) (run : Run) (origin mid left : Option (List ℕ)) (before so_far after : Port) (index : ℕ) (cause : AirRefusal)
-    (airs : Airs saving run origin mid (between before so_far)) (b : Air) → HeardOn run origin left (caught_up run b (Some cause)) →
-    b.refused ≡ airs.came.refused ++ ((index, cause) ∷ []) → ReportsRefusal (limits_in run) (index, cause) (between so_far after) →
-    Airs saving run origin left (between before after)
-airs_refused saving run origin mid left before so_far after index cause airs b heard_on adds r = record {
+abbrev airs_refused : (saving : Saving) (run : Run) (origin mid left : Option (List ℕ)) (before so_far after : Port) (repeats : Repeats) (index : ℕ)
+    (cause : AirRefusal) (airs : Airs saving run origin mid (between before so_far)) (b : Air) → HeardOn run origin left (caught_up run b (Some cause)) →
+    lines_among (airs.reported ++ lines_by repeats (index, cause)) ≡ (said_of b.refused).lines →
+    ReportsLines (limits_in run) repeats (index, cause) (between so_far after) → Airs saving run origin left (between before after)
+airs_refused saving run origin mid left before so_far after repeats index cause airs b heard_on are r = record {
   came = caught_up run b (Some cause);
   heard_is = heard_on;
   first = airs.first;
   begun_lost = airs.begun_lost;
   begun = airs.begun;
-  reported = airs.reported ++ (OfRefusal index cause ∷ []);
-  so_far = reported_more saving (limits_in run) airs.first so_far after airs.reported (OfRefusal index cause) airs.so_far r;
-  refused = refused_more airs.reported index cause airs.came.refused b.refused airs.refused adds;
+  reported = airs.reported ++ lines_by repeats (index, cause);
+  so_far = reported_on saving (limits_in run) airs.first so_far after airs.reported (lines_by repeats (index, cause)) airs.so_far
+      (lines_reported saving (limits_in run) repeats (index, cause) so_far after r);
+  lines = inl are;
+}
+
+-- At the end the records without a line are reported.
+abbrev airs_last : (saving : Saving) (run : Run) (origin left : Option (List ℕ)) (before so_far after : Port) (repeats : Repeats)
+    (airs : Airs saving run origin left (between before so_far)) → lines_among (airs.reported ++ (OfMore repeats ∷ [])) ≡ all_lines airs.came.refused →
+    Reports (between so_far after) (repeats_text repeats) → Airs saving run origin left (between before after)
+airs_last saving run origin left before so_far after repeats airs are r = record {
+  came = airs.came;
+  heard_is = airs.heard_is;
+  first = airs.first;
+  begun_lost = airs.begun_lost;
+  begun = airs.begun;
+  reported = airs.reported ++ (OfMore repeats ∷ []);
+  so_far = reported_on saving (limits_in run) airs.first so_far after airs.reported (OfMore repeats ∷ []) airs.so_far
+      (more_reported saving (limits_in run) repeats so_far after r);
+  lines = inr are;
 }
 
 -- Further records are taken, and nothing is reported.
 abbrev airs_on : (saving : Saving) (run : Run) (origin mid left : Option (List ℕ)) (faults : Device) (airs : Airs saving run origin mid faults) (b : Air) →
-    HeardOn run origin left b → b.refused ≡ airs.came.refused → Airs saving run origin left faults
-airs_on saving run origin mid left faults airs b heard_on same = record {
+    HeardOn run origin left b → lines_among airs.reported ≡ (said_of b.refused).lines → Airs saving run origin left faults
+airs_on saving run origin mid left faults airs b heard_on are = record {
   came = b;
   heard_is = heard_on;
   first = airs.first;
@@ -176,32 +142,46 @@ airs_on saving run origin mid left faults airs b heard_on same = record {
   begun = airs.begun;
   reported = airs.reported;
   so_far = airs.so_far;
-  refused = airs.refused ∙ sym same;
+  lines = inl are;
 }
 
+-- The lines of refused records stay if no further record is refused.
+lines_stay : (lines : List Reported) (old new : List (ℕ × AirRefusal)) → lines_among lines ≡ (said_of old).lines → new ≡ old →
+    lines_among lines ≡ (said_of new).lines
+lines_stay lines old new are same = are ∙ ap (λ (l : List (ℕ × AirRefusal)). (said_of l).lines) (sym same)
+
+repeats_stay : (repeats : Repeats) (old new : List (ℕ × AirRefusal)) → repeats ≡ (said_of old).repeats → new ≡ old → repeats ≡ (said_of new).repeats
+repeats_stay repeats old new are same = are ∙ ap (λ (l : List (ℕ × AirRefusal)). (said_of l).repeats) (sym same)
+
 pub next : (saving : Saving) (run : Run) (origin mid left start now later last : Option (List ℕ)) (before so_far after : Port) (refused lost : Bool)
-    (s heard_to new : AirState) (index : ℕ) (cause : AirRefusal)
-    (m : Midway saving run origin mid start now (between before so_far) refused lost s) →
+    (repeats counted : Repeats) (s heard_to new : AirState) (index : ℕ) (cause : AirRefusal)
+    (m : Midway saving run origin mid start now (between before so_far) refused lost repeats s) →
     HearsOn run m.airs.came origin left start later (Ok (Refused index cause)) heard_to →
     ((a : Air) → IsOnAir run a start later heard_to → IsOnAir run (caught_up run a (Some cause)) start last new) →
-    ReportsRefusal (limits_in run) (index, cause) (between so_far after) → Midway saving run origin left start last (between before after) true lost new
-next saving run origin mid left start now later last before so_far after refused lost s heard_to new index cause m (b, heard_on, adds, state) follows r = record {
-  airs = airs_refused saving run origin mid left before so_far after index cause m.airs b heard_on adds.refused r;
-  changed = changed_same m.airs.reported index cause m.airs.came b m.changed adds.changes;
-  refused_is = sym (some_refused m.airs.came.refused b.refused (index, cause) adds.refused);
-  lost_is = lost_same m.airs.begun_lost m.airs.reported index cause lost m.lost_is;
-  state = follows b state;
-}
+    ReportsLines (limits_in run) repeats (index, cause) (between so_far after) → counted ≡ with_cause repeats cause →
+    Midway saving run origin left start last (between before after) true lost counted new
+next saving run origin mid left start now later last before so_far after refused lost repeats counted s heard_to new index cause m (b, heard_on, adds, state)
+    follows r is =
+    let are = lines_more m.airs.reported repeats m.airs.came.refused b.refused (index, cause) m.lines m.repeats_are adds.refused in
+    record {
+      airs = airs_refused saving run origin mid left before so_far after repeats index cause m.airs b heard_on are r;
+      lines = are;
+      repeats_are = is ∙ repeats_more repeats m.airs.came.refused b.refused (index, cause) m.repeats_are adds.refused;
+      changed = changed_same m.airs.reported repeats (index, cause) m.airs.came b m.changed adds.changes;
+      refused_is = sym (some_refused m.airs.came.refused b.refused (index, cause) adds.refused);
+      lost_is = lost_same m.airs.begun_lost m.airs.reported repeats (index, cause) lost m.lost_is;
+      state = follows b state;
+    }
 
 -- The texts changed, and the change is reported.
 pub next_change : (saving : Saving) (run : Run) (origin mid left start now later : Option (List ℕ)) (before so_far after : Port) (refused lost : Bool)
-    (s new : AirState) (index slot : ℕ) (texts : Described) (is_lost all_lost : Bool)
-    (m : Midway saving run origin mid start now (between before so_far) refused lost s) →
+    (repeats : Repeats) (s new : AirState) (index slot : ℕ) (texts : Described) (is_lost all_lost : Bool)
+    (m : Midway saving run origin mid start now (between before so_far) refused lost repeats s) →
     HearsOn run m.airs.came origin left start later (Ok (Changed index slot)) new →
     ((a : Air) → IsOnAir run a start later new → texts ≡ texts_now run a) →
     ReportsChange saving index slot texts (between so_far after) is_lost → all_lost ≡ (is_lost || lost) →
-    Midway saving run origin left start later (between before after) refused all_lost new
-next_change saving run origin mid left start now later before so_far after refused lost s new index slot texts is_lost all_lost m (b, heard_on, adds, state) are r
+    Midway saving run origin left start later (between before after) refused all_lost repeats new
+next_change saving run origin mid left start now later before so_far after refused lost repeats s new index slot texts is_lost all_lost m (b, heard_on, adds, state) are r
     more = record {
       airs = record {
         came = b;
@@ -211,8 +191,11 @@ next_change saving run origin mid left start now later before so_far after refus
         begun = m.airs.begun;
         reported = m.airs.reported ++ (OfChange index slot texts is_lost ∷ []);
         so_far = reported_more saving (limits_in run) m.airs.first so_far after m.airs.reported (OfChange index slot texts is_lost) m.airs.so_far r;
-        refused = refused_same m.airs.reported index slot texts is_lost m.airs.came.refused b.refused m.airs.refused adds.refused;
+        lines = inl (change_aside m.airs.reported index slot texts is_lost
+            ∙ lines_stay m.airs.reported m.airs.came.refused b.refused m.lines adds.refused);
       };
+      lines = change_aside m.airs.reported index slot texts is_lost ∙ lines_stay m.airs.reported m.airs.came.refused b.refused m.lines adds.refused;
+      repeats_are = repeats_stay repeats m.airs.came.refused b.refused m.repeats_are adds.refused;
       changed = changed_more m.airs.reported index slot texts is_lost m.airs.came b m.changed adds
           (are b state ∙ texts_of_change run m.airs.came b index slot adds);
       refused_is = m.refused_is ∙ ap (λ (l : List (ℕ × AirRefusal)). nat_lt 0 (length l)) (sym adds.refused);
@@ -222,29 +205,30 @@ next_change saving run origin mid left start now later before so_far after refus
 
 -- The writer failed within the slots up to a record that the run follows.
 pub follow_fails : (saving : Saving) (run : Run) (stop : Bool) (mid start now later : Option (List ℕ)) (input output : Device) (before so_far after : Port)
-    (refused lost : Bool) (s heard_to : AirState) (index : ℕ)
-    (cause : AirRefusal) (sent : ℕ) (m : Midway saving run input.before.bytes mid start now (between before so_far) refused lost s) →
+    (refused lost : Bool) (repeats : Repeats) (s heard_to : AirState) (index : ℕ) (cause : AirRefusal) (sent : ℕ)
+    (m : Midway saving run input.before.bytes mid start now (between before so_far) refused lost repeats s) →
     HearsOn run m.airs.came input.before.bytes input.after.bytes start later (Ok (Refused index cause)) heard_to →
     ((a : Air) → IsOnAir run a start later heard_to → Fails run (caught_up run a (Some cause)) start output.after.bytes sent) →
-    ReportsRefusal (limits_in run) (index, cause) (between so_far after) → (stop ≡ true → refused ≡ false) → IsClean input → HasFailed output →
+    ReportsLines (limits_in run) repeats (index, cause) (between so_far after) → (stop ≡ true → refused ≡ false) → IsClean input → HasFailed output →
     FailsRecords saving run stop start input output (between before after) sent
-follow_fails saving run stop mid start now later input output before so_far after refused lost s heard_to index cause sent m (b, heard_on, adds, state) failing r
-    first_one clean failed =
+follow_fails saving run stop mid start now later input output before so_far after refused lost repeats s heard_to index cause sent m (b, heard_on, adds, state)
+    failing r first_one clean failed =
     record {
-      airs = airs_refused saving run input.before.bytes mid input.after.bytes before so_far after index cause m.airs b heard_on adds.refused r;
+      airs = airs_refused saving run input.before.bytes mid input.after.bytes before so_far after repeats index cause m.airs b heard_on
+          (lines_more m.airs.reported repeats m.airs.came.refused b.refused (index, cause) m.lines m.repeats_are adds.refused) r;
       stops = λ on. at_most_one b.refused
-          (one_refused m.airs.came.refused b.refused (index, cause) adds.refused (none_refused refused m.airs.came.refused m.refused_is (first_one on)));
+          (one_refused m.airs.came.refused b.refused (index, cause) adds.refused (none_refused_yet refused m.airs.came.refused m.refused_is (first_one on)));
       fails = failing b state;
       clean = clean;
       failed = failed;
     }
 
--- 3. The end of a run
+-- 2. The end of a run
 
 -- The line is by what the streams of the run declare.
-pub by_limits : (run : Run) (streams : List UnitLimits) (refused : ℕ × AirRefusal) (faults : Device) → streams ≡ limits_in run →
-    ReportsRefusal streams refused faults → ReportsRefusal (limits_in run) refused faults
-by_limits run streams refused faults is r = subst (λ (l : List UnitLimits). ReportsRefusal l refused faults) is r
+pub by_limits : (run : Run) (streams : List UnitLimits) (repeats : Repeats) (refused : ℕ × AirRefusal) (faults : Device) → streams ≡ limits_in run →
+    ReportsLines streams repeats refused faults → ReportsLines (limits_in run) repeats refused faults
+by_limits run streams repeats refused faults is r = subst (λ (l : List UnitLimits). ReportsLines l repeats refused faults) is r
 
 reader_named : (input : Device) (why : Ending) (w0 w1 : ℕ) → NamesDevice (Ok (Ended why)) input.before.failed input.after.failed w0 w1 →
     NamesReader input (Some why)
@@ -267,58 +251,73 @@ writer_clean Slots r0 r1 w0 w1 n = n.1
 writer_clean Records r0 r1 w0 w1 n = n.1
 writer_clean TextsMemory r0 r1 w0 w1 n = n.1
 
-pub ends : (saving : Saving) (run : Run) (stop : Bool) (mid start now : Option (List ℕ)) (input output faults : Device) (refused lost : Bool)
-    (s new : AirState) (why : Ending) (m : Midway saving run input.before.bytes mid start now faults refused lost s) →
+pub ends : (saving : Saving) (run : Run) (stop : Bool) (mid start now : Option (List ℕ)) (input output : Device) (before so_far after : Port)
+    (refused lost : Bool) (repeats : Repeats) (s new : AirState) (why : Ending)
+    (m : Midway saving run input.before.bytes mid start now (between before so_far) refused lost repeats s) →
     HearsOn run m.airs.came input.before.bytes input.after.bytes start output.after.bytes (Ok (Ended why)) new →
     NamesDevice (Ok (Ended why)) input.before.failed input.after.failed output.before.failed output.after.failed →
-    (stop ≡ true → refused ≡ false) →
-    EndsRecords saving run stop start input output faults (record { has_refused = refused; has_lost = lost; why = Some why }) new
-ends saving run stop mid start now input output faults refused lost s new why m (b, (rest, heard_on, ends_at), adds, state) n first_one = record {
-  rest = rest;
-  airs = airs_on saving run input.before.bytes mid rest faults m.airs b heard_on adds.refused;
-  changed = m.changed ∙ ap (λ (l : TextsSoFar). map (λ c. (c.from, c.texts)) (listed_changes l)) (sym adds.changes);
-  ends = ends_at;
-  stops = λ on. adds.refused ∙ none_refused refused m.airs.came.refused m.refused_is (first_one on);
-  refused = m.refused_is ∙ ap (λ (l : List (ℕ × AirRefusal)). nat_lt 0 (length l)) (sym adds.refused);
-  lost = m.lost_is;
-  state = state;
-  reader = reader_named input why output.before.failed output.after.failed n;
-  clean = writer_clean why input.before.failed input.after.failed output.before.failed output.after.failed n;
-}
+    Reports (between so_far after) (repeats_text repeats) → (stop ≡ true → refused ≡ false) →
+    EndsRecords saving run stop start input output (between before after) (record { has_refused = refused; has_lost = lost; why = Some why }) new
+ends saving run stop mid start now input output before so_far after refused lost repeats s new why m (b, (rest, heard_on, ends_at), adds, state) n r first_one =
+    let stay = lines_stay m.airs.reported m.airs.came.refused b.refused m.lines adds.refused in
+    let all = lines_all m.airs.reported repeats b.refused stay (repeats_stay repeats m.airs.came.refused b.refused m.repeats_are adds.refused) in
+    record {
+      rest = rest;
+      airs = airs_last saving run input.before.bytes rest before so_far after repeats
+          (airs_on saving run input.before.bytes mid rest (between before so_far) m.airs b heard_on stay) all r;
+      lines = all;
+      changed = changed_last m.airs.reported repeats m.airs.came b m.changed adds.changes;
+      ends = ends_at;
+      stops = λ on. adds.refused ∙ none_refused_yet refused m.airs.came.refused m.refused_is (first_one on);
+      refused = m.refused_is ∙ ap (λ (l : List (ℕ × AirRefusal)). nat_lt 0 (length l)) (sym adds.refused);
+      lost = lost_last m.airs.begun_lost m.airs.reported repeats lost m.lost_is;
+      state = state;
+      reader = reader_named input why output.before.failed output.after.failed n;
+      clean = writer_clean why input.before.failed input.after.failed output.before.failed output.after.failed n;
+    }
 
 -- The first refused record is reported, and followed if the run follows such records; it ends the run.
-pub stops : (saving : Saving) (run : Run) (stop : Bool) (mid start now later : Option (List ℕ)) (input output : Device) (before so_far after : Port)
-    (refused lost : Bool) (s heard_to new : AirState) (index : ℕ) (cause : AirRefusal)
-    (m : Midway saving run input.before.bytes mid start now (between before so_far) refused lost s) →
+pub stops : (saving : Saving) (run : Run) (stop : Bool) (mid start now later : Option (List ℕ)) (input output : Device) (before so_far said after : Port)
+    (refused lost : Bool) (repeats counted : Repeats) (s heard_to new : AirState) (index : ℕ) (cause : AirRefusal)
+    (m : Midway saving run input.before.bytes mid start now (between before so_far) refused lost repeats s) →
     HearsOn run m.airs.came input.before.bytes input.after.bytes start later (Ok (Refused index cause)) heard_to →
     ((a : Air) → IsOnAir run a start later heard_to → IsOnAir run (caught_up run a (Some cause)) start output.after.bytes new) →
-    ReportsRefusal (limits_in run) (index, cause) (between so_far after) → stop ≡ true → (stop ≡ true → refused ≡ false) → IsClean input → IsClean output →
+    ReportsLines (limits_in run) repeats (index, cause) (between so_far said) → counted ≡ with_cause repeats cause →
+    Reports (between said after) (repeats_text counted) → stop ≡ true → (stop ≡ true → refused ≡ false) → IsClean input → IsClean output →
     EndsRecords saving run stop start input output (between before after) (record { has_refused = true; has_lost = lost; why = None }) new
-stops saving run stop mid start now later input output before so_far after refused lost s heard_to new index cause m (b, heard_on, adds, state) follows r on
-    first_one clean written =
+stops saving run stop mid start now later input output before so_far said after refused lost repeats counted s heard_to new index cause m
+    (b, heard_on, adds, state) follows r is more on first_one clean written =
     let some = some_refused m.airs.came.refused b.refused (index, cause) adds.refused in
+    let are = lines_more m.airs.reported repeats m.airs.came.refused b.refused (index, cause) m.lines m.repeats_are adds.refused in
+    let lines = m.airs.reported ++ lines_by repeats (index, cause) in
+    let all = lines_all lines counted b.refused are
+    (is ∙ repeats_more repeats m.airs.came.refused b.refused (index, cause) m.repeats_are adds.refused) in
     record {
       rest = input.after.bytes;
-      airs = airs_refused saving run input.before.bytes mid input.after.bytes before so_far after index cause m.airs b heard_on adds.refused r;
-      changed = changed_same m.airs.reported index cause m.airs.came b m.changed adds.changes;
+      airs = airs_last saving run input.before.bytes input.after.bytes before said after counted
+          (airs_refused saving run input.before.bytes mid input.after.bytes before so_far said repeats index cause m.airs b heard_on are r) all more;
+      lines = all;
+      changed = changed_last lines counted m.airs.came b
+          (changed_same m.airs.reported repeats (index, cause) m.airs.came m.airs.came m.changed refl) adds.changes;
       ends = (on, (some, refl));
       stops = λ asked. one_refused m.airs.came.refused b.refused (index, cause) adds.refused
-          (none_refused refused m.airs.came.refused m.refused_is (first_one asked));
+          (none_refused_yet refused m.airs.came.refused m.refused_is (first_one asked));
       refused = sym some;
-      lost = lost_same m.airs.begun_lost m.airs.reported index cause lost m.lost_is;
+      lost = lost_last m.airs.begun_lost lines counted lost (lost_same m.airs.begun_lost m.airs.reported repeats (index, cause) lost m.lost_is);
       state = follows b state;
       reader = clean;
       clean = written;
     }
 
 pub fails : (saving : Saving) (run : Run) (stop : Bool) (mid start now : Option (List ℕ)) (input output faults : Device) (refused lost : Bool)
-    (s new : AirState) (fault : OutputFault) (m : Midway saving run input.before.bytes mid start now faults refused lost s) →
+    (repeats : Repeats) (s new : AirState) (fault : OutputFault) (m : Midway saving run input.before.bytes mid start now faults refused lost repeats s) →
     HearsOn run m.airs.came input.before.bytes input.after.bytes start output.after.bytes (Err fault) new →
     NamesDevice (Err fault) input.before.failed input.after.failed output.before.failed output.after.failed →
     (stop ≡ true → refused ≡ false) → FailsRecords saving run stop start input output faults fault.sent
-fails saving run stop mid start now input output faults refused lost s new fault m (b, heard_on, same, failing) n first_one = record {
-  airs = airs_on saving run input.before.bytes mid input.after.bytes faults m.airs b heard_on same;
-  stops = λ on. at_most_none b.refused (same ∙ none_refused refused m.airs.came.refused m.refused_is (first_one on));
+fails saving run stop mid start now input output faults refused lost repeats s new fault m (b, heard_on, same, failing) n first_one = record {
+  airs = airs_on saving run input.before.bytes mid input.after.bytes faults m.airs b heard_on
+      (lines_stay m.airs.reported m.airs.came.refused b.refused m.lines same);
+  stops = λ on. at_most_none b.refused (same ∙ none_refused_yet refused m.airs.came.refused m.refused_is (first_one on));
   fails = failing;
   clean = n.0;
   failed = n.1;

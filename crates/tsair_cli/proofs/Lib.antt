@@ -1,5 +1,6 @@
 pub mod FrontLines
 pub mod Fronts
+pub mod ReportedLines
 pub mod HeardRecords
 pub mod AirRuns
 pub mod AirTerms

@@ -22,7 +22,7 @@ use Rattle.tsair_cli.specs.declared.arguments.AirOptions.{AirOptions}
 use Rattle.tsair_cli.specs.declared.front.FrontError.{FrontError}
 use Rattle.tsair_cli.specs.declared.hearing.RecordsEnd.{RecordsEnd}
 use Rattle.tsair_cli.specs.Fronts.{ReadsFront, front_outcome}
-use Rattle.tsair_cli.specs.HeardRecords.{Airs, EndsBy, NamesReader, StopsAtFirst, changes_of, changed_among, has_refused, lost_among}
+use Rattle.tsair_cli.specs.HeardRecords.{Airs, EndsBy, NamesReader, StopsAtFirst, all_lines, changes_of, changed_among, has_refused, lines_among, lost_among}
 use Rattle.tsair_cli.specs.States.{Saving}
 use Rattle.tsair_cli.specs.Endings.{end_outcome}
 
@@ -62,6 +62,7 @@ pub record EndsRun (saving : Saving) (o : AirOptions) (run : Run) (input output 
   pub end : RecordsEnd
   pub ends : EndsBy run airs.came o.stop rest input.after.bytes end.why
   pub stops : o.stop ≡ true → StopsAtFirst airs.came end.why
+  pub lines : lines_among airs.reported ≡ all_lines airs.came.refused
   pub changed : changed_among airs.reported ≡ changes_of airs.came
   pub refused : end.has_refused ≡ has_refused airs.came
   pub lost : end.has_lost ≡ lost_among airs.begun_lost airs.reported

@@ -1,5 +1,5 @@
 -- The records of a run, taken one after another, and a line for each refused record and each change of the texts.
-use Rattle.std.specs.Prelude.{◌≡◌, ◌⊎◌, ◌≤◌, ◌<◌, ◌||◌, ℕ, Bool, true, nat_lt, List, [], ◌∷◌, ◌++◌, fold, length, map, Option, Some, None, Result, Ok, Err, codes}
+use Rattle.std.specs.Prelude.{◌≡◌, ◌⊎◌, ◌≤◌, ◌<◌, ◌||◌, ℕ, Bool, true, nat_lt, cond, List, [], ◌∷◌, ◌++◌, fold, length, map, Option, Some, None, Result, Ok, Err, codes}
 use Rattle.devices.specs.Devices.{Device, Port, HasFailed, IsClean, between}
 use Rattle.devices.specs.Lines.{Reports, line_text}
 use Rattle.mux_core.specs.Histories.{listed_changes}
@@ -17,6 +17,8 @@ use Rattle.explained_jobs.specs.UnitWords.{air_line, limits_of}
 use Rattle.explained_jobs.specs.declared.unit_limits.UnitLimits.{UnitLimits}
 use Rattle.description_parts.specs.Described.{Described}
 use Rattle.tsair_cli.specs.declared.hearing.RecordsEnd.{RecordsEnd}
+use Rattle.tsair_cli.specs.declared.repeats.Repeats.{Repeats}
+use Rattle.tsair_cli.specs.Repeats.{is_repeat, none_refused, repeats_text, with_cause}
 use Rattle.tsair_cli.specs.States.{Saving, KeepsState}
 
 -- 1. The lines of records that are refused
@@ -40,6 +42,12 @@ numbers_line refused = numbers_by refused.0 refused.1
 abbrev pub ReportsRefusal : List UnitLimits → ℕ × AirRefusal → Device → Type 0
 ReportsRefusal streams refused faults = Reports faults (air_line streams refused.0 refused.1) ⊎ Reports faults (numbers_line refused)
 
+-- the line about the records before that have none, and then the line of a refused record
+pub record ReportsBoth (streams : List UnitLimits) (repeats : Repeats) (refused : ℕ × AirRefusal) (faults : Device) : Type 0 where
+  pub mid : Port
+  pub more : Reports (between faults.before mid) (repeats_text repeats)
+  pub refusal : ReportsRefusal streams refused (between mid faults.after)
+
 -- the record's number, and the slot from which on its texts are in force
 abbrev pub change_line : ℕ → ℕ → List ℕ
 change_line index slot = line_text (codes "switch") (index ∷ slot ∷ [])
@@ -50,13 +58,15 @@ pub record ReportsChange (saving : Saving) (index slot : ℕ) (texts : Described
   pub line : Reports (between faults.before mid) (change_line index slot)
   pub state : KeepsState saving texts (between mid faults.after) lost
 
--- what is reported of a record: a refusal, by its number and cause; or a change of the texts, by its number, its slot, the texts, and whether their versions are
--- lost
+-- what is reported: the refused records that have no line; a refusal, by its number and cause; or a change of the texts, by its number, its slot, the texts, and
+-- whether their versions are lost
 pub data Reported : Type 0 where
+  OfMore : Repeats → Reported
   OfRefusal : ℕ → AirRefusal → Reported
   OfChange : ℕ → ℕ → Described → Bool → Reported
 
 abbrev pub ReportsRecord : Saving → List UnitLimits → Reported → Device → Type 0
+ReportsRecord saving streams (OfMore repeats) faults = Reports faults (repeats_text repeats)
 ReportsRecord saving streams (OfRefusal index cause) faults = ReportsRefusal streams (index, cause) faults
 ReportsRecord saving streams (OfChange index slot texts lost) faults = ReportsChange saving index slot texts faults lost
 
@@ -66,15 +76,15 @@ ReportsRecords saving streams before after [] = after ≡ before
 ReportsRecords saving streams before after (reported ∷ more) =
     (mid : Port) × ReportsRecord saving streams reported (between before mid) × ReportsRecords saving streams mid after more
 
--- the refused records among them, in order; the slots of the changes with their texts, the last first; and whether versions are lost, there or before
-unfoldable pub with_refused : List (ℕ × AirRefusal) → Reported → List (ℕ × AirRefusal)
-with_refused refused (OfRefusal index cause) = refused ++ ((index, cause) ∷ [])
-with_refused refused (OfChange index slot texts lost) = refused
-
-abbrev pub refused_among : List Reported → List (ℕ × AirRefusal)
-refused_among reported = fold (λ refused r. with_refused refused r) [] reported
+-- the lines about refused records among them, in order; the slots of the changes with their texts, the last first; and whether versions are lost, there or before
+unfoldable pub lines_among : List Reported → List Reported
+lines_among [] = []
+lines_among (OfMore repeats ∷ more) = OfMore repeats ∷ lines_among more
+lines_among (OfRefusal index cause ∷ more) = OfRefusal index cause ∷ lines_among more
+lines_among (OfChange index slot texts lost ∷ more) = lines_among more
 
 unfoldable pub with_changed : List (ℕ × Described) → Reported → List (ℕ × Described)
+with_changed changes (OfMore repeats) = changes
 with_changed changes (OfRefusal index cause) = changes
 with_changed changes (OfChange index slot texts lost) = (slot, texts) ∷ changes
 
@@ -82,11 +92,30 @@ abbrev pub changed_among : List Reported → List (ℕ × Described)
 changed_among reported = fold (λ changes r. with_changed changes r) [] reported
 
 unfoldable pub with_lost : Bool → Reported → Bool
+with_lost before (OfMore repeats) = before
 with_lost before (OfRefusal index cause) = before
 with_lost before (OfChange index slot texts lost) = lost || before
 
 abbrev pub lost_among : Bool → List Reported → Bool
 lost_among before reported = fold (λ lost r. with_lost lost r) before reported
+
+-- the lines that a refused record has: none if it is like the last one that has a line
+abbrev pub lines_by : Repeats → ℕ × AirRefusal → List Reported
+lines_by repeats refused = cond (is_repeat repeats refused.1) [] (OfMore repeats ∷ OfRefusal refused.0 refused.1 ∷ [])
+
+-- the lines of refused records, and the records that have none since the last line; and all lines at the end
+pub record Said : Type 0 where
+  pub lines : List Reported
+  pub repeats : Repeats
+
+abbrev pub with_refused : Said → ℕ × AirRefusal → Said
+with_refused said refused = record { lines = said.lines ++ lines_by said.repeats refused; repeats = with_cause said.repeats refused.1 }
+
+abbrev pub said_of : List (ℕ × AirRefusal) → Said
+said_of refused = fold (λ said r. with_refused said r) (record { lines = []; repeats = none_refused }) refused
+
+abbrev pub all_lines : List (ℕ × AirRefusal) → List Reported
+all_lines refused = (said_of refused).lines ++ (OfMore (said_of refused).repeats ∷ [])
 
 -- the slots from which on texts are in force, with the texts, the last first
 abbrev pub changes_of : Air → List (ℕ × Described)
@@ -98,7 +127,7 @@ has_refused a = nat_lt 0 (length a.refused)
 -- 2. All records
 
 -- the run has come as far as `came`, over bytes that the reader gave at its beginning; it has written the versions of its first texts to the file that is asked
--- for, or lost them, and then reported each refused record
+-- for, or lost them, and then reported the refused records
 pub record Airs (saving : Saving) (run : Run) (origin left : Option (List ℕ)) (faults : Device) : Type 0 where
   pub came : Air
   pub heard_is : HeardOn run origin left came
@@ -107,7 +136,7 @@ pub record Airs (saving : Saving) (run : Run) (origin left : Option (List ℕ)) 
   pub begun : KeepsState saving (texts_now run silence) (between faults.before first) begun_lost
   pub reported : List Reported
   pub so_far : ReportsRecords saving (limits_in run) first faults.after reported
-  pub refused : refused_among reported ≡ came.refused
+  pub lines : (lines_among reported ≡ (said_of came.refused).lines) ⊎ (lines_among reported ≡ all_lines came.refused)
 
 -- why the run takes no further record: a record was refused, if that ends a run; or the end of the input, of the slots or of the records
 abbrev pub EndsBy : Run → Air → Bool → Option (List ℕ) → Option (List ℕ) → Option Ending → Type 0
@@ -132,13 +161,14 @@ NamesReader input (Some Slots) = IsClean input
 NamesReader input (Some Records) = IsClean input
 NamesReader input (Some TextsMemory) = IsClean input
 
--- the records ended, and each change of the texts was reported
+-- the records ended, and all refused records and each change of the texts were reported
 pub record EndsRecords (saving : Saving) (run : Run) (stop : Bool) (start : Option (List ℕ)) (input output faults : Device) (end : RecordsEnd) (s : AirState)
     : Type 0 where
   pub rest : Option (List ℕ)
   pub airs : Airs saving run input.before.bytes rest faults
   pub ends : EndsBy run airs.came stop rest input.after.bytes end.why
   pub stops : stop ≡ true → StopsAtFirst airs.came end.why
+  pub lines : lines_among airs.reported ≡ all_lines airs.came.refused
   pub changed : changed_among airs.reported ≡ changes_of airs.came
   pub refused : end.has_refused ≡ has_refused airs.came
   pub lost : end.has_lost ≡ lost_among airs.begun_lost airs.reported

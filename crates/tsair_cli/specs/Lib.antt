@@ -2,6 +2,7 @@ pub mod Options
 pub mod Arguments
 pub mod Fronts
 pub mod States
+pub mod Repeats
 pub mod HeardRecords
 pub mod Endings
 pub mod AirRuns

@@ -1,13 +1,16 @@
 //! The records of a run, taken in turn.
 
-ghost use Rattle.std.specs.Prelude.{◌≡◌, List, ℕ, Option, IfOk, option_map, string_bytes};
+ghost use Rattle.std.specs.Prelude.{◌≡◌, false, true, List, ℕ, Option, IfOk, option_map, string_bytes};
 ghost use Rattle.devices.specs.Devices.{reads, writes};
 ghost use Rattle.devices.specs.Lines.{Reports};
 ghost use Rattle.on_air.specs.Airing.{Run, silence};
 ghost use Rattle.on_air.specs.AirStates.{IsOnAir};
 ghost use Rattle.explained_jobs.specs.UnitWords.{air_line};
+ghost use Rattle.devices.specs.Devices.{IsUntouched};
+ghost use Rattle.tsair_cli.specs.Repeats.{is_repeat, repeats_text};
 ghost use Rattle.tsair_cli.specs.HeardRecords.{
   HearsAll,
+  ReportsBoth,
   ReportsChange,
   ReportsRefusal,
   change_line,
@@ -17,6 +20,7 @@ ghost use Rattle.tsair_cli.specs.HeardRecords.{
 ghost use Rattle.tsair_cli.specs.States.{saving_of};
 
 use crate::arguments::AirOptions;
+use crate::repeats::Repeats;
 use crate::state::save_state;
 use counted_io::Sink;
 use description::Description;
@@ -96,6 +100,46 @@ fn report_refused<E: Sink>(
     }
 }
 
+/// Reports how many refused records have no line, if there are any.
+#[tactic(auto, unfolding(crate::specs::Repeats::more_text))]
+fn report_more<E: Sink>(faults: &mut E, repeats: Repeats)
+    ensures { Reports (writes E.Sink faults.old faults.new) (repeats_text repeats) }
+{
+    match repeats.last {
+        None => {}
+        Some(last) => {
+            if repeats.more > 0 {
+                report_line(
+                    faults,
+                    "units refused alike",
+                    &[u128::from(last.code), u128::from(repeats.more)],
+                );
+            }
+        }
+    }
+}
+
+/// Reports that a record is refused, or that the run follows it, unless it is like the last one that has a line; before
+/// that, how many have none.
+fn report_unlike<E: Sink>(
+    alloc: Global,
+    streams: &[UnitLimits],
+    faults: &mut E,
+    repeats: Repeats,
+    index: u64,
+    cause: AirRefusal,
+)
+    ensures none { is_repeat repeats cause ≡ true → IsUntouched (writes E.Sink faults.old faults.new) }
+    ensures lines { is_repeat repeats cause ≡ false →
+        ReportsBoth streams.now repeats (index, cause) (writes E.Sink faults.old faults.new) }
+{
+    if repeats.has(cause) {
+        return;
+    }
+    report_more(faults, repeats);
+    report_refused(alloc, streams, faults, index, cause);
+}
+
 /// Reports from which slot on the texts of a record are in force.
 fn report_slot<E: Sink>(faults: &mut E, index: u64, slot: u64)
     ensures { Reports (writes E.Sink faults.old faults.new) (change_line index slot) }
@@ -121,10 +165,11 @@ fn report_change<F: OutputFiles, E: Sink>(
     save_state(alloc, files, state, texts, faults)
 }
 
-/// Takes all records of a run, and reports each refused record before the next is read, and before the slots up to it
-/// are written if the run follows it, by what its streams declare; and each change of the texts. Before the first record
-/// and after each change it writes the versions of the texts in force to the file that is asked for. If `--stop` is, the
-/// first refused record ends the run, after those slots.
+/// Takes all records of a run, and reports the refused records before the next is read, and before the slots up to one
+/// are written if the run follows it, by what its streams declare: those in a row that are alike once in a second, with
+/// their number at the next line or at the end; and each change of the texts. Before the first record and after each
+/// change it writes the versions of the texts in force to the file that is asked for. If `--stop` is, the first refused
+/// record ends the run, after those slots.
 pub fn hear_all<F: OutputFiles, R: HeldInput, W: Sink, E: Sink>(
     alloc: Global,
     asked: Asked<'_>,
@@ -141,17 +186,20 @@ pub fn hear_all<F: OutputFiles, R: HeldInput, W: Sink, E: Sink>(
         (writes E.Sink faults.old faults.new) result on_air.new }
 {
     let mut has_refused = false;
+    let mut repeats = Repeats::none();
     let mut has_lost = save_state(alloc, files, asked.state, on_air.texts(), faults);
     'records: loop {
         match on_air.hear_on(alloc, input, output) {
             Ok(Heard::Refused { index, cause }) => {
-                report_refused(alloc, asked.streams, faults, index, cause);
+                report_unlike(alloc, asked.streams, faults, repeats, index, cause);
+                repeats = repeats.with(cause);
                 has_refused = true;
                 match on_air.follow(cause, output) {
                     Ok(()) => {}
                     Err(fault) => return Err(fault),
                 }
                 if asked.options.stop {
+                    report_more(faults, repeats);
                     let why = None;
                     return Ok(RecordsEnd {
                         has_refused,
@@ -166,6 +214,7 @@ pub fn hear_all<F: OutputFiles, R: HeldInput, W: Sink, E: Sink>(
                 has_lost = is_lost || has_lost;
             }
             Ok(Heard::Ended(why)) => {
+                report_more(faults, repeats);
                 let why = Some(why);
                 return Ok(RecordsEnd {
                     has_refused,

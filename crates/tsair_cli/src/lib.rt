@@ -24,6 +24,7 @@ mod front;
 mod hearing;
 mod options;
 mod program;
+mod repeats;
 mod state;
 mod stuffing;
 

@@ -19,8 +19,8 @@ records-init g c = record {
       (g.R.Read.remaining c.args.input.now) start (g.W.Write.contents c.args.output.now)
       (record { bytes = g.E.Write.contents c.args.faults.now; failed = g.E.Sink.fault_count c.args.faults.now })
       (record { bytes = g.E.Write.contents c.save_state-has_lost.new.faults; failed = g.E.Sink.fault_count c.save_state-has_lost.new.faults })
-      c.texts.result.now c.save_state-has_lost.result c.args.on_air.now h (c.texts.ensures run silence start (g.W.Write.contents c.args.output.now) h)
-      c.save_state-has_lost.ensures;
+      c.texts.result.now c.save_state-has_lost.result c.none-repeats.result c.args.on_air.now h
+      (c.texts.ensures run silence start (g.W.Write.contents c.args.output.now) h) c.save_state-has_lost.ensures c.none-repeats.ensures;
 }
 
 pub records-preserved-else-asked : goal.records-preserved-else-asked
@@ -36,13 +36,14 @@ records-preserved-else-asked g c =
           (g.W.Write.contents c.records.output) (g.W.Write.contents c.hear_on.new.to) (g.W.Write.contents c.follow.new.to)
           (record { bytes = g.E.Write.contents c.args.faults.now; failed = g.E.Sink.fault_count c.args.faults.now })
           (record { bytes = g.E.Write.contents c.records.faults; failed = g.E.Sink.fault_count c.records.faults })
-          (record { bytes = g.E.Write.contents c.report_refused.new.faults; failed = g.E.Sink.fault_count c.report_refused.new.faults })
-          c.records.has_refused c.records.has_lost c.records.on_air c.hear_on.new.self c.follow.new.self c.in-Ok-Refused.index c.in-Ok-Refused.cause m
-          (rw c.in-Ok-Refused.field-0-is at
+          (record { bytes = g.E.Write.contents c.report_unlike.new.faults; failed = g.E.Sink.fault_count c.report_unlike.new.faults })
+          c.records.has_refused c.records.has_lost c.records.repeats c.with-repeats.result c.records.on_air c.hear_on.new.self c.follow.new.self c.in-Ok-Refused.index
+          c.in-Ok-Refused.cause m (rw c.in-Ok-Refused.field-0-is at
           (c.in-Ok-Refused.ensures.heard run m.airs.heard_is.count m.airs.came (g.R.Read.remaining c.args.input.now) start m.state
           m.airs.heard_is.heard_is))
           (λ a on. c.in-Ok.ensures.ok run a start on)
-          (by_limits run c.args.asked.streams.now (c.in-Ok-Refused.index, c.in-Ok-Refused.cause) _ limits c.report_refused.ensures);
+          (by_limits run c.args.asked.streams.now c.records.repeats (c.in-Ok-Refused.index, c.in-Ok-Refused.cause) _ limits
+          (record { none = c.report_unlike.ensures.none; both = c.report_unlike.ensures.lines })) c.with-repeats.ensures;
     }
 
 pub records-preserved-then-is_lost : goal.records-preserved-then-is_lost
@@ -59,7 +60,7 @@ records-preserved-then-is_lost g c =
           (record { bytes = g.E.Write.contents c.args.faults.now; failed = g.E.Sink.fault_count c.args.faults.now })
           (record { bytes = g.E.Write.contents c.records.faults; failed = g.E.Sink.fault_count c.records.faults })
           (record { bytes = g.E.Write.contents c.report_change-is_lost.new.faults; failed = g.E.Sink.fault_count c.report_change-is_lost.new.faults })
-          c.records.has_refused c.records.has_lost c.records.on_air c.hear_on.new.self c.in-Ok-Changed.index c.in-Ok-Changed.slot
+          c.records.has_refused c.records.has_lost c.records.repeats c.records.on_air c.hear_on.new.self c.in-Ok-Changed.index c.in-Ok-Changed.slot
           c.texts-texts.result.now c.report_change-is_lost.result _ m
           (rw c.in-Ok-Changed.field-0-is at
           (c.in-Ok-Changed.ensures.heard run m.airs.heard_is.count m.airs.came (g.R.Read.remaining c.args.input.now) start m.state
@@ -82,7 +83,7 @@ records-preserved-else-is_lost g c =
           (record { bytes = g.E.Write.contents c.args.faults.now; failed = g.E.Sink.fault_count c.args.faults.now })
           (record { bytes = g.E.Write.contents c.records.faults; failed = g.E.Sink.fault_count c.records.faults })
           (record { bytes = g.E.Write.contents c.report_change-is_lost.new.faults; failed = g.E.Sink.fault_count c.report_change-is_lost.new.faults })
-          c.records.has_refused c.records.has_lost c.records.on_air c.hear_on.new.self c.in-Ok-Changed.index c.in-Ok-Changed.slot
+          c.records.has_refused c.records.has_lost c.records.repeats c.records.on_air c.hear_on.new.self c.in-Ok-Changed.index c.in-Ok-Changed.slot
           c.texts-texts.result.now c.report_change-is_lost.result _ m
           (rw c.in-Ok-Changed.field-0-is at
           (c.in-Ok-Changed.ensures.heard run m.airs.heard_is.count m.airs.came (g.R.Read.remaining c.args.input.now) start m.state
@@ -100,15 +101,17 @@ returns-then-asked g c = λ run start limits h.
     let output : Device = between (record { bytes = g.W.Write.contents c.args.output.now; failed = g.W.Sink.fault_count c.args.output.now })
     (record { bytes = g.W.Write.contents c.follow.new.to; failed = g.W.Sink.fault_count c.follow.new.to }) in
     let before : Port = record { bytes = g.E.Write.contents c.args.faults.now; failed = g.E.Sink.fault_count c.args.faults.now } in
-    let after : Port = record { bytes = g.E.Write.contents c.report_refused.new.faults; failed = g.E.Sink.fault_count c.report_refused.new.faults } in
+    let said : Port = record { bytes = g.E.Write.contents c.report_unlike.new.faults; failed = g.E.Sink.fault_count c.report_unlike.new.faults } in
+    let after : Port = record { bytes = g.E.Write.contents c.report_more.new.faults; failed = g.E.Sink.fault_count c.report_more.new.faults } in
     stops (saving_of (g.F.OutputFiles.creates c.args.files.now) (g.F.OutputFiles.keeps c.args.files.now) (option_map (λ s. s.now) c.args.asked.state)) run c.args.asked.options.stop (g.R.Read.remaining c.records.input) start (g.W.Write.contents c.records.output) (g.W.Write.contents c.hear_on.new.to) input output
     before
-    (record { bytes = g.E.Write.contents c.records.faults; failed = g.E.Sink.fault_count c.records.faults }) after
-    c.records.has_refused c.records.has_lost c.records.on_air c.hear_on.new.self c.follow.new.self c.in-Ok-Refused.index c.in-Ok-Refused.cause m
+    (record { bytes = g.E.Write.contents c.records.faults; failed = g.E.Sink.fault_count c.records.faults }) said after
+    c.records.has_refused c.records.has_lost c.records.repeats c.with-repeats.result c.records.on_air c.hear_on.new.self c.follow.new.self c.in-Ok-Refused.index c.in-Ok-Refused.cause m
     (rw c.in-Ok-Refused.field-0-is at
     (c.in-Ok-Refused.ensures.heard run m.airs.heard_is.count m.airs.came (g.R.Read.remaining c.args.input.now) start m.state m.airs.heard_is.heard_is))
     (λ a on. c.in-Ok.ensures.ok run a start on)
-    (by_limits run c.args.asked.streams.now (c.in-Ok-Refused.index, c.in-Ok-Refused.cause) _ limits c.report_refused.ensures) c.if-asked.true
+    (by_limits run c.args.asked.streams.now c.records.repeats (c.in-Ok-Refused.index, c.in-Ok-Refused.cause) _ limits
+    (record { none = c.report_unlike.ensures.none; both = c.report_unlike.ensures.lines })) c.with-repeats.ensures c.report_more.ensures c.if-asked.true
     c.records.invariant.stops
     (clean.0 ∙ c.records.invariant.reads) (c.in-Ok.ensures.clean ∙ clean.1 ∙ c.records.invariant.writes)
 
@@ -121,15 +124,16 @@ returns-in-Err-follow g c = λ run start limits h.
     let output : Device = between (record { bytes = g.W.Write.contents c.args.output.now; failed = g.W.Sink.fault_count c.args.output.now })
     (record { bytes = g.W.Write.contents c.follow.new.to; failed = g.W.Sink.fault_count c.follow.new.to }) in
     let before : Port = record { bytes = g.E.Write.contents c.args.faults.now; failed = g.E.Sink.fault_count c.args.faults.now } in
-    let after : Port = record { bytes = g.E.Write.contents c.report_refused.new.faults; failed = g.E.Sink.fault_count c.report_refused.new.faults } in
+    let after : Port = record { bytes = g.E.Write.contents c.report_unlike.new.faults; failed = g.E.Sink.fault_count c.report_unlike.new.faults } in
     follow_fails (saving_of (g.F.OutputFiles.creates c.args.files.now) (g.F.OutputFiles.keeps c.args.files.now) (option_map (λ s. s.now) c.args.asked.state)) run c.args.asked.options.stop (g.R.Read.remaining c.records.input) start (g.W.Write.contents c.records.output) (g.W.Write.contents c.hear_on.new.to)
     input output before
     (record { bytes = g.E.Write.contents c.records.faults; failed = g.E.Sink.fault_count c.records.faults }) after
-    c.records.has_refused c.records.has_lost c.records.on_air c.hear_on.new.self c.in-Ok-Refused.index c.in-Ok-Refused.cause c.in-Err-follow.fault.sent m
+    c.records.has_refused c.records.has_lost c.records.repeats c.records.on_air c.hear_on.new.self c.in-Ok-Refused.index c.in-Ok-Refused.cause c.in-Err-follow.fault.sent m
     (rw c.in-Ok-Refused.field-0-is at
     (c.in-Ok-Refused.ensures.heard run m.airs.heard_is.count m.airs.came (g.R.Read.remaining c.args.input.now) start m.state m.airs.heard_is.heard_is))
     (λ a on. c.in-Err-follow.ensures.err run a start on)
-    (by_limits run c.args.asked.streams.now (c.in-Ok-Refused.index, c.in-Ok-Refused.cause) _ limits c.report_refused.ensures) c.records.invariant.stops
+    (by_limits run c.args.asked.streams.now c.records.repeats (c.in-Ok-Refused.index, c.in-Ok-Refused.cause) _ limits
+    (record { none = c.report_unlike.ensures.none; both = c.report_unlike.ensures.lines })) c.records.invariant.stops
     (clean.0 ∙ c.records.invariant.reads)
     (subst (λ (n : ℕ). Failed n (g.W.Sink.fault_count c.follow.new.to)) (clean.1 ∙ c.records.invariant.writes) c.in-Err-follow.ensures.fault)
 
@@ -140,15 +144,16 @@ returns-in-Ok-Ended g c = λ run start limits h.
     (record { bytes = g.R.Read.remaining c.hear_on.new.input; failed = g.R.Source.fault_count c.hear_on.new.input }) in
     let output : Device = between (record { bytes = g.W.Write.contents c.args.output.now; failed = g.W.Sink.fault_count c.args.output.now })
     (record { bytes = g.W.Write.contents c.hear_on.new.to; failed = g.W.Sink.fault_count c.hear_on.new.to }) in
-    let faults : Device = between (record { bytes = g.E.Write.contents c.args.faults.now; failed = g.E.Sink.fault_count c.args.faults.now })
-    (record { bytes = g.E.Write.contents c.records.faults; failed = g.E.Sink.fault_count c.records.faults }) in
-    ends (saving_of (g.F.OutputFiles.creates c.args.files.now) (g.F.OutputFiles.keeps c.args.files.now) (option_map (λ s. s.now) c.args.asked.state)) run c.args.asked.options.stop (g.R.Read.remaining c.records.input) start (g.W.Write.contents c.records.output) input output faults c.records.has_refused
-    c.records.has_lost c.records.on_air c.hear_on.new.self
+    let before : Port = record { bytes = g.E.Write.contents c.args.faults.now; failed = g.E.Sink.fault_count c.args.faults.now } in
+    let so_far : Port = record { bytes = g.E.Write.contents c.records.faults; failed = g.E.Sink.fault_count c.records.faults } in
+    let after : Port = record { bytes = g.E.Write.contents c.report_more-in-Ok-Ended.new.faults; failed = g.E.Sink.fault_count c.report_more-in-Ok-Ended.new.faults } in
+    ends (saving_of (g.F.OutputFiles.creates c.args.files.now) (g.F.OutputFiles.keeps c.args.files.now) (option_map (λ s. s.now) c.args.asked.state)) run c.args.asked.options.stop (g.R.Read.remaining c.records.input) start (g.W.Write.contents c.records.output) input output before so_far after c.records.has_refused
+    c.records.has_lost c.records.repeats c.records.on_air c.hear_on.new.self
     c.in-Ok-Ended.why m
     (rw c.in-Ok-Ended.field-0-is at
     (c.in-Ok-Ended.ensures.heard run m.airs.heard_is.count m.airs.came (g.R.Read.remaining c.args.input.now) start m.state m.airs.heard_is.heard_is))
     (names_same (Ok (Ended c.in-Ok-Ended.why)) _ _ _ _ _ _ c.records.invariant.reads c.records.invariant.writes
-    (rw c.in-Ok-Ended.field-0-is at c.in-Ok-Ended.ensures.fault))
+    (rw c.in-Ok-Ended.field-0-is at c.in-Ok-Ended.ensures.fault)) c.report_more-in-Ok-Ended.ensures
     c.records.invariant.stops
 
 pub returns-in-Err : goal.returns-in-Err
@@ -161,7 +166,7 @@ returns-in-Err g c = λ run start limits h.
     let faults : Device = between (record { bytes = g.E.Write.contents c.args.faults.now; failed = g.E.Sink.fault_count c.args.faults.now })
     (record { bytes = g.E.Write.contents c.records.faults; failed = g.E.Sink.fault_count c.records.faults }) in
     fails (saving_of (g.F.OutputFiles.creates c.args.files.now) (g.F.OutputFiles.keeps c.args.files.now) (option_map (λ s. s.now) c.args.asked.state)) run c.args.asked.options.stop (g.R.Read.remaining c.records.input) start (g.W.Write.contents c.records.output) input output faults c.records.has_refused
-    c.records.has_lost c.records.on_air c.hear_on.new.self c.in-Err.fault m
+    c.records.has_lost c.records.repeats c.records.on_air c.hear_on.new.self c.in-Err.fault m
     (c.in-Err.ensures.heard run m.airs.heard_is.count m.airs.came (g.R.Read.remaining c.args.input.now) start m.state m.airs.heard_is.heard_is)
     (names_same (Err c.in-Err.fault) _ _ _ _ _ _ c.records.invariant.reads c.records.invariant.writes c.in-Err.ensures.fault)
     c.records.invariant.stops

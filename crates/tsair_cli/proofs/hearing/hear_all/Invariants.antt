@@ -17,7 +17,7 @@ invariant-records g l = record {
       Midway (saving_of (g.F.OutputFiles.creates l.fn.files) (g.F.OutputFiles.keeps l.fn.files) (option_map (λ s. s.now) l.fn.asked.state)) run
       (g.R.Read.remaining l.fn.input) (g.R.Read.remaining l.input) start (g.W.Write.contents l.output)
       (between (record { bytes = g.E.Write.contents l.fn.faults; failed = g.E.Sink.fault_count l.fn.faults })
-      (record { bytes = g.E.Write.contents l.faults; failed = g.E.Sink.fault_count l.faults })) l.has_refused l.has_lost l.on_air;
+      (record { bytes = g.E.Write.contents l.faults; failed = g.E.Sink.fault_count l.faults })) l.has_refused l.has_lost l.repeats l.on_air;
 }
 
 abbrev pub decreases-records : goal.decreases-records
