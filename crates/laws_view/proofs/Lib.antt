@@ -95,3 +95,8 @@ pub mod Leads
 pub mod Between
 pub mod StampedPackets
 pub mod StampedLeads
+pub mod PlacedSections
+pub mod KeyedSections
+pub mod FarSections
+pub mod SoonEvents
+pub mod SectionsApart

@@ -49,7 +49,7 @@ read_tables s (Ok packet) = by packet.header.transport_error_indicator
     by true = refl
     by false = refl
 
-read_options : (s : ViewState) (r : Result PacketView PacketError) → (after_read s r).seen.options ≡ s.seen.options
+pub read_options : (s : ViewState) (r : Result PacketView PacketError) → (after_read s r).seen.options ≡ s.seen.options
 unfolding after_read
 read_options s (Err error) = refl
 read_options s (Ok packet) = by packet.header.transport_error_indicator

@@ -23,6 +23,7 @@ pub mod ViewedSections
 pub mod ViewedTables
 pub mod ViewedVerdicts
 pub mod HomeTables
+pub mod SectionsApart
 pub mod WorkedView
 pub mod LeftFaults
 pub mod KeptRows

@@ -11,6 +11,7 @@ ghost use Rattle.laws_view.specs.MainExcesses.{NoMainExcessLaw, TimedNoExcessLaw
 ghost use Rattle.laws_view.specs.MeasuredStreams.{MeasuredStreamLaw};
 ghost use Rattle.laws_view.specs.MuxedStreams.{JobNoExcessLaw, MuxedStreamLaw};
 ghost use Rattle.laws_view.specs.MuxedTables.{JobTablesLaw, RunTablesLaw};
+ghost use Rattle.laws_view.specs.SectionsApart.{JobDistancesLaw, RunDistancesLaw};
 ghost use Rattle.laws_view.specs.TimedStreams.{ClockedStreamLaw, RateOrderLaw, TimedStreamLaw};
 ghost use Rattle.laws_view.specs.TransportHighs.{ClockedTransportLaw, RateTransportLaw, TimedTransportLaw, TransportHighLaw, TransportWithoutLaw, WindowTransportLaw};
 ghost use Rattle.laws_view.specs.VideoExcesses.{JobElementaryLaw, JobMultiplexingLaw, RunElementaryLaw, RunMultiplexingLaw};
@@ -202,6 +203,14 @@ pub fn muxed_check_words()
 pub fn muxed_homes()
     ensures run { RunHomesLaw }
     ensures jobs { JobHomesLaw }
+{}
+
+/// States that no section of a whole transponder's output without ready-made tables comes too soon in a view at its rate:
+/// each of NIT, SDT, EIT and TDT begins at least 25 ms after the end of the section before it of its PID, table_id and
+/// table_id_extension (ETSI EN 300 468, 5.1.4.1).
+pub fn muxed_distances()
+    ensures run { RunDistancesLaw }
+    ensures jobs { JobDistancesLaw }
 {}
 
 /// States that at a constant rate the events of late sections of a table in a view of any stream are the errors of its
