@@ -4,4 +4,3 @@ pub mod FaultLines
 pub mod TextWords
 pub mod TextAnswers
 pub mod TextRecords
-pub mod LineUpWords
