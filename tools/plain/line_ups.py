@@ -1,13 +1,9 @@
 """A plain reading of docs/ON_AIR.md for tools/plain-mux: whether a line-up (a description with a plan) may take the place of another while it is on air.
 What stays is known by its PID and keeps its slots over all time: each plan is repeated from slot 0 of the run on."""
 
-import sys
-from importlib.machinery import SourceFileLoader
-from pathlib import Path
+from plain import jobs as reading
+from plain import plans
 
-sys.dont_write_bytecode = True
-plans = SourceFileLoader("read_plan", str(Path(__file__).resolve().parent / "read-plan")).load_module()
-reading = plans.reading
 STREAM = ("program", "pid", "id", "pts_limit")  # what a stream declares beside its units and buffers
 
 

@@ -1,5 +1,5 @@
 """Texts of service information as characters (EN 300 468, annex A), read plainly: parts of ISO/IEC 8859 by Python's codecs, ISO/IEC 6937 by
-the names of characters in Unicode. tools/plain_stream.py uses it. U+FFFD stands for what can't be read."""
+the names of characters in Unicode. stream.py uses it. U+FFFD stands for what can't be read."""
 
 import unicodedata
 

@@ -2,6 +2,8 @@
 out of its transport buffer in bits a second, and its main buffer in bytes, of video the elementary stream buffer. tools/plain-job uses
 it; tools/plain-view has the multiplexing buffer with it as one."""
 
+from plain.syntax import descriptors
+
 # level: greatest rate in bits a second, video buffer in bits (ISO/IEC 13818-2, tables 8-13 and 8-14)
 MPEG2 = {10: (4_000_000, 475_136), 8: (15_000_000, 1_835_008), 6: (60_000_000, 7_340_032), 4: (80_000_000, 9_781_248)}
 HIGH_MPEG2 = {8: (20_000_000, 2_441_216), 6: (80_000_000, 9_781_248), 4: (100_000_000, 12_222_464)}  # high profile, all layers
@@ -201,12 +203,6 @@ def channels(data):
     return 8 if number == 7 else number
 
 
-def tags(loop):
-    while len(loop) >= 2 and len(loop) >= 2 + loop[1]:
-        yield loop[0], loop[2: 2 + loop[1]]
-        loop = loop[2 + loop[1]:]
-
-
 def kept(said, greatest, most):
     """EBS: what is said, at most the level's; that where nothing is said, or less than the greatest unit, of `most` bytes, has."""
     ebs = min(said or greatest, greatest)
@@ -255,7 +251,7 @@ def joined_buffers(kind, loop, number, first):
 
 def buffers(kind, loop, number, first, most):
     """(rx, main) of a stream with this stream_type, descriptors, stream_id, first unit and greatest size of a unit."""
-    found = dict(tags(loop))
+    found = dict(descriptors(loop))
     sizes = video(kind, first, most)
     if sizes:
         return sizes[:2]
@@ -263,7 +259,7 @@ def buffers(kind, loop, number, first, most):
         said = found.get(0x32, b"")
         rate, size = (int.from_bytes(said[at : at + 4], "big") if len(said) >= 18 else 0 for at in (10, 14))
         return min(max(rate * 12 // 10, 2_000_000), 200_000_000) if rate else 200_000_000, min(size, 10_000_000) or 10_000_000
-    if kind == 6 and any(tag == 5 and body[:4] == b"BSSD" for tag, body in tags(loop)):
+    if kind == 6 and any(tag == 5 and body[:4] == b"BSSD" for tag, body in descriptors(loop)):
         return 3_225_600 * (first[2] // 64 + 1 if len(first) > 2 else 4), 65_536
     if kind in (0x81, 0x87) or 0x6A in found or 0x7A in found:
         return 2_000_000, 5_696
@@ -282,12 +278,12 @@ def buffers(kind, loop, number, first, most):
 
 
 def is_ac3(kind, loop):
-    return kind in (0x81, 0x87) or any(tag in (0x6A, 0x7A) or kind == 6 and tag == 5 and body[:4] in (b"AC-3", b"EAC3") for tag, body in tags(loop))
+    return kind in (0x81, 0x87) or any(tag in (0x6A, 0x7A) or kind == 6 and tag == 5 and body[:4] in (b"AC-3", b"EAC3") for tag, body in descriptors(loop))
 
 
 def longest_stay(kind, loop):
     """The longest time in seconds that a byte may stay before its decoding time (ISO/IEC 13818-1, 2.4.2.6)."""
-    stills = any(len(body) > at and tag == name and body[at] & bit for name, at, bit in ((2, 0, 1), (40, 3, 128), (56, 12, 64)) for tag, body in tags(loop))
+    stills = any(len(body) > at and tag == name and body[at] & bit for name, at, bit in ((2, 0, 1), (40, 3, 128), (56, 12, 64)) for tag, body in descriptors(loop))
     if kind in (1, 2, 0x10, 0x1B, 0x24):
         return 60 if stills else 1 if kind < 3 else 10
     return 10 if kind in (0x11, 0x1C) else 1 if kind in (3, 4, 0x0F) or is_ac3(kind, loop) else 60

@@ -1,20 +1,8 @@
 """A transport stream read plainly: the PES packets and sections of each PID with their bytes, and its tables as docs/CARRIED_TABLES.md takes
 them. tools/plain-job uses it."""
 
-import sys
-from importlib.machinery import SourceFileLoader
-from pathlib import Path
-
-sys.dont_write_bytecode = True
-TOOLS = Path(__file__).resolve().parent
-sys.path.insert(0, str(TOOLS))
-import plain_capture
-import plain_texts as texts
-syntax = SourceFileLoader("compare_demux", str(TOOLS / "compare-demux")).load_module()
-jobs = SourceFileLoader("read_job", str(TOOLS / "read-job")).load_module()
-
-
-FLAGLESS = {0xBC, 0xBE, 0xBF, 0xF0, 0xF1, 0xF2, 0xF8, 0xFF}
+from plain import capture, jobs, listing, syntax, texts
+from plain.syntax import NO_FLAGS, descriptors, loops
 
 
 class Marks(int):
@@ -39,7 +27,7 @@ class Refused(Exception):
 # ---- what is found of each PID
 
 
-class Pid(syntax.Pid):
+class Pid(listing.Pid):
     """One PID: its PES packets with their bytes, its sections, and the rest as lines, each with the packet in which it begins."""
 
     def __init__(self, pid, accesses):
@@ -62,7 +50,7 @@ class Pid(syntax.Pid):
     def unstamped(self, part):
         """Whether a part of a PES packet was cut short that has no PTS, as far as it was read."""
         kind, data = part
-        return kind == "pes" and not (len(data) > 8 and data[3] not in FLAGLESS and data[6] >> 6 == 2 and data[7] >> 7 == 1)
+        return kind == "pes" and not (len(data) > 8 and data[3] not in NO_FLAGS and data[6] >> 6 == 2 and data[7] >> 7 == 1)
 
     def tell_pes(self, packet, header, size, tail):
         number, _, pts, dts, length = header
@@ -135,12 +123,12 @@ def private_data(header):
 def fields_of(p):
     """The fields of a packet and of a PES header at its front that are not written again."""
     body = p[5 + p[4] if p[3] & 0x20 else 4:] if p[1] >> 6 == 1 and p[3] >> 6 == 0 and p[3] & 0x10 else b""
-    begins = body[:3] == b"\0\0\1" and body[3] not in FLAGLESS and body[7] >= 0x80 if len(body) > 8 else bool(body)
+    begins = body[:3] == b"\0\0\1" and body[3] not in NO_FLAGS and body[7] >= 0x80 if len(body) > 8 else bool(body)
     flags = adaptation_flags(p) & ~(jobs.RANDOM_ACCESS if begins else 0)
     told = [TRANSPORT_PRIORITY] * bool(p[1] & 0x20) + [name for bit, name in INDICATORS if flags & bit]
     if len(body) < 9:
         return told + [UNREAD] * bool(body)
-    if body[:3] != b"\0\0\1" or body[3] in FLAGLESS:
+    if body[:3] != b"\0\0\1" or body[3] in NO_FLAGS:
         return told
     first, second, size = body[6:9]
     more = before_extension(second)
@@ -159,8 +147,8 @@ FORMS = {"mp4": ("MP4", AS_IT_IS), "matroska": ("Matroska", AS_IT_IS), "avi": ("
 
 def no_stream(data):
     """The refusal of an input that is no transport stream: no five sync bytes 188 bytes apart in its first 4 MiB, or in a shorter one of a known form."""
-    front, at, form = data[:1 << 22], -1, plain_capture.form_of(data)
-    if plain_capture.size_of(data) != 188 or len(front) < 1 << 22 and form == "unknown":
+    front, at, form = data[:1 << 22], -1, capture.form_of(data)
+    if capture.size_of(data) != 188 or len(front) < 1 << 22 and form == "unknown":
         return None
     while (at := front.find(b"\x47", at + 1)) >= 0:
         if front[at: at + 753: 188] == b"\x47" * 5:
@@ -241,13 +229,6 @@ class Stream:
 # ---- tables
 
 
-def descriptors(data):
-    """The whole descriptors at the front of a loop: tag and body."""
-    while len(data) >= 2 and len(data) >= 2 + data[1]:
-        yield data[0], data[2: 2 + data[1]]
-        data = data[2 + data[1]:]
-
-
 def of_multiplex(tag, body):
     """Whether a descriptor speaks of the rates and buffers of the multiplex in which it stands: 12, 14, 16, STD without leak, managed HRD of AVC and of HEVC."""
     managed = tag == 42 and body[:1] >= b"\x80" or tag == 63 and body[:1] == b"\x03" and body[1:2] >= b"\x80"
@@ -258,18 +239,6 @@ def kept(data):
     return b"".join(bytes([tag, len(body)]) + body for tag, body in descriptors(data) if tag != 9 and not of_multiplex(tag, body))
 
 
-def loops(data, head):
-    """Entries of a loop: a head, whose last 12 bits count the descriptors after it. None where one does not fit."""
-    entries = []
-    while data:
-        size = (data[head - 2] & 15) << 8 | data[head - 1] if len(data) >= head else 4096
-        if len(data) < head + size:
-            return None
-        entries.append((data[:head], data[head: head + size]))
-        data = data[head + size:]
-    return entries
-
-
 def association(stream, lines=None, asked=(), joined=False):
     """transport_stream_id, and (number, PID) of the programs. Told are the first table that says something else, and the first one with a program
     that is asked for and not named, or with `joined` False on another PID."""
@@ -277,18 +246,17 @@ def association(stream, lines=None, asked=(), joined=False):
     if not tables:
         raise Refused("no PAT")
     version = lambda s: s[5] >> 1 & 31
-    entries = lambda s: [(s[i] << 8 | s[i + 1], (s[i + 2] & 31) << 8 | s[i + 3]) for i in range(8, len(s) - 4, 4)]
     first, named = tables[0][1], {}
     for _, s in tables:
-        for number, pid in entries(s) if version(s) == version(first) else []:
+        for number, pid in syntax.associations(s) if version(s) == version(first) else []:
             if number:
                 named.setdefault(number, pid)
-    says_else = lambda s: version(s) != version(first) or s[3:5] != first[3:5] or any(number and named.get(number) != pid for number, pid in entries(s))
+    says_else = lambda s: version(s) != version(first) or s[3:5] != first[3:5] or any(number and named.get(number) != pid for number, pid in syntax.associations(s))
     if lines is not None:
         lines += [f"packet {packet} PAT changes: the first is used" for packet, s in tables if says_else(s)][:1]
         lost = lambda number, pid: number and (not asked or number in asked) and (number not in named or not joined and named[number] != pid)
         lines += [f"packet {packet} PAT names a program or PMT PID that the first does not: left out" for packet, s in tables
-                  if any(lost(*entry) for entry in entries(s))][:1]
+                  if any(lost(*entry) for entry in syntax.associations(s))][:1]
     return first[3] << 8 | first[4], list(named.items())
 
 
