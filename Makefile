@@ -57,7 +57,7 @@ install: ## Copy the programs that are built, and those of ON_AIR, to PREFIX/bin
 	@for program in $(BINARY) $(TSJOB) $(TSAIR) $(TSVIEW) $(TSREMUX); do \
 	    if test -x $$program; then install -m 755 $$program $(PREFIX)/bin/ && echo $(PREFIX)/bin/$${program##*/}; fi; done
 	install -m 755 $(ON_AIR) $(PREFIX)/bin/
-	tools/options --write $(PREFIX)/share
+	tools/docs options --write $(PREFIX)/share
 
 dist: ## Make a tarball of the five built programs, manual pages, completions and documents in out/dist.
 	@for program in $(BINARY) $(TSJOB) $(TSAIR) $(TSVIEW) $(TSREMUX); do test -x $$program || { echo "not built: make binary tsjob tsair tsview tsremux"; exit 1; }; done
@@ -115,15 +115,8 @@ test: ## The merge gate: all proofs and tests (docs/GATE.md).
 	tools/run-tests crates/tsmux/out/tsmux crates/tsjob/out/tsjob crates/tsair/out/tsair crates/tsview/out/tsview crates/tsremux/out/tsremux
 
 check-docs: ## Check the documents: links, words of commands, claims, generated tables, messages, options, plain English.
-	tools/links
-	tools/claims
-	tools/contracts --check
-	tools/crate-map --check
-	tools/messages
-	tools/options --check
-	tools/keys --check
+	tools/docs
 	tools/gate-times --check
-	tools/plain-words
 
 edits: ## Try all wrong bodies, also those that the gate does not try (after make test, before a release).
 	tools/try-edits

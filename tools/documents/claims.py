@@ -1,4 +1,3 @@
-#!/usr/bin/env python3
 """claims [--list]: whether each claim of README and docs/PROVED.md still has its clause in the sources.
 
 A claim is a row of a table of docs/PROVED.md whose second column is headed "Crate, call" or "Law", or a line `<!-- claim: .. -->` of
@@ -19,9 +18,9 @@ Prints each name that the sources no longer have, each row in another section, a
 
 import re
 import sys
-from pathlib import Path
 
-ROOT = Path(__file__).resolve().parent.parent
+from documents.sources import ROOT, Crates, title
+
 NAME = re.compile(r"`([^`]*)`('s)?")
 CLAUSE = r"\b(?:ensures|requires)\*?\s+{}\s*\{{"
 OWNER = re.compile(r"^(?:impl\b.*?\b(\w+)(?:<[^{]*>)?\s*(?:where\b.*)?\{|(?:pub )?trait (\w+))", re.M)
@@ -107,29 +106,19 @@ def rows(text):
             yield number, cells
 
 
-def layers():
-    """The layers of crates.txt, each with its crates."""
-    found, last = {}, None
-    for line in (ROOT / "crates.txt").read_text().splitlines():
-        if line.startswith("#"):
-            last = found.setdefault(re.split("[:,]", line.lstrip("# "))[0], [])
-        elif line.strip():
-            last.append(line.split(":")[0])
-    return found
-
-
 def section_faults(sources):
     """The sections of docs/PROVED.md that are no layers or in another order, and the rows of other sections."""
-    known, found = layers(), []
+    known, found = {title(layer): names for layer, names in Crates().crates.items()}, []
     for section in re.split(r"^## ", (ROOT / "docs" / "PROVED.md").read_text(), flags=re.M)[1:]:
-        title, crates = section.split("\n", 1)[0], known.get(section.split("\n", 1)[0].lower())
-        if crates is None:
+        head = section.split("\n", 1)[0]
+        named = known.get(head.lower())
+        if named is None:
             continue
-        found.append(title.lower())
+        found.append(head.lower())
         for _, cells in rows(section):
             first = next((name[1] for name in NAME.finditer(cells[1]) if name[1] in sources.names), None)
-            if first not in crates:
-                yield f"docs/PROVED.md: {title}: a row of `{first}`: {cells[0]}"
+            if first not in named:
+                yield f"docs/PROVED.md: {head}: a row of `{first}`: {cells[0]}"
     if found != [layer for layer in known if layer in found] or len(found) < len(known) - 1:
         yield f"docs/PROVED.md: its sections have to be the layers {', '.join(known)}, without tests"
 
@@ -218,7 +207,3 @@ def main():
         failed += 1
     print(f"{passed} passed, {failed} failed")
     return 1 if failed or not passed else 0
-
-
-if __name__ == "__main__":
-    sys.exit(main())

@@ -1,4 +1,3 @@
-#!/usr/bin/env python3
 """links: whether what the documents point to is there.
 
 In each document of the repository (*.md): the file and the heading of each link that leads into the repository; and in code blocks and
@@ -6,10 +5,9 @@ words in backquotes each target of `make`, each file below tools/, examples/, cr
 `tsmux`, `tsjob`, `tsremux`, `tsair` and `tsview`, as the usage text of the program has them. Prints what is not there, and how many passed."""
 
 import re
-import sys
-from pathlib import Path
 
-ROOT = Path(__file__).resolve().parent.parent
+from documents.sources import ROOT, documents
+
 PROGRAMS = ("tsmux", "tsjob", "tsremux", "tsair", "tsview")
 # What a command line may have after the name of a program beside options: its words, and names of files after them.
 WORDS = {
@@ -20,12 +18,6 @@ WORDS = {
     "tsview": set(),
 }
 FILE = re.compile(r"(?<![\w./-])((?:\.\./)*(?:tools|examples|crates|cases|docs|bench|edits)/[\w./-]*[\w-])")
-
-
-def documents():
-    return sorted(
-        one for one in ROOT.rglob("*.md") if not {"out", ".git", "node_modules"} & set(one.relative_to(ROOT).parts)
-    )
 
 
 def anchors(path):
@@ -132,7 +124,3 @@ def main():
         passed, failed = passed + (not faults), failed + bool(faults)
     print(f"{passed} passed, {failed} failed")
     return 1 if failed or not passed else 0
-
-
-if __name__ == "__main__":
-    sys.exit(main())

@@ -1,4 +1,3 @@
-#!/usr/bin/env python3
 """plain-words [--list | --files] [TREE]: how plain the English of the repository is.
 
 Counts two kinds of forms per 1,000 words: words that point back in place of a noun ("that of", "those", "of which"), and verbs and
@@ -14,6 +13,8 @@ file and line, and at last how many tests passed. With --list each place in the 
 import re
 import sys
 from pathlib import Path
+
+from documents.sources import ROOT
 
 BACK = (
     r"\b(that of|those|one of|ones? that|of which|by which|in which|with which|from which|to which|what is|the others?"
@@ -44,7 +45,7 @@ def blanked(text, form):
 
 def prose(text):
     """The text without generated parts, fenced and indented code, words in backquotes and addresses."""
-    text = blanked(text, r"<!-- (\w+): tools/crate-map --write -->.*?<!-- end of \1 -->")
+    text = blanked(text, r"<!-- (\w+): tools/docs crate-map --write -->.*?<!-- end of \1 -->")
     text = blanked(text, r"^```.*?^```")
     text = blanked(text, r"<!--.*?-->")
     text = re.sub(r"^ {4}.*$", "", text, flags=re.M)
@@ -133,7 +134,7 @@ def main():
     words = sys.argv[1:]
     options = {word for word in words if word.startswith("--")}
     trees = [word for word in words if not word.startswith("--")]
-    root = Path(trees[0]) if trees else Path(__file__).resolve().parent.parent
+    root = Path(trees[0]) if trees else ROOT
     readme, documents = root / "README.md", document_files(root)
     if "--list" in options:
         for path in [readme, *documents]:
@@ -165,7 +166,3 @@ def main():
     passed += [not verbs, not lengths]
     print("\n".join(faults + verbs + lengths + [f"{sum(passed)} passed, {len(passed) - sum(passed)} failed"]))
     return 0 if all(passed) else 1
-
-
-if __name__ == "__main__":
-    sys.exit(main())

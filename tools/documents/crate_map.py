@@ -1,4 +1,3 @@
-#!/usr/bin/env python3
 """crate-map [--picture | --table | --write | --check | --above [CRATE..]]: the layers of crates, drawn from crates.txt.
 
 A layer is a comment of crates.txt with the crates below it; the first words of the comment, up to a colon or a comma, name it. The picture
@@ -13,85 +12,19 @@ and theirs take by docs/GATE.md; of each crate, the dearest first, or of those t
 
 import re
 import sys
-from importlib.machinery import SourceFileLoader
-from pathlib import Path
 
-ROOT = Path(__file__).resolve().parent.parent
+from documents.sources import ROOT, Crates, seconds_of, title
+
 DOCUMENT = ROOT / "docs" / "ARCHITECTURE.md"
 WIDTH = 32
 MOST_WORDS = 20
 
 
-class Crates:
-    """The rows of crates.txt: the layers in order, and of each crate its layer and the crates of the repository that it uses."""
-
-    def __init__(self, text):
-        self.layers, self.crates, self.layer_of, self.uses = [], {}, {}, {}
-        for line in text.splitlines():
-            if line.startswith("#"):
-                self.layers.append(line.lstrip("# "))
-                self.crates[self.layers[-1]] = []
-            elif ":" in line:
-                name, needs = line.split(":", 1)
-                if not self.layers:
-                    self.layers.append("crates")
-                    self.crates["crates"] = []
-                self.crates[self.layers[-1]].append(name.strip())
-                self.layer_of[name.strip()] = self.layers[-1]
-                self.uses[name.strip()] = needs.split()
-        for name in self.uses:
-            self.uses[name] = [one for one in self.uses[name] if one in self.layer_of]
-
-    def edges(self):
-        """Which layers each layer uses, by their places; those above it apart."""
-        place = {layer: index for index, layer in enumerate(self.layers)}
-        down = {layer: set() for layer in self.layers}
-        up = []
-        for name, needs in self.uses.items():
-            for one in needs:
-                here, there = place[self.layer_of[name]], place[self.layer_of[one]]
-                if there < here:
-                    down[self.layer_of[name]].add(self.layer_of[one])
-                elif there > here:
-                    up.append((name, one))
-        return {layer: self.unimplied(down, layer) for layer in self.layers}, up
-
-    def unimplied(self, down, layer):
-        def reach(one, found):
-            for other in down[one]:
-                if other not in found:
-                    found.add(other)
-                    reach(other, found)
-            return found
-
-        implied = set().union(*[reach(one, set()) for one in down[layer]]) if down[layer] else set()
-        return [one for one in self.layers if one in down[layer] and one not in implied]
-
-
-    def above(self, name):
-        """The crates that have this one below them, and itself."""
-        found, left = set(), [name]
-        while left:
-            found.add(left.pop())
-            left += [one for one, needs in self.uses.items() if one not in found and found & set(needs)]
-        return found
-
-
 def costs(crates, names):
     """Of each crate how many stand above it, and the minutes that a change of it costs."""
-    seconds = gate_progress().seconds_of(set(crates.uses))
+    seconds = seconds_of(crates.uses)
     found = [(sum(seconds[one] for one in crates.above(name)) / 60, len(crates.above(name)) - 1, name) for name in names]
     return "\n".join(f"{name}: {count} crates above, {minutes:.0f} minutes" for minutes, count, name in sorted(found, reverse=True))
-
-
-def gate_progress():
-    """The tool that reads the seconds of docs/GATE.md, as a module."""
-    sys.dont_write_bytecode = True
-    return SourceFileLoader("gate_progress", str(ROOT / "tools" / "gate-progress")).load_module()
-
-
-def title(layer):
-    return re.split(r"[:,]", layer)[0].strip()
 
 
 def rails(spans, rows):
@@ -166,11 +99,11 @@ def places(crates):
 
 
 def marked(name):
-    return re.compile(rf"(<!-- {name}: tools/crate-map --write -->\n).*?(<!-- end of {name} -->)", re.S)
+    return re.compile(rf"(<!-- {name}: tools/docs crate-map --write -->\n).*?(<!-- end of {name} -->)", re.S)
 
 
 def main():
-    crates = Crates((ROOT / "crates.txt").read_text())
+    crates = Crates()
     words = sys.argv[1:] or ["--picture"]
     if words == ["--picture"]:
         print(picture(crates))
@@ -192,14 +125,10 @@ def main():
                 passed += 1
             else:
                 failed += 1
-                print(f"docs/ARCHITECTURE.md: the {name} of crates is not what tools/crate-map --write puts there")
+                print(f"docs/ARCHITECTURE.md: the {name} of crates is not what tools/docs crate-map --write puts there")
         print(f"{passed} passed, {failed} failed")
         return 1 if failed else 0
     else:
         print(__doc__, file=sys.stderr)
         return 2
     return 0
-
-
-if __name__ == "__main__":
-    sys.exit(main())

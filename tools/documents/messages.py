@@ -1,4 +1,3 @@
-#!/usr/bin/env python3
 """messages [--list]: whether docs/MESSAGES.md has every line that the programs write on standard error.
 
 The lines are the string literals of the sources below (SOURCES), as Rust has them: `{name}` stands for a number, a name or a word. Two
@@ -10,9 +9,9 @@ Prints what is missing or not in order, and how many literals and lines passed. 
 
 import re
 import sys
-from pathlib import Path
 
-ROOT = Path(__file__).resolve().parent.parent
+from documents.sources import ROOT
+
 # A comment, a character or a string; the group is what stands between the quotation marks of a string.
 TOKEN = re.compile(r"""//[^\n]*|b?'(?:[^'\\\n]|\\.|\\u\{[^}]*\})'|"((?:[^"\\]|\\.)*)\"""", re.S)
 PAGE = ROOT / "docs" / "MESSAGES.md"
@@ -131,7 +130,3 @@ def main():
             passed, failed = passed + (not faults), failed + bool(faults)
     print(f"{passed} passed, {failed} failed")
     return 1 if failed or not passed else 0
-
-
-if __name__ == "__main__":
-    sys.exit(main())

@@ -1,4 +1,3 @@
-#!/usr/bin/env python3
 """contracts [CRATE .. | --check]: the public contracts of crates, read from their sources.
 
 For each crate: the first sentence of its lib.rt; each public function by file, with the first sentence of its comment and the names of the
@@ -9,9 +8,9 @@ crate, with the numbers of its public functions, named clauses and wrong bodies,
 
 import re
 import sys
-from pathlib import Path
 
-ROOT = Path(__file__).resolve().parent.parent
+from documents.sources import ROOT, Crates
+
 FUNCTION = re.compile(r"^[ \t]*pub (?:const )?(?:unsafe )?(?:ghost )?fn (\w+)", re.M)
 OWNER = re.compile(r"^impl\b.*?\b(\w+)(?:<[^{]*>)?\s*(?:where\b.*)?\{", re.M)
 
@@ -20,12 +19,6 @@ def sentence(comment):
     """The first sentence of a comment, on one line."""
     text = " ".join(re.sub(r"^[ \t]*//[/!] ?", "", comment, flags=re.M).split())
     return re.split(r"(?<=[.:]) (?=[A-Z`])", text)[0]
-
-
-def crates():
-    for line in (ROOT / "crates.txt").read_text().splitlines():
-        if line.strip() and not line.startswith("#"):
-            yield line.split(":")[0].split()[0]
 
 
 class Function:
@@ -95,7 +88,7 @@ class Contracts:
 
 def main():
     words = sys.argv[1:]
-    known = [Contracts(name) for name in crates()]
+    known = [Contracts(name) for name in Crates().uses]
     if words == ["--check"]:
         known = [one for one in known if not one.name.startswith("tests_")]
         silent = [(one.name, it.name) for one in known for it in one.functions() if not it.says]
@@ -114,7 +107,3 @@ def main():
     sums = [sum(row) for row in zip(*(one.counts() for one in known))]
     print(f"{'all':20} {sums[0]:9} {sums[1]:8} {sums[2]:12}")
     return 0
-
-
-if __name__ == "__main__":
-    sys.exit(main())

@@ -1,4 +1,3 @@
-#!/usr/bin/env python3
 """options [--check | --write FOLDER | --list]: manual pages and completions of the programs, from their tables of options.
 
 The tables are the rows `OptionRow` of crates/*_cli/src/options.rt, and of crates/tsjob_cli/src/rows.rt for rows that several tables have: names,
@@ -16,7 +15,8 @@ import sys
 import tempfile
 from pathlib import Path
 
-ROOT = Path(__file__).resolve().parent.parent
+from documents.sources import ROOT
+
 PROGRAMS = ("tsmux", "tsjob", "tsremux", "tsair", "tsview")
 ROW = re.compile(
     r'OptionRow \{\s*name: "([^"]*)",\s*value: ValueKind::(\w+)(?: \{([^}]*)\})?,\s*form: "([^"]*)",\s*unit: "([^"]*)",\s*apart: "([^"]*)",\s*'
@@ -193,7 +193,7 @@ def bash(program):
     files = "".join(f"        --{one.name}) _{program}_files \"$word\"; return ;;\n" for one in by_word[None] if one.kind == "File")
     takes = "|".join(sorted({"--" + one.name for rows in by_word.values() for one in rows if one.takes_value() and not one.values() and one.kind != "File" and one.kind != "Alone"}))
     nothing = f"        {takes}) return ;;\n" if takes else ""
-    return f"""# bash completion of {program}, made by tools/options
+    return f"""# bash completion of {program}, made by tools/docs options
 # names of files, one a line, as readline quotes them
 _{program}_files() {{
     mapfile -t COMPREPLY < <(compgen -f -- "$1")
@@ -234,16 +234,16 @@ def zsh(program):
     if len(by_word) == 1:
         specs = " \\\n    ".join(map(zsh_spec, by_word[None]))
         first = " \\\n    '1:command:(" + " ".join(WORDS[program]) + ")'" if WORDS[program] else ""
-        return f"#compdef {program}\n# made by tools/options\n_arguments \\\n    {specs}{first} \\\n    '*:file:_files'\n"
+        return f"#compdef {program}\n# made by tools/docs options\n_arguments \\\n    {specs}{first} \\\n    '*:file:_files'\n"
     cases = "\n".join(f"    {word}) _arguments {' '.join(map(zsh_spec, rows))} '*:file:_files' ;;" for word, rows in by_word.items() if word)
     return (
-        f"#compdef {program}\n# made by tools/options\nif ((CURRENT == 2)); then\n    compadd -- {' '.join(WORDS[program])} --version\n    return\nfi\n"
+        f"#compdef {program}\n# made by tools/docs options\nif ((CURRENT == 2)); then\n    compadd -- {' '.join(WORDS[program])} --version\n    return\nfi\n"
         f"shift words\n((CURRENT--))\ncase $words[1] in\n{cases}\n    *) _files ;;\nesac\n"
     )
 
 
 def fish(program):
-    lines = [f"# fish completion of {program}, made by tools/options"]
+    lines = [f"# fish completion of {program}, made by tools/docs options"]
     for word, text in WORDS[program].items():
         lines.append(f"complete -c {program} -n __fish_use_subcommand -a {word} -d {quoted(text)}")
     for word, rows in options(program).items():
@@ -399,7 +399,3 @@ def main():
         return 0
     print(__doc__, file=sys.stderr)
     return 2
-
-
-if __name__ == "__main__":
-    sys.exit(main())

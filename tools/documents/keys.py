@@ -1,4 +1,3 @@
-#!/usr/bin/env python3
 """keys [--check | --write | --list]: the tables of keys in docs/DESCRIPTION.md, from the rows of crates/description_keys/src/keys.rt.
 
 Each row of a table begins with the number and the name of a key, and its text has the key's range and default, which the rows have. The
@@ -8,9 +7,9 @@ whether the comments that `tsjob describe` writes beside numbers (crates/job_tex
 
 import re
 import sys
-from pathlib import Path
 
-ROOT = Path(__file__).resolve().parent.parent
+from documents.sources import ROOT
+
 ROWS = ROOT / "crates/description_keys/src/keys.rt"
 MEASURES = ROOT / "crates/job_text/src/measure.rt"
 DOCUMENT = ROOT / "docs/DESCRIPTION.md"
@@ -78,7 +77,8 @@ def mended(text, kind, numbers):
     return text
 
 
-def main(word):
+def main():
+    word = (sys.argv[1:] or ["--check"])[0]
     keys = list(rows())
     if word == "--list":
         for part, code, name, kind, numbers, _words in keys:
@@ -120,7 +120,3 @@ def main(word):
         print(f"keys: {fault}")
     print(f"{max(0, len(keys) - len(faults))} passed, {len(faults)} failed")
     return 1 if faults else 0
-
-
-if __name__ == "__main__":
-    sys.exit(main(sys.argv[1] if len(sys.argv) > 1 else "--check"))

@@ -1,0 +1,1 @@
+"""Checks of the documents that make no build; tools/docs runs them."""
