@@ -1,6 +1,6 @@
-use Rattle.std.proofs.Common.{false, [], sym, subst}
+use Rattle.std.proofs.Common.{false, sym, subst}
 use Rattle.pes_packet.specs.Units.{units_of}
-use Rattle.mux_core.specs.Histories.{content_at}
+use Rattle.mux_core.specs.Histories.{content_at, unchanged}
 use Rattle.mux_core.specs.Headline.{Headline}
 use Rattle.mux_core.proofs.JobWriting.{output_bytes}
 use Rattle.es_units.proofs.KeptDeclarations.{units_kept}
@@ -16,7 +16,7 @@ returns c = λ d p findings units n ranges serving are few.
     let none = c.accepted.ensures false line findings units ranges are in
     let kept = all_kept units_kept false line findings units ranges are in
     let whole = subst (Headline line (λ k. units_of k units) n) (sym (output_bytes (content_at line (λ k. units_of k units)) 0 n))
-    (c.headline.ensures.whole line [] (λ k. units_of k units) n ranges (c.accepted_plan.ensures d p ranges serving) kept) in
+    (c.headline.ensures.whole line unchanged (λ k. units_of k units) n ranges (c.accepted_plan.ensures d p ranges serving) kept) in
     record {
       same = λ k s is keep. those moved_by_one findings s.pid (units_of k units) (are.streams k s is).found keep;
       given_back = c.jobs.ensures.given_back line units n ranges none few;
