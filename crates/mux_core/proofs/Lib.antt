@@ -44,3 +44,12 @@ pub mod Runs
 pub mod LeftInput
 pub mod RunLengths
 pub mod ReadBytes
+pub mod ExchangedItems
+pub mod ComingTables
+pub mod FoundNumbers
+pub mod MovedTables
+pub mod LineUps
+pub mod TakenOver
+pub mod UntouchedSlots
+pub mod ComeAndGone
+pub mod TakenLineUps

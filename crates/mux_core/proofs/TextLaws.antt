@@ -6,6 +6,7 @@ use Rattle.std.proofs.lemmas.Option.{slice_get_within}
 use Rattle.pes_packet.specs.AccessUnits.{AccessUnit}
 use Rattle.ts_packet.specs.PidList.{Entry, is_of_pid, pid_list}
 use Rattle.slot_contents.specs.Contents.{Content, Piece, view_of, run_bytes, entry_at, entries_in}
+use Rattle.slot_contents.specs.RunLaws.{Fits}
 use Rattle.slot_contents.proofs.Runs.{run_pid_list}
 use Rattle.description_parts.specs.Described.{Described}
 use Rattle.description_parts.specs.Ranges.{IsInRange}
@@ -31,7 +32,7 @@ use Rattle.mux_core.proofs.TextChanges.{text_before}
 use Rattle.mux_core.proofs.Whole.{contents_fit_over}
 
 -- Two slots have the same packet on a PID, or none.
-abbrev SameOn : ℕ → Content → Content → Type 0
+abbrev pub SameOn : ℕ → Content → Content → Type 0
 SameOn pid a b = (a ≡ b) ⊎ ((is_of_pid pid (view_of a) ≡ false) × (is_of_pid pid (view_of b) ≡ false))
 
 one_same : (pid s : ℕ) (a b : Content) (rest : List Entry) → SameOn pid a b →
@@ -40,20 +41,25 @@ one_same pid s a b rest (inl same) = ap (λ (c : Content). cond (is_of_pid pid (
 one_same pid s a b rest (inr none) =
     ap (λ (x : Bool). cond x (entry_at s a ∷ rest) rest) none.0 ∙ sym (ap (λ (x : Bool). cond x (entry_at s b ∷ rest) rest) none.1)
 
-same_entries : (pid : ℕ) (f g : ℕ → Content) (s n : ℕ) → ((t : ℕ) → SameOn pid (f t) (g t)) → entries_in pid f s n ≡ entries_in pid g s n
+same_entries : (pid : ℕ) (f g : ℕ → Content) (s n : ℕ) → ((t : ℕ) → t < s + n → SameOn pid (f t) (g t)) → entries_in pid f s n ≡ entries_in pid g s n
 unfolding entries_in
 same_entries pid f g s zero same = refl
 same_entries pid f g s (suc n) same =
-    ap (λ (rest : List Entry). cond (is_of_pid pid (view_of (f s))) (entry_at s (f s) ∷ rest) rest) (same_entries pid f g (suc s) n same)
-    ∙ one_same pid s (f s) (g s) (entries_in pid g (suc s) n) (same s)
+    ap (λ (rest : List Entry). cond (is_of_pid pid (view_of (f s))) (entry_at s (f s) ∷ rest) rest)
+    (same_entries pid f g (suc s) n (λ t lt. same t (omega (arith, lt))))
+    ∙ one_same pid s (f s) (g s) (entries_in pid g (suc s) n) (same s (omega arith))
 
-same_lists : (d : Scheduled) (changes : TextsSoFar) (units : ℕ → List AccessUnit) (slots pid : ℕ) → IsInRange d.description →
+pub same_lists : (slots pid : ℕ) (f g : ℕ → Content) → Fits f → Fits g → ((s : ℕ) → s < slots → SameOn pid (f s) (g s)) →
+    pid_list pid (run_bytes f 0 slots) ≡ pid_list pid (run_bytes g 0 slots)
+same_lists slots pid f g fits others same =
+    run_pid_list pid slots f fits ∙ same_entries pid f g 0 slots (λ t lt. same t (omega (arith, lt))) ∙ sym (run_pid_list pid slots g others)
+
+same_over : (d : Scheduled) (changes : TextsSoFar) (units : ℕ → List AccessUnit) (slots pid : ℕ) → IsInRange d.description →
     UnitsKept d units → ((t : ℕ) → SameOn pid (content_over d changes units t) (content_at d units t)) →
     pid_list pid (run_bytes (content_over d changes units) 0 slots) ≡ pid_list pid (run_bytes (content_at d units) 0 slots)
-same_lists d changes units slots pid r kept same =
-    run_pid_list pid slots (content_over d changes units) (contents_fit_over d changes units r kept)
-    ∙ same_entries pid (content_over d changes units) (content_at d units) 0 slots same
-    ∙ sym (run_pid_list pid slots (content_at d units) (contents_fit_over d unchanged units r kept))
+same_over d changes units slots pid r kept same =
+    same_lists slots pid (content_over d changes units) (content_at d units) (contents_fit_over d changes units r kept)
+    (contents_fit_over d unchanged units r kept) (λ t lt. same t)
 
 -- A PID of no table
 
@@ -83,7 +89,7 @@ slot_same d changes units s pid Null is below none = inl (ap (content_in d chang
 
 pub others_untouched : OthersUntouchedLaw
 others_untouched d changes units slots pid r kept below none =
-    same_lists d changes units slots pid r kept (λ s. slot_same d changes units s pid (slot_of d.schedule s) refl below none)
+    same_over d changes units slots pid r kept (λ s. slot_same d changes units s pid (slot_of d.schedule s) refl below none)
 
 -- A table with the same sections
 
@@ -137,7 +143,7 @@ pub same_table : SameTableLaw
 same_table d changes units slots t r kept lt first same =
     let k = there (table_kinds d.description) t lt in
     let name = named d t k.0 k.1 in
-    same_lists d changes units slots (table_pid d.description t) r kept (λ s. elim (is_table t (slot_of d.schedule s)) [
+    same_over d changes units slots (table_pid d.description t) r kept (λ s. elim (is_table t (slot_of d.schedule s)) [
       | inl is ↦ inl (own_same d changes units s t is (record { first = first; same = same }))
       | inr other ↦ inr (
         silent d changes units s (table_pid d.description t) (Table t) r name other,

@@ -5,6 +5,9 @@ pub mod Histories
 pub mod TextChanges
 pub mod MuxStates
 pub mod SlotSteps
+pub mod Exchanges
+pub mod LineUps
+pub mod LineUpSteps
 pub mod FramesKept
 pub mod Headline
 pub mod TextLaws

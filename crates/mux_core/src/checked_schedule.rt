@@ -1,6 +1,6 @@
 //! A description with the checked plans that serve it.
 
-ghost use Rattle.std.specs.Prelude.{◌≡◌};
+ghost use Rattle.std.specs.Prelude.{◌≡◌, IfSome, is_none, is_some};
 ghost use Rattle.description_parts.specs.Ranges.{IsInRange};
 ghost use Rattle.slot_plan.specs.Schedule.{slot_of, repeated, single, switched};
 ghost use Rattle.slot_plan.specs.Promised.{Promised};
@@ -74,6 +74,20 @@ impl<A: Allocator> CheckedSchedule<A> {
         match &self.plans {
             CheckedPlans::One(plan) => plan.description(),
             CheckedPlans::Two(switch, _) => switch.first().description(),
+        }
+    }
+
+    /// Returns the plan with its description, if there is no second plan.
+    pub fn plan(&self) -> Option<&CheckedPlan<A>>
+        ensures alone { is_some result ≡ is_none self.now.schedule.following }
+        ensures plan { IfSome result (λ plan. self.now ≡ record {
+          description = plan.now.description;
+          schedule = single plan.now.plan.slots;
+        }) }
+    {
+        match &self.plans {
+            CheckedPlans::One(plan) => Some(plan),
+            CheckedPlans::Two(_, _) => None,
         }
     }
 

@@ -2,6 +2,7 @@
 //!
 //! `specs/Histories` says what each slot carries, from the units that were accepted and the schedule alone,
 //! `specs/TextChanges` how the texts of the tables change in between and `specs/TextLaws` what that leaves as it is,
+//! `specs/LineUps` how another description and its plan take the place of those on air,
 //! `specs/MuxStates` which history a multiplexer represents, `specs/Headline` the promises about the finished bytes,
 //! `specs/MeasuredRuns` what measuring them finds, `specs/DecodedRuns` what a decoder gets of them, in the words of
 //! `specs/Decoder`, and `specs/SlotSteps` one slot and one unit of the state. `specs/WholeJobs` says what a whole job
@@ -22,10 +23,14 @@
 pub mod carry_laws;
 mod carrying;
 mod checked_schedule;
+mod coming;
 mod described_sections;
 mod done;
 mod driving;
+mod exchanges;
 pub mod laws;
+mod line_up;
+mod line_up_parts;
 mod making;
 mod multiplexer;
 mod multiplexing;
@@ -39,6 +44,7 @@ mod texts_in_force;
 pub use carrying::{CarryError, carry};
 pub use changed_texts::TextFault;
 pub use done::{Done, NewError};
+pub use line_up::TakeOverError;
 pub use multiplexer::Mux;
 pub use multiplexing::{MuxError, multiplex, multiplex_as, multiplex_switch, multiplex_switch_as};
 pub use output::{OutputFault, PacketOutput};

@@ -162,8 +162,11 @@ pub(crate) fn is_periods(period: usize, periods: u64) -> bool
     1 <= periods && u128::from(periods) * period as u128 <= u128::from(MAX_SLOTS)
 }
 
-// Returns the declaration of a stream.
-fn parameters_of(description: &Description, stream: &StreamDescription) -> StreamParameters
+/// Returns the declaration of a stream.
+pub(crate) fn parameters_of(
+    description: &Description,
+    stream: &StreamDescription,
+) -> StreamParameters
     ensures { result ≡ parameters_of description.now stream.now }
 {
     StreamParameters {

@@ -259,8 +259,8 @@ impl<A: Allocator> Mux<A> {
         )
     }
 
-    // Returns the moment for which the EIT shows its events, if there is one.
-    fn moment_of_events(&self) -> u64
+    /// Returns the moment for which the EIT shows its events, if there is one.
+    pub(crate) fn moment_of_events(&self) -> u64
         ensures { result ≡ moment_of_events self.now }
     {
         let description = self.schedule.description();
