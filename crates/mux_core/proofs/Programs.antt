@@ -87,11 +87,11 @@ indices_at_ten (e ∷ es) = ap (λ (l : List ℕ). (188 * e.index + 10) ∷ l) (
 
 -- The buffers of tables
 
-pat_named : (d : Scheduled) → slot_pid d.description (Table 0) ≡ Some 0
+pub pat_named : (d : Scheduled) → slot_pid d.description (Table 0) ≡ Some 0
 unfolding slot_pid
 pat_named d = refl
 
-pmt_named : (d : Scheduled) (i : ℕ) (p : DescribedProgram) → slice_get d.description.programs i ≡ Some p →
+pub pmt_named : (d : Scheduled) (i : ℕ) (p : DescribedProgram) → slice_get d.description.programs i ≡ Some p →
     slot_pid d.description (Table (i + 1)) ≡ Some p.pmt_pid
 unfolding slot_pid
 pmt_named d i p is =
