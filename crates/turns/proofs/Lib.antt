@@ -6,3 +6,4 @@ pub mod SameLists
 pub mod LineUpRuns
 pub mod GoneStreams
 pub mod NextTurns
+pub mod TakenOver

@@ -1,6 +1,7 @@
 //! The promises over any number of line-ups. Each function does nothing: its contract is the law.
 
 ghost use Rattle.turns.specs.LineUpRuns.{LineUpsLaw, JoinedLaw, GoneLaw, GoneStreamLaw, GoesOnLaw};
+ghost use Rattle.turns.specs.TakenOver.{FollowsLaw};
 
 /// States that over any number of line-ups, at every moment, the finished bytes keep for all that is on air what they
 /// keep over one: each stream all of it, over every change; each table its sections, by the texts in force in the slot
@@ -24,4 +25,10 @@ pub fn gone()
 /// States that line-ups which follow one another still do so after one more unit, slot or change of texts.
 pub fn goes_on()
     ensures { GoesOnLaw }
+{}
+
+/// States that a line-up which takes the place of the one in force follows it, if no line-up before had a PID that
+/// comes.
+pub fn follows()
+    ensures { FollowsLaw }
 {}

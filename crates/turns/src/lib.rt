@@ -2,7 +2,7 @@
 //! code.
 //!
 //! `specs/Turns` says what each slot carries, and which line-up may follow those before it, `specs/LineUpRuns` what is
-//! promised of the bytes.
+//! promised of the bytes, and `specs/TakenOver` that a line-up which takes over follows.
 //!
 //! - [`laws`]: the promises at every moment, the bytes in parts, what goes, and how a turn goes on.
 #![tactic(auto)]
