@@ -4,3 +4,4 @@ pub mod FaultLines
 pub mod TextWords
 pub mod TextAnswers
 pub mod TextRecords
+pub mod LineUpWords

@@ -9,7 +9,12 @@ use std::fmt::Write;
 
 // Appends a word, a number and a sentence.
 #[tactic(auto, unfolding(crate::specs::TextWords::part_words))]
-fn write_part(name: &str, n: usize, sentence: &str, text: &mut String) -> Result<(), AllocError>
+pub(crate) fn write_part(
+    name: &str,
+    n: usize,
+    sentence: &str,
+    text: &mut String,
+) -> Result<(), AllocError>
     ensures { OnOk result (string_bytes text.new ≡ string_bytes text.old ++ spec.part_words name.now n sentence.now) }
 {
     write!(text, "{name} {n}: {sentence}\n")
