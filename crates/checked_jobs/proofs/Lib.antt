@@ -1,4 +1,3 @@
-pub mod JobReaders
 pub mod LongerJobs
 pub mod UnitLists
 pub mod JobTaking

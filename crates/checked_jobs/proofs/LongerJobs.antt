@@ -15,8 +15,9 @@ use Rattle.slot_plan.specs.Planned.{Planned}
 use Rattle.slot_plan.specs.Readers.{plan_at}
 use Rattle.slot_plan.specs.Text.{plan_text}
 use Rattle.slot_plan.proofs.TextPlans.{plan-complete, plan-sound}
-use Rattle.checked_jobs.specs.Jobs.{BadLine, BadSecondLine, Fails, HasNoPlan, JobFaultView, JobView, SecondFails, described, fault_of, job, job_of, of_parts}
-use Rattle.checked_jobs.specs.Jobs.{first_plan_line, plan_offset, planned, second_fault_of, unless_failed, with_description, with_plan, with_rest, with_second}
+use Rattle.checked_jobs.specs.Jobs.{BadLine, BadSecondLine, Fails, HasNoPlan, JobFaultView, JobView, SecondFails, described, job, job_of, of_parts}
+use Rattle.checked_jobs.specs.Jobs.{second_fault_of, unless_failed, with_description, with_plan, with_rest, with_second}
+use Rattle.job_parts.specs.Parts.{fault_of, first_plan_line, plan_offset, planned}
 use Rattle.checked_jobs.specs.JobFaults.{IsJobAtFront, is_final, plans_view}
 use Rattle.checked_jobs.specs.declared.jobs.JobPlans.{JobPlans}
 use Rattle.checked_jobs.specs.declared.jobs.JobPlans.TheVariants.{One, Two}

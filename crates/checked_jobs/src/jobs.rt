@@ -3,14 +3,14 @@
 ghost use Rattle.std.specs.Prelude.{◌≡◌, ◌⊎◌, Err, Ok, IfOk, IfErr};
 ghost use Rattle.plan_checker.specs.Refusals.{failed};
 ghost use Rattle.checked_jobs.specs.JobFaults.{IsJob, IsJobAtFront};
-ghost use Rattle.checked_jobs.specs.Jobs.{NamesLine, described, fault_of, job_of, planned, second_fault_of};
-ghost use Rattle.checked_jobs.specs.Jobs.{with_plan, with_second};
+ghost use Rattle.checked_jobs.specs.Jobs.{described, job_of, second_fault_of, with_plan, with_second};
+ghost use Rattle.job_parts.specs.Parts.{planned};
 
 use crate::job_fault::{JobFault, JobReadError};
-use crate::job_parts::parts_of;
 use description::Description;
 use description_keys::DescError;
-use plan_checker::{CheckedPlan, Refusal, check};
+use job_parts::{check_plan, parts_of, read_plan};
+use plan_checker::{CheckedPlan, Refusal};
 use slot_plan::{Plan, PlanTextError};
 use std::alloc::Global;
 use switch_checker::{CheckedSwitch, check_switch};
@@ -36,29 +36,6 @@ pub fn read_description(alloc: Global, bytes: &[u8]) -> Result<Description, Desc
     ensures { (result ≡ Err DescError.Memory) ⊎ (result ≡ described bytes.now) }
 {
     changed_texts::read_description(alloc, bytes)
-}
-
-/// Returns the plan at the front of a text, and the bytes after it.
-fn read_plan(alloc: Global, text: &[u8]) -> Result<(Plan, &[u8]), PlanTextError>
-    ensures read { IfOk result (λ read. planned text.entry.now ≡ Ok (read.0, read.1.now)) }
-    ensures refused { IfErr result (NamesLine (planned text.entry.now)) }
-{
-    match Plan::read_text(alloc, text) {
-        Ok((plan, size)) => Ok((plan, &text[size..])),
-        Err(error) => Err(error),
-    }
-}
-
-/// Returns the plan, checked against the description; or the first condition that does not hold.
-fn check_plan(description: Description, plan: Plan) -> Result<CheckedPlan, Refusal>
-    ensures fault { failed result ≡ fault_of description plan }
-    ensures description { IfOk result (λ first. first.description ≡ description) }
-    ensures plan { IfOk result (λ first. first.plan ≡ plan) }
-{
-    match check(description, plan) {
-        Ok(first) => Ok(first),
-        Err((refusal, _, _)) => Err(refusal),
-    }
 }
 
 /// Returns the two plans, checked as first and second; or the first condition that does not hold.

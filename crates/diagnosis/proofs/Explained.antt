@@ -8,8 +8,8 @@ use Rattle.slot_plan.specs.Planned.{Planned}
 use Rattle.slot_plan.specs.PlanTexts.{BeginsWithPlan, Refuses}
 use Rattle.slot_plan.specs.declared.reader.PlanTextError.{PlanTextError}
 use Rattle.slot_plan.specs.declared.reader.PlanTextError.TheVariants as bad_text
-use Rattle.checked_jobs.specs.Jobs.{planned}
-use Rattle.checked_jobs.proofs.JobReaders.{names_line, planned_front}
+use Rattle.job_parts.specs.Parts.{planned}
+use Rattle.job_parts.proofs.PlanReaders.{names_line, planned_front}
 use Rattle.diagnosis.specs.Explained.{bad_line_words, plan_words, served_words, text_lines}
 use Rattle.diagnosis.specs.KeyPlaces.{lines_of}
 use Rattle.diagnosis.specs.UnknownWords.{named_words, unnamed_words, word_words}

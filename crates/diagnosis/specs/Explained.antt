@@ -7,7 +7,8 @@ use Rattle.description_keys.specs.declared.fault.DescFault.{DescFault}
 use Rattle.description_keys.specs.declared.fault.DescFault.TheVariants.{Text, UnknownKey}
 use Rattle.description_keys.specs.declared.fault.DescError.TheVariants.{Refused, Memory}
 use Rattle.slot_plan.specs.Planned.{Planned}
-use Rattle.checked_jobs.specs.Jobs.{described, parts_of, planned}
+use Rattle.checked_jobs.specs.Jobs.{described}
+use Rattle.job_parts.specs.Parts.{parts_of, planned}
 use Rattle.plan_diagnosis.specs.ConditionLines.{condition_lines}
 use Rattle.diagnosis.specs.FaultLines.{fault_line}
 use Rattle.diagnosis.specs.KeyPlaces.{lines_of}

@@ -1,16 +1,18 @@
 //! The explanation of a description, or of a description and a plan for it.
 
 ghost use Rattle.std.specs.Prelude.{◌≡◌, ◌++◌, IfOk, OnOk, Ok, map, option_map, string_bytes};
-ghost use Rattle.checked_jobs.specs.Jobs.{described, planned};
+ghost use Rattle.checked_jobs.specs.Jobs.{described};
+ghost use Rattle.job_parts.specs.Parts.{planned};
 ghost use Rattle.diagnosis.specs.Explained as spec;
 
 use crate::fault_lines::write_fault;
 use crate::key_places::lines_of;
 use crate::toml_note::{TomlNote, note_of, write_note};
 use crate::unknown_words::write_unknown;
-use checked_jobs::{parts_of, read_description};
+use checked_jobs::read_description;
 use description::Description;
 use description_keys::{DescError, DescFault};
+use job_parts::parts_of;
 use plan_diagnosis::{write_conditions, write_reasons};
 use slot_plan::{Plan, PlanTextError};
 use std::alloc::{AllocError, Global};

@@ -4,7 +4,8 @@ use Rattle.std.proofs.Common.{Global, IfOk, String, string_bytes}
 use Rattle.std.proofs.lemmas.Result.{IfOk-weaker}
 use Rattle.std.specs.Prelude.{if◌then◌else◌}
 use Rattle.checked_jobs.specs.JobFaults.{IsJob, job_view, plans_view}
-use Rattle.checked_jobs.specs.Jobs.{JobView, job_of, parts_of}
+use Rattle.checked_jobs.specs.Jobs.{JobView, job_of}
+use Rattle.job_parts.specs.Parts.{parts_of}
 use Rattle.checked_jobs.specs.declared.job_fault.JobFault.{JobFault}
 use Rattle.checked_jobs.specs.declared.job_fault.JobReadError.TheVariants.{Fault as NoJob}
 use Rattle.checked_jobs.specs.declared.jobs.CheckedJob.{CheckedJob}

@@ -6,7 +6,7 @@ use Rattle.description_parts.specs.Described.{Described}
 use Rattle.description_keys.specs.declared.fault.DescError.{DescError}
 use Rattle.description_keys.specs.declared.fault.DescError.TheVariants.{Memory}
 use Rattle.changed_texts.specs.Reading.{description_in}
-use Rattle.checked_jobs.specs.Jobs.{parts_of}
+use Rattle.job_parts.specs.Parts.{parts_of}
 use Rattle.explained_jobs.specs.JobWords.{description_part}
 use Rattle.explained_jobs.specs.TextRecords.{IsTextsRecord, due_at, texts_unit}
 

@@ -8,7 +8,8 @@ use Rattle.mux_core.specs.declared.multiplexing.MuxError.TheVariants.{TooManySlo
 use Rattle.unit_records.specs.declared.reading.UnitFileError.{UnitFileError}
 use Rattle.unit_records.specs.declared.reading.UnitFileError.TheVariants as unread
 use Rattle.checked_jobs.specs.Jobs.{BadDescription, BadLine, BadSecondLine, Fails, HasNoPlan, JobFaultView, JobView, SecondFails}
-use Rattle.checked_jobs.specs.Jobs.{first_plan_line, job_of, parts_of}
+use Rattle.checked_jobs.specs.Jobs.{job_of}
+use Rattle.job_parts.specs.Parts.{first_plan_line, parts_of}
 use Rattle.plan_diagnosis.specs.ConditionLines.{switch_line}
 use Rattle.diagnosis.specs.Explained.{explained}
 use Rattle.diagnosis.specs.TomlNotes.{TomlNoteView}

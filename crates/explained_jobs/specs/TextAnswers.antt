@@ -1,6 +1,6 @@
 -- Whether a description may take the place of the texts of a job on air, in words.
 use Rattle.std.specs.Prelude.{List, ℕ, [], ◌++◌, Option, Some, None, Result, Ok, Err, codes}
-use Rattle.checked_jobs.specs.Jobs.{parts_of}
+use Rattle.job_parts.specs.Parts.{parts_of}
 use Rattle.description_parts.specs.Described.{Described}
 use Rattle.description_keys.specs.declared.fault.DescError.{DescError}
 use Rattle.description_keys.specs.declared.fault.DescError.TheVariants.{Refused, Memory}

@@ -5,7 +5,7 @@ use Rattle.pes_packet.specs.AccessUnits.{AccessUnit}
 use Rattle.pes_packet.specs.Marks.{no_marks}
 use Rattle.description_parts.specs.Described.{Described}
 use Rattle.changed_texts.specs.Reading.{description_in}
-use Rattle.checked_jobs.specs.Jobs.{parts_of}
+use Rattle.job_parts.specs.Parts.{parts_of}
 use Rattle.on_air.specs.Airing.{greatest_lead, settled}
 use Rattle.unit_records.specs.Records.{record_bytes}
 use Rattle.explained_jobs.specs.JobWords.{description_part}

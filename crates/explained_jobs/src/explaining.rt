@@ -3,7 +3,7 @@
 ghost use Rattle.std.specs.Prelude.{◌≡◌, ◌++◌, IfOk, OnOk, Ok, map, string_bytes, true, false};
 ghost use Rattle.diagnosis.specs.Explained.{IsExplained};
 ghost use Rattle.diagnosis.specs.TomlNotes.{TomlNoteView};
-ghost use Rattle.checked_jobs.specs.Jobs.{parts_of};
+ghost use Rattle.job_parts.specs.Parts.{parts_of};
 ghost use Rattle.checked_jobs.specs.MuxJobs.{mux_fault_view, mux_job_of, mux_job_view};
 ghost use Rattle.checked_jobs.specs.Multiplexing.{cause_of};
 ghost use Rattle.explained_jobs.specs.JobWords as spec;
@@ -11,8 +11,9 @@ ghost use Rattle.explained_jobs.specs.JobWords as spec;
 use crate::fault_words::write_fault;
 use crate::unit_words::write_refused;
 use crate::whole_jobs::{description_of, mux_fault, whole_job};
-use checked_jobs::{JobReadError, MuxFault, MuxJob, parts_of, read_job};
+use checked_jobs::{JobReadError, MuxFault, MuxJob, read_job};
 use diagnosis::explain;
+use job_parts::parts_of;
 use mux_core::MuxError;
 use std::alloc::{AllocError, Global};
 

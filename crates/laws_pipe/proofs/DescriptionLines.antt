@@ -36,7 +36,7 @@ use Rattle.job_programs.specs.JobTables.{table_lines, table_part, tables_text}
 use Rattle.stream_jobs.specs.SharedClocks.{sharing}
 use Rattle.stream_jobs.specs.Texts.{description_text, heading_of, program_lines, program_part, program_with, programs_text, stream_lines}
 use Rattle.stream_jobs.specs.Texts.{stream_part, streams_text}
-use Rattle.checked_jobs.specs.Jobs.{first_plan_line}
+use Rattle.job_parts.specs.Parts.{first_plan_line}
 use Rattle.laws_pipe.proofs.PlainLines.{Passes, both_pass, flat_both, flat_if, is_flat, line_passes, none_passes}
 use Rattle.laws_pipe.proofs.PlainNames.{PlainOptions, PlainPart, PlainService, begin_flat, decoded_flat, moment_flat, part_plain, service_plain}
 use Rattle.laws_pipe.proofs.PlainTexts.{decimal_flat, hex_flat, string_flat}

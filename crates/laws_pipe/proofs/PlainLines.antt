@@ -4,7 +4,7 @@ use Rattle.std.proofs.Common.{inl, inr, ne_eqb, if◌then◌else◌, Some}
 use Rattle.std.specs.Prelude.{nat_eq}
 use Rattle.std.specs.List.{list_all, starts_with}
 use Rattle.std.proofs.lemmas.Bool.{and_parts, and_from, cases_Bool, eqb-true, false≢true, not_from_false}
-use Rattle.checked_jobs.specs.Jobs.{first_plan_line, plan_offset}
+use Rattle.job_parts.specs.Parts.{first_plan_line, plan_offset}
 
 -- 1. Bytes within a line
 

@@ -34,8 +34,8 @@ use Rattle.slot_plan.proofs.NamedSlots.{named_law}
 use Rattle.slot_plan.proofs.TextPlans.{plan-complete}
 use Rattle.stream_jobs.specs.Rates.{IsText}
 use Rattle.es_feed.specs.Records.{records_of, written}
-use Rattle.checked_jobs.specs.Jobs.{Fails, described, fault_of, job, job_of, of_parts, parts_of, plan_offset, planned, unless_failed, with_description}
-use Rattle.checked_jobs.specs.Jobs.{with_plan}
+use Rattle.checked_jobs.specs.Jobs.{Fails, described, job, job_of, of_parts, unless_failed, with_description, with_plan}
+use Rattle.job_parts.specs.Parts.{fault_of, parts_of, plan_offset, planned}
 use Rattle.checked_jobs.specs.MuxJobs.{mux_job_of, served, with_records, with_units}
 use Rattle.checked_jobs.specs.UnitList.{units_in}
 use Rattle.laws_pipe.proofs.PlainLines.{Passes}

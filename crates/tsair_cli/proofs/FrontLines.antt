@@ -5,7 +5,7 @@ use Rattle.std.specs.Prelude.{◌&&◌, IfSome, codes, nat_eq, option_map}
 use Rattle.std.specs.List.{list_all, starts_with}
 use Rattle.std.proofs.lemmas.Bool.{and_parts, eqb-true, false≢true, leb-false}
 use Rattle.std.proofs.Math.Seq.{drop-append_seam, take-length}
-use Rattle.checked_jobs.specs.Jobs.{first_plan_line, parts_of, plan_offset}
+use Rattle.job_parts.specs.Parts.{first_plan_line, parts_of, plan_offset}
 use Rattle.tsair_cli.specs.Fronts.{IsLined, end_lines, ended_after, ended_plans, ends_a_line, have_ended, have_ends, max_front, plan_count, plans_end}
 
 -- 1. Whole lines

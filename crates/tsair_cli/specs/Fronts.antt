@@ -7,7 +7,8 @@ use Rattle.devices.specs.Devices.{Device, HasFailed, IsClean}
 use Rattle.devices.specs.Outcomes.{Outcome, reported, halted}
 use Rattle.devices.specs.declared.halt.Halt.{Halt}
 use Rattle.devices.specs.declared.halt.Halt.TheVariants.{Read, Write, Memory}
-use Rattle.checked_jobs.specs.Jobs.{JobFaultView, JobView, job_of, parts_of}
+use Rattle.checked_jobs.specs.Jobs.{JobFaultView, JobView, job_of}
+use Rattle.job_parts.specs.Parts.{parts_of}
 use Rattle.checked_jobs.specs.JobFaults.{plans_view}
 use Rattle.checked_jobs.specs.declared.jobs.JobPlans.{JobPlans}
 use Rattle.explained_jobs.specs.FaultLines.{IsFaultLine}

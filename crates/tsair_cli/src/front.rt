@@ -5,10 +5,11 @@ ghost use Rattle.devices.specs.Devices.{reads, writes};
 ghost use Rattle.devices.specs.Lines.{Reports};
 ghost use Rattle.tsair_cli.specs.Fronts as spec;
 
-use checked_jobs::{CheckedJob, JobPlans, JobReadError, parts_of, read_job};
+use checked_jobs::{CheckedJob, JobPlans, JobReadError, read_job};
 use counted_io::{Sink, Source, read_part};
 use devices::{Halt, report_halt, report_text};
 use explained_jobs::fault_line;
+use job_parts::parts_of;
 use std::alloc::Global;
 
 /// The maximum number of bytes of a front: the longest plan's text has half a million.

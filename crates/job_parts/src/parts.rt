@@ -1,6 +1,6 @@
 //! Where a job's description ends and its plans begin.
 ghost use Rattle.std.specs.Prelude.{◌≡◌, ◌≤◌, true, IfSome, length, option_map};
-ghost use Rattle.checked_jobs.specs.Jobs.{parts_of, plan_offset};
+ghost use Rattle.job_parts.specs.Parts.{parts_of, plan_offset};
 
 /// The first line of a plan's text.
 const FIRST_PLAN_LINE: &[u8] = b"tsplan 1\n";

@@ -7,7 +7,7 @@ use Rattle.slot_plan.specs.declared.reader.PlanTextError.TheVariants as bad_text
 use Rattle.slot_plan.specs.Readers.{plan_at}
 use Rattle.slot_plan.proofs.TextPlans.{plan-complete}
 use Rattle.std.proofs.lemmas.List.{take_rest}
-use Rattle.checked_jobs.specs.Jobs.{NamesLine, planned}
+use Rattle.job_parts.specs.Parts.{NamesLine, planned}
 
 pub planned_front : (text : List ℕ) (plan : Planned) (size : ℕ) → BeginsWithPlan text plan size → planned text ≡ Ok (plan, drop size text)
 unfolding planned

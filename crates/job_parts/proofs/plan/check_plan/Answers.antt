@@ -1,5 +1,5 @@
-use Rattle.checked_jobs.specs.Jobs.{fault_of}
-use Rattle.checked_jobs.proofs.jobs.check_plan.Goals as goal
+use Rattle.job_parts.specs.Parts.{fault_of}
+use Rattle.job_parts.proofs.plan.check_plan.Goals as goal
 
 pub returns-in-Ok-clause-fault : goal.returns-in-Ok-clause-fault
 unfolding fault_of

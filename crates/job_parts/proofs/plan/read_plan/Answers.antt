@@ -1,5 +1,5 @@
-use Rattle.checked_jobs.proofs.JobReaders.{names_line, planned_rest}
-use Rattle.checked_jobs.proofs.jobs.read_plan.Goals as goal
+use Rattle.job_parts.proofs.PlanReaders.{names_line, planned_rest}
+use Rattle.job_parts.proofs.plan.read_plan.Goals as goal
 
 pub returns-in-Ok-clause-read : goal.returns-in-Ok-clause-read
 returns-in-Ok-clause-read c = planned_rest c.args.text.now c.in-Ok.plan c.in-Ok.size c.in-Ok.ensures.read
