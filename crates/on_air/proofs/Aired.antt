@@ -1,44 +1,45 @@
 -- The state of a run after a record, and after the end
-use Rattle.std.proofs.Common.{◌≡◌, ℕ, ◌+◌, max, Bool, true, false, cond, List, [], Option, Some, None, Result, Ok, refl, sym, ap, ◌∙◌, subst}
-use Rattle.std.specs.Prelude.{IfErr, OnOk, is_none}
+use Rattle.std.proofs.Common.{◌≡◌, ℕ, ◌+◌, max, Bool, true, false, cond, List, [], Option, Some, None, Result, Ok, refl, sym, ap, ◌∙◌, subst, arith}
+use Rattle.std.specs.Prelude.{◌&&◌, IfErr, OnOk, is_none, not}
 use Rattle.mux_core.specs.declared.output.OutputFault.{OutputFault}
 use Rattle.description_parts.specs.Described.{Described}
 use Rattle.description_parts.specs.Ranges.{IsInRange}
 use Rattle.description_keys.specs.declared.fault.DescError.{DescError}
 use Rattle.changed_texts.specs.Reading.{description_in}
 use Rattle.pes_packet.specs.AccessUnits.{AccessUnit}
-use Rattle.pes_packet.specs.Units.{units_of}
 use Rattle.mux_core.specs.Buffer.{waiting_of, Buffered, IsOutput, Took}
 use Rattle.mux_core.proofs.Written.{holds_none}
 use Rattle.mux_core.specs.Scheduled.{Scheduled}
 use Rattle.mux_core.specs.Headline.{HeadlineOver, UnitsKept}
-use Rattle.mux_core.specs.Histories.{bytes_of, empty_history, TextsSoFar, unchanged}
+use Rattle.mux_core.specs.Histories.{History, bytes_of, empty_history, with_change}
 use Rattle.mux_core.specs.MuxStates.{MuxState}
-use Rattle.mux_core.specs.WholeJobs.{run_output, output_of}
+use Rattle.mux_core.specs.WholeJobs.{run_output}
 use Rattle.mux_core.proofs.Accepted.{units_kept}
 use Rattle.mux_core.proofs.Whole.{headline_over}
 use Rattle.on_air.specs.declared.leap.Leap.{Leap}
 use Rattle.on_air.specs.declared.options.Terms.{Terms}
 use Rattle.on_air.specs.declared.refusals.AirRefusal.{AirRefusal}
-use Rattle.on_air.specs.declared.refusals.AirRefusal.TheVariants.{Feed, Ahead, Followed, Texts}
+use Rattle.on_air.specs.declared.refusals.AirRefusal.TheVariants.{Feed, Ahead, Followed, Texts, LineUp}
 use Rattle.on_air.specs.declared.refusals.FarRecord.{FarRecord}
 use Rattle.on_air.specs.declared.refusals.RefusedUnit.{RefusedUnit}
+use Rattle.on_air.specs.declared.refusals.LineUpRefusal.{LineUpRefusal}
 use Rattle.on_air.specs.declared.refusals.TextsRefusal.{TextsRefusal}
-use Rattle.on_air.specs.Airing.{Run, Air, silence, history_by, job_of, air_output, lead_of, limit_of, settled, settled_at, last_of, last_at, on_to, air_cause}
-use Rattle.on_air.specs.Airing.{accepted_by, brings_texts, far_record, greatest_by, is_far_from, caught_up, changed, judged, judged_by, leap_by, leap_left}
+use Rattle.on_air.specs.Airing.{Run, Air, silence, content_with, history_by, job_of, air_output, lead_of, limit_of, settled, settled_at, last_of, last_at, on_to}
+use Rattle.on_air.specs.Airing.{accepted_by, air_cause, brings_line_up, brings_texts, changes_run, far_record, greatest_by, is_far_from, caught_up, changed, judged, judged_by, leap_by, leap_left}
 use Rattle.on_air.specs.Airing.{slots_followed, taken, with_count, with_read, with_texts}
 use Rattle.on_air.specs.Leaps.{is_far, is_followed, leap_with, no_leap}
+use Rattle.on_air.specs.LineUps.{has_plan}
 use Rattle.on_air.specs.AirStates.{AirState, Carries, with_slots, WroteOn, Promises, Admits, IsOnAir, run_with}
 use Rattle.on_air.specs.Hearing.{Fails}
 
--- If a multiplexer carries these units, the bytes of any number of slots keep every promise, whatever texts change.
-pub keeps : (run : Run) (units : List (ℕ × AccessUnit)) (so_far changes : TextsSoFar) (n slots : ℕ) (m : MuxState) → Promises run.scheduled →
-    Carries run (history_by units n so_far) m →
-    HeadlineOver run.scheduled changes (λ k. units_of k units) slots (bytes_of run.scheduled (history_by units slots changes))
-keeps run units so_far changes n slots m promises c =
-    headline_over run.scheduled changes (λ k. units_of k units) slots promises.ranges promises.promised
-    (subst (λ (d : Scheduled). UnitsKept d (λ k. units_of k units)) c.scheduled
-    (units_kept (history_by units n so_far) m (subst (λ (d : Scheduled). IsInRange d.description) (sym c.scheduled) promises.ranges) c.represents))
+-- If a multiplexer carries a history, the bytes of its units keep every promise in any number of slots, whatever texts change.
+pub keeps : (run : Run) (h later : History) (m : MuxState) → Promises run.scheduled → Carries run h m → later.units ≡ h.units →
+    HeadlineOver run.scheduled later.changes later.units later.slots (bytes_of run.scheduled later)
+keeps run h later m promises c same =
+    headline_over run.scheduled later.changes later.units later.slots promises.ranges promises.promised
+    (subst (λ (units : ℕ → List AccessUnit). UnitsKept run.scheduled units) (sym same)
+    (subst (λ (d : Scheduled). UnitsKept d h.units) c.scheduled
+    (units_kept h m (subst (λ (d : Scheduled). IsInRange d.description) (sym c.scheduled) promises.ranges) c.represents)))
 
 -- Two states that differ only in the fields that a record may change
 pub record Moves (old new : AirState) : Type 0 where
@@ -46,6 +47,7 @@ pub record Moves (old new : AirState) : Type 0 where
   pub rate : new.rate ≡ old.rate
   pub lead : new.lead ≡ old.lead
   pub one_plan : new.one_plan ≡ old.one_plan
+  pub gone : new.gone ≡ old.gone
 
 -- The state after a record is refused
 pub refused_by : (run : Run) (a : Air) (entry : ℕ × AccessUnit) (cause : AirRefusal) (start now : Option (List ℕ)) (old new : AirState) →
@@ -65,6 +67,8 @@ refused_by run a entry cause start now old new h moves packets greatest leap rec
   leap = leap;
   records = records ∙ ap (λ (n : ℕ). n + 1) h.records;
   one_plan = moves.one_plan ∙ h.one_plan;
+  gone = moves.gone ∙ h.gone;
+  begun = h.begun;
   output = subst (λ (p : Buffered). IsOutput start now p (air_output run a)) (sym packets) h.output;
   headline = h.headline;
 }
@@ -136,6 +140,7 @@ passed_last run a entry packet from to start now old new h moves far many p f t 
 -- The run after a record is accepted, before the slots that the record settles are written
 pub admitted : Air → ℕ × AccessUnit → Air
 admitted a entry = record {
+  before = a.before;
   accepted = accepted_by a entry None;
   slots = a.slots;
   greatest = max a.greatest entry.1.dts;
@@ -162,18 +167,28 @@ admitted_on run a entry start now old new h moves packets greatest leap records 
   leap = leap;
   records = records ∙ ap (λ (n : ℕ). n + 1) h.records;
   one_plan = moves.one_plan ∙ h.one_plan;
+  gone = moves.gone ∙ h.gone;
+  begun = h.begun;
   output = subst (λ (l : List ℕ). IsOutput start now new.packets l) (sym admits.before)
       (subst (λ (p : Buffered). IsOutput start now p (air_output run a)) (sym packets) h.output);
-  headline = keeps run (accepted_by a entry None) a.changes a.changes a.slots a.slots new.mux h.promises admits.mux;
+  headline = keeps run (history_by a.before (accepted_by a entry None) a.slots a.changes) (history_by a.before (accepted_by a entry None) a.slots a.changes)
+      new.mux h.promises admits.mux refl;
 }
 
+-- A record that changes nothing in the run brings no texts and no line-up.
+pub no_texts : (run : Run) (entry : ℕ × AccessUnit) → changes_run run entry ≡ false → brings_texts run entry ≡ false
+no_texts run entry none = ap (λ (b : Bool). b && not (has_plan entry.1.bytes)) none
+
+pub no_line_up : (run : Run) (entry : ℕ × AccessUnit) → changes_run run entry ≡ false → brings_line_up run entry ≡ false
+no_line_up run entry none = ap (λ (b : Bool). b && has_plan entry.1.bytes) none
+
 -- The progress after a unit or a tick is taken, and after texts are
-pub judged_unit : (run : Run) (a : Air) (entry : ℕ × AccessUnit) → air_cause run a entry ≡ None → brings_texts run entry ≡ false →
+pub judged_unit : (run : Run) (a : Air) (entry : ℕ × AccessUnit) → air_cause run a entry ≡ None → changes_run run entry ≡ false →
     judged run a entry ≡ taken run a entry (accepted_by a entry None) a.changes
 unfolding judged_by
 judged_unit run a entry none unit =
     ap (λ (o : Option AirRefusal). judged_by run a entry o) none
-    ∙ ap (λ (b : Bool). cond b (changed run a entry) (taken run a entry (accepted_by a entry None) a.changes)) unit
+    ∙ ap (λ (b : Bool). cond b (changed run a entry) (taken run a entry (accepted_by a entry None) a.changes)) (no_texts run entry unit)
 
 pub judged_texts : (run : Run) (a : Air) (entry : ℕ × AccessUnit) (texts : Described) → air_cause run a entry ≡ None → brings_texts run entry ≡ true →
     description_in entry.1.bytes ≡ Ok texts → judged run a entry ≡ with_texts run (taken run a entry a.accepted a.changes) texts
@@ -185,9 +200,9 @@ judged_texts run a entry texts none brings is =
 
 -- The state after the settled slots are written
 pub taken_on : (run : Run) (a : Air) (entry : ℕ × AccessUnit) (due : ℕ) (start later : Option (List ℕ)) (m : MuxState) (new : AirState) →
-    Admits run a entry None m → brings_texts run entry ≡ false → due ≡ entry.1.dts →
+    Admits run a entry None m → changes_run run entry ≡ false → due ≡ entry.1.dts →
     IsOnAir run (with_count (admitted a entry) (on_to (admitted a entry).slots (settled_at run due))) start later new →
-    (air_cause run a entry ≡ None) × ((brings_texts run entry ≡ false) × IsOnAir run (judged run a entry) start later new)
+    (air_cause run a entry ≡ None) × ((changes_run run entry ≡ false) × IsOnAir run (judged run a entry) start later new)
 unfolding admitted
 taken_on run a entry due start later m new admits unit is on = (
   sym admits.cause,
@@ -200,7 +215,7 @@ taken_on run a entry due start later m new admits unit is on = (
 
 -- The writer fails while the settled slots are written.
 pub fails_on : (run : Run) (a : Air) (entry : ℕ × AccessUnit) (due sent : ℕ) (start later : Option (List ℕ)) (m : MuxState) → Admits run a entry None m →
-    brings_texts run entry ≡ false → due ≡ entry.1.dts →
+    changes_run run entry ≡ false → due ≡ entry.1.dts →
     Fails run (with_count (admitted a entry) (on_to (admitted a entry).slots (settled_at run due))) start later sent →
     (air_cause run a entry ≡ None) × Fails run (judged run a entry) start later sent
 unfolding admitted
@@ -225,6 +240,8 @@ flushed run a start now later old new h moves mux hex greatest leap records outp
   leap = leap ∙ h.leap;
   records = records ∙ h.records;
   one_plan = moves.one_plan ∙ h.one_plan;
+  gone = moves.gone ∙ h.gone;
+  begun = h.begun;
   output = output;
   headline = h.headline;
 }
@@ -237,16 +254,17 @@ not_flushed run a start now later sent old h took = record { took = took; headli
 
 pub end_output : (run : Run) (a : Air) (start now : Option (List ℕ)) (old : AirState) (packets : Buffered) → IsOnAir run a start now old →
     packets ≡ old.packets →
-    IsOutput start now packets (output_of packets.hex run.scheduled (job_of a))
+    IsOutput start now packets (run_output packets.hex (content_with run a.before a.accepted a.changes) 0 a.slots)
 end_output run a start now old packets h same =
-    subst (λ (p : Buffered). IsOutput start now p (output_of p.hex run.scheduled (job_of a))) (sym same)
-    (subst (λ (b : Bool). IsOutput start now old.packets (output_of b run.scheduled (job_of a))) (sym h.hex) h.output)
+    let content = content_with run a.before a.accepted a.changes in
+    subst (λ (p : Buffered). IsOutput start now p (run_output p.hex content 0 a.slots)) (sym same)
+    (subst (λ (b : Bool). IsOutput start now old.packets (run_output b content 0 a.slots)) (sym h.hex) h.output)
 
 -- The state after all slots before `target` are written
 pub counted_on : (run : Run) (a : Air) (target : ℕ) (hex : Bool) (start now later : Option (List ℕ)) (old new : AirState) → IsOnAir run a start now old →
     Moves old new →
     hex ≡ old.packets.hex → new.greatest ≡ old.greatest → new.leap ≡ old.leap → new.records ≡ old.records →
-    WroteOn run (with_slots (job_of a) (on_to a.slots target)) hex start later new.mux new.packets →
+    WroteOn run (with_slots (job_of a) (on_to a.slots target)) (content_with run a.before a.accepted a.changes) hex start later new.mux new.packets →
     IsOnAir run (with_count a (on_to a.slots target)) start later new
 counted_on run a target hex start now later old new h moves like greatest leap records wrote = record {
   mux = wrote.mux;
@@ -259,17 +277,19 @@ counted_on run a target hex start now later old new h moves like greatest leap r
   leap = leap ∙ h.leap;
   records = records ∙ h.records;
   one_plan = moves.one_plan ∙ h.one_plan;
-  output = subst (λ (b : Bool). IsOutput start later new.packets (output_of b run.scheduled (job_of (with_count a (on_to a.slots target))))) (like ∙ h.hex)
-      wrote.output;
-  headline = keeps run a.accepted a.changes a.changes a.slots (on_to a.slots target) old.mux h.promises h.mux;
+  gone = moves.gone ∙ h.gone;
+  begun = omega (arith, h.begun);
+  output = subst (λ (b : Bool). IsOutput start later new.packets (run_output b (content_with run a.before a.accepted a.changes) 0 (on_to a.slots target)))
+      (like ∙ h.hex) wrote.output;
+  headline = keeps run (job_of a) (job_of (with_count a (on_to a.slots target))) old.mux h.promises h.mux refl;
 }
 
 pub count_fails : (run : Run) (a : Air) (target sent : ℕ) (hex : Bool) (start now later : Option (List ℕ)) (old : AirState) → IsOnAir run a start now old →
-    hex ≡ old.packets.hex → Took start later sent (output_of hex run.scheduled (with_slots (job_of a) (on_to a.slots target))) →
+    hex ≡ old.packets.hex → Took start later sent (run_output hex (content_with run a.before a.accepted a.changes) 0 (on_to a.slots target)) →
     Fails run (with_count a (on_to a.slots target)) start later sent
 count_fails run a target sent hex start now later old h like took = record {
-  took = subst (λ (b : Bool). Took start later sent (output_of b run.scheduled (job_of (with_count a (on_to a.slots target))))) (like ∙ h.hex) took;
-  headline = keeps run a.accepted a.changes a.changes a.slots (on_to a.slots target) old.mux h.promises h.mux;
+  took = subst (λ (b : Bool). Took start later sent (run_output b (content_with run a.before a.accepted a.changes) 0 (on_to a.slots target))) (like ∙ h.hex) took;
+  headline = keeps run (job_of a) (job_of (with_count a (on_to a.slots target))) old.mux h.promises h.mux refl;
 }
 
 -- The same by the number of slots that the caller asked for
@@ -318,6 +338,12 @@ pub stays_texts : (run : Run) (a : Air) (refusal : AirRefusal) (cause : TextsRef
 unfolding slots_followed
 stays_texts run a refusal cause start now s is on = subst (λ (r : AirRefusal). IsOnAir run (caught_up run a (Some r)) start now s) (sym is) on
 
+pub stays_line_up : (run : Run) (a : Air) (refusal : AirRefusal) (cause : LineUpRefusal) (start now : Option (List ℕ)) (s : AirState) →
+    refusal ≡ LineUp cause → IsOnAir run a start now s →
+    IsOnAir run (caught_up run a (Some refusal)) start now s
+unfolding slots_followed
+stays_line_up run a refusal cause start now s is on = subst (λ (r : AirRefusal). IsOnAir run (caught_up run a (Some r)) start now s) (sym is) on
+
 -- ---- The numbers that the calls count with
 
 pub last_same : (run : Run) (a : Air) (start now : Option (List ℕ)) (old : AirState) (rate greatest : ℕ) (terms : Terms) → IsOnAir run a start now old →
@@ -354,10 +380,10 @@ pub begins : (d : Scheduled) (terms : Terms) (hex : Bool) (start : Option (List 
     Promises d →
     waiting_of s.packets ≡ [] → s.packets.sent ≡ 0 → s.packets.hex ≡ hex → s.terms ≡ terms → s.rate ≡ d.description.rate →
     s.lead ≡ lead_of (run_with d terms hex) →
-    s.greatest ≡ 0 → s.leap ≡ no_leap → s.records ≡ 0 → s.one_plan ≡ is_none d.schedule.following →
+    s.greatest ≡ 0 → s.leap ≡ no_leap → s.records ≡ 0 → s.one_plan ≡ is_none d.schedule.following → s.gone ≡ [] →
     IsOnAir (run_with d terms hex) silence start start s
 unfolding run_output
-begins d terms hex start s carries promises none unsent same t r l g leap n one = record {
+begins d terms hex start s carries promises none unsent same t r l g leap n one gone = record {
   mux = carries;
   promises = promises;
   terms = t;
@@ -368,6 +394,8 @@ begins d terms hex start s carries promises none unsent same t r l g leap n one 
   leap = leap;
   records = n;
   one_plan = one;
+  gone = gone;
+  begun = omega arith;
   output = holds_none start s.packets none unsent;
-  headline = keeps (run_with d terms hex) [] unchanged unchanged 0 0 s.mux promises carries;
+  headline = keeps (run_with d terms hex) empty_history empty_history s.mux promises carries refl;
 }

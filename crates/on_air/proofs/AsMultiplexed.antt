@@ -25,9 +25,12 @@ use Rattle.mux_core.specs.WholeJobs.{job_history, output_of, or_cause, unit_refu
 use Rattle.mux_core.specs.declared.multiplexing.MuxError.{MuxError}
 use Rattle.mux_core.proofs.FedUnits.{accepted_on_air}
 use Rattle.on_air.specs.declared.refusals.AirRefusal.{AirRefusal}
-use Rattle.on_air.specs.Airing.{Run, Air, silence, lead_of, settled_at, limit_of, last_by, last_at, on_to, is_tick, air_cause, accepted_by, caught_up}
-use Rattle.on_air.specs.Airing.{brings_texts, changed, history_by, judged_by, slots_followed, taken, with_record, heard, ended}
+use Rattle.on_air.specs.Airing.{Run, Air, Before, silence, air_output, lead_of, nothing, settled_at, limit_of, last_by, last_at, on_to, is_tick, air_cause, accepted_by}
+use Rattle.on_air.specs.Airing.{brings_texts, caught_up, changed, changes_run, ended, judged_by, output_with, slots_followed, taken}
+use Rattle.on_air.specs.Courses.{Course, heard, with_record}
 use Rattle.on_air.specs.Laws.{with_entry, records_of, greatest_of, AiredAsMultiplexed}
+use Rattle.on_air.proofs.Aired.{no_texts}
+use Rattle.on_air.proofs.Courses.{known_alone}
 
 -- ---- Slots of releases
 
@@ -127,6 +130,7 @@ greatest_more units entry = fold-append (λ greatest e. max greatest e.1.dts) 0 
 
 -- All these units were accepted, and the slots that they settle are written.
 pub record Taken (run : Run) (a : Air) (units : List (ℕ × AccessUnit)) : Type 0 where
+  pub before : a.before ≡ nothing
   pub accepted : a.accepted ≡ units
   pub greatest : a.greatest ≡ greatest_of units
   pub slots : a.slots ≡ settled_at run (greatest_of units)
@@ -134,6 +138,7 @@ pub record Taken (run : Run) (a : Air) (units : List (ℕ × AccessUnit)) : Type
 
 pub none_taken : (run : Run) → Taken run silence []
 none_taken run = record {
+  before = refl;
   accepted = refl;
   greatest = refl;
   slots =
@@ -143,11 +148,12 @@ none_taken run = record {
 }
 
 pub taken_more : (run : Run) (a : Air) (units : List (ℕ × AccessUnit)) (entry : ℕ × AccessUnit) → Taken run a units → is_tick entry ≡ false →
-    brings_texts run entry ≡ false → Taken run (caught_up run (judged_by run a entry None) None) (units ++ (entry ∷ []))
+    changes_run run entry ≡ false → Taken run (caught_up run (judged_by run a entry None) None) (units ++ (entry ∷ []))
 unfolding judged_by accepted_by slots_followed
 taken_more run a units entry so tick alone =
     subst (λ (b : Bool). Taken run (caught_up run (cond b (changed run a entry) (taken run a entry (accepted_by a entry None) a.changes)) None)
-    (units ++ (entry ∷ []))) (sym alone) (record {
+    (units ++ (entry ∷ []))) (sym (no_texts run entry alone)) (record {
+      before = so.before;
       accepted = rw tick (ap (λ (l : List (ℕ × AccessUnit)). l ++ (entry ∷ [])) so.accepted);
       greatest = ap (λ (g : ℕ). max g entry.1.dts) so.greatest ∙ sym (greatest_more units entry);
       slots = ap (λ (n : ℕ). on_to n (settled_at run entry.1.dts)) so.slots ∙ more_settled run (greatest_of units) entry.1.dts
@@ -163,9 +169,9 @@ some_bytes d other units entry none =
     let own = own_facts _ _ _ entry.1 (or_none _ _ found.cause).0 in
     no_tick entry own.some
 
--- It has a stream, so it brings no texts.
+-- It has a stream, so it brings no texts and no line-up.
 pub own_stream_alone : (run : Run) (other : Room) (units : List (ℕ × AccessUnit)) (entry : ℕ × AccessUnit) → cause_after run.scheduled other units entry ≡ None →
-    brings_texts run entry ≡ false
+    changes_run run entry ≡ false
 own_stream_alone run other units entry none =
     let found = stream_of run.scheduled other units entry (slice_get run.scheduled.description.streams entry.0) none in
     rw found.is refl
@@ -174,35 +180,44 @@ not_empty : {V : Type 0} (xs : List V) (x : V) → xs ++ (x ∷ []) ≡ [] → �
 not_empty [] x e = cc
 not_empty (y ∷ xs) x e = cc
 
-none_added : (run : Run) (a : Air) (entry : ℕ × AccessUnit) → brings_texts run entry ≡ false → (judged_by run a entry None).refused ≡ a.refused
+none_added : (run : Run) (a : Air) (entry : ℕ × AccessUnit) → changes_run run entry ≡ false → (judged_by run a entry None).refused ≡ a.refused
 unfolding judged_by
-none_added run a entry alone = ap (λ (b : Bool). (cond b (changed run a entry) (taken run a entry (accepted_by a entry None) a.changes)).refused) alone
+none_added run a entry alone =
+    ap (λ (b : Bool). (cond b (changed run a entry) (taken run a entry (accepted_by a entry None) a.changes)).refused) (no_texts run entry alone)
 
 -- A refusal remains in the list of refusals.
 taken_by : (run : Run) (a : Air) (units : List (ℕ × AccessUnit)) (entry : ℕ × AccessUnit) (cause : Option AirRefusal) → (a.refused ≡ [] → Taken run a units) →
-    is_tick entry ≡ false → brings_texts run entry ≡ false → (judged_by run a entry cause).refused ≡ [] → Taken run (caught_up run (judged_by run a entry cause) cause) (units ++ (entry ∷ []))
+    is_tick entry ≡ false → changes_run run entry ≡ false → (judged_by run a entry cause).refused ≡ [] → Taken run (caught_up run (judged_by run a entry cause) cause) (units ++ (entry ∷ []))
 unfolding judged_by
 taken_by run a units entry None so tick alone none = taken_more run a units entry (so (sym (none_added run a entry alone) ∙ none)) tick alone
 taken_by run a units entry (Some cause) so tick alone none = absurd (not_empty a.refused (a.records, cause) none)
 
-taken_with : (run : Run) (a : Air) (other : Room) (units : List (ℕ × AccessUnit)) (found : Result (Option (ℕ × AccessUnit)) UnitFileError) →
-    (first_refused run.scheduled other [] units ≡ None → a.refused ≡ [] → Taken run a units) →
-    first_refused run.scheduled other [] (with_entry found units) ≡ None → (with_record run found a).refused ≡ [] →
-    Taken run (with_record run found a) (with_entry found units)
-unfolding with_record with_entry
-taken_with run a other units (Err fault) so job none = so job none
-taken_with run a other units (Ok None) so job none = so job none
-taken_with run a other units (Ok (Some entry)) so job none =
-    let last = last_taken run.scheduled other [] units entry job in
-    taken_by run a units entry (air_cause run a entry) (so last.0) (some_bytes run.scheduled other units entry last.1)
-    (own_stream_alone run other units entry last.1) none
+-- The run is the one that began, and these units were taken if no record was refused.
+record TakenIn (run : Run) (c : Course) (units : List (ℕ × AccessUnit)) : Type 0 where
+  is : c.run ≡ run
+  taken : c.air.refused ≡ [] → Taken run c.air units
 
-all_taken : (run : Run) (other : Room) (n : ℕ) (xs : List ℕ) → first_refused run.scheduled other [] (records_of n xs) ≡ None → (heard run n xs).refused ≡ [] →
-    Taken run (heard run n xs) (records_of n xs)
+taken_with : (run : Run) (c : Course) (other : Room) (units : List (ℕ × AccessUnit)) (found : Result (Option (ℕ × AccessUnit)) UnitFileError) →
+    (first_refused run.scheduled other [] units ≡ None → TakenIn run c units) →
+    first_refused run.scheduled other [] (with_entry found units) ≡ None → TakenIn run (with_record found c) (with_entry found units)
+unfolding with_record with_entry
+taken_with run c other units (Err fault) so job = so job
+taken_with run c other units (Ok None) so job = so job
+taken_with run c other units (Ok (Some entry)) so job =
+    let last = last_taken run.scheduled other [] units entry job in
+    let before = so last.0 in
+    let alone = own_stream_alone run other units entry last.1 in
+    subst (λ (d : Course). TakenIn run d (units ++ (entry ∷ []))) (sym (known_alone run c entry before.is alone)) (record {
+      is = refl;
+      taken = λ none. taken_by run c.air units entry (air_cause run c.air entry) before.taken (some_bytes run.scheduled other units entry last.1) alone none;
+    })
+
+all_taken : (run : Run) (other : Room) (n : ℕ) (xs : List ℕ) → first_refused run.scheduled other [] (records_of n xs) ≡ None →
+    TakenIn run (heard run n xs) (records_of n xs)
 unfolding heard records_of
-all_taken run other zero xs job none = none_taken run
-all_taken run other (suc n) xs job none =
-    taken_with run (heard run n xs) other (records_of n xs) (record_at (after_records n xs)) (all_taken run other n xs) job none
+all_taken run other zero xs job = record { is = refl; taken = λ none. none_taken run }
+all_taken run other (suc n) xs job =
+    taken_with run (heard run n xs) other (records_of n xs) (record_at (after_records n xs)) (all_taken run other n xs) job
 
 -- ---- The output
 
@@ -216,11 +231,15 @@ no_later run g limit (Some slots) = omega arith
 
 pub aired_as_multiplexed : AiredAsMultiplexed
 aired_as_multiplexed run other n xs job none =
-    let so = all_taken run other n xs job none in
+    let all = all_taken run other n xs job in
+    let a = (heard run n xs).air in
+    let so = all.taken none in
     let last = ap (λ (g : ℕ). last_at run g) so.greatest in
     let later = no_later run (greatest_of (records_of n xs)) (limit_of run.terms) run.terms.slots in
-    let slots : on_to (heard run n xs).slots (last_at run (heard run n xs).greatest) ≡ last_at run (greatest_of (records_of n xs)) =
+    let slots : on_to (heard run n xs).air.slots (last_at run (heard run n xs).air.greatest) ≡ last_at run (greatest_of (records_of n xs)) =
     omega (arith, last, later, so.slots) in
-    ap (λ (cs : TextsSoFar). output_of run.hex run.scheduled (history_by (heard run n xs).accepted (ended run (heard run n xs)).slots cs)) so.changes
-    ∙ ap (λ (us : List (ℕ × AccessUnit)). output_of run.hex run.scheduled (job_history us (ended run (heard run n xs)).slots)) so.accepted
+    ap (λ (r : Run). air_output r (ended r a)) all.is
+    ∙ ap (λ (b : Before). output_with run b a.accepted (ended run a).slots a.changes) so.before
+    ∙ ap (λ (cs : TextsSoFar). output_with run nothing a.accepted (ended run a).slots cs) so.changes
+    ∙ ap (λ (us : List (ℕ × AccessUnit)). output_of run.hex run.scheduled (job_history us (ended run a).slots)) so.accepted
     ∙ ap (λ (k : ℕ). output_of run.hex run.scheduled (job_history (records_of n xs) k)) slots

@@ -37,10 +37,13 @@ use Rattle.mux_core.proofs.FedUnits.{accepted_on_air}
 use Rattle.mux_core.proofs.KnownRanges.{parameters_known, stream_range}
 use Rattle.mux_core.proofs.UnitCounts.{own_units, other_units, units_append}
 use Rattle.on_air.specs.declared.refusals.AirRefusal.{AirRefusal}
-use Rattle.on_air.specs.Airing.{Run, Air, history_by, silence, greatest_lead, HasRoom, lead_of, settled_at, on_to, is_tick, is_far_from, unit_refusal}
-use Rattle.on_air.specs.Airing.{air_cause, accepted_by, aired, caught_up, changed, judged_by, slots_followed, taken, with_record, heard}
+use Rattle.on_air.specs.Airing.{Run, Air, Before, history_by, nothing, silence, greatest_lead, HasRoom, lead_of, settled_at, on_to, is_tick, is_far_from, unit_refusal}
+use Rattle.on_air.specs.Airing.{air_cause, accepted_by, aired, caught_up, changed, changes_run, judged_by, slots_followed, taken}
+use Rattle.on_air.specs.Courses.{Course, course_after, heard, with_record}
 use Rattle.on_air.specs.AirStates.{Promises}
 use Rattle.on_air.specs.Laws.{with_entry, records_of, without_ticks, greatest_of, IsJobInOrder, AiredInOrder}
+use Rattle.on_air.proofs.Aired.{no_texts}
+use Rattle.on_air.proofs.Courses.{known_alone}
 use Rattle.on_air.proofs.InTime.{taken_in_time}
 use Rattle.on_air.proofs.Room.{waiting_spaced, waiting_paced}
 use Rattle.on_air.proofs.AsMultiplexed.{first_taken, greatest_more, last_taken, more_settled, none_taken, own_stream_alone, release_begins, release_rises}
@@ -66,16 +69,16 @@ kept_own d h other k u s ranges is none kept =
 -- The units of a history are these, with an accepted unit after them.
 pub kept_more : (d : Scheduled) (slots : ℕ) (changes : TextsSoFar) (other : Room) (units : List (ℕ × AccessUnit)) (entry : ℕ × AccessUnit) →
     IsInRange d.description →
-    feed_cause d other (history_by units slots changes) entry.0 entry.1 (slice_get d.description.streams entry.0) ≡ None → AllKept d units →
+    feed_cause d other (history_by nothing units slots changes) entry.0 entry.1 (slice_get d.description.streams entry.0) ≡ None → AllKept d units →
     AllKept d (units ++ (entry ∷ []))
 kept_more d slots changes other units entry ranges none kept k s is = elim (cases_eq entry.0 k) [
   | inl e ↦
       let more : units_of k (units ++ (entry ∷ [])) ≡ units_of k units ++ (entry.1 ∷ []) =
       units_append k units (entry ∷ []) ∙ ap (λ (l : List AccessUnit). units_of k units ++ l) (own_units k entry [] e) in
       subst (λ (l : List AccessUnit). Kept (owned_stream d k s) l) (sym more)
-      (kept_own d (history_by units slots changes) other k entry.1 s ranges is
-      (ap (λ (o : Option DescribedStream). feed_cause d other (history_by units slots changes) k entry.1 o) (sym is)
-      ∙ subst (λ (j : ℕ). feed_cause d other (history_by units slots changes) j entry.1 (slice_get d.description.streams j) ≡ None) e none) (kept k s is))
+      (kept_own d (history_by nothing units slots changes) other k entry.1 s ranges is
+      (ap (λ (o : Option DescribedStream). feed_cause d other (history_by nothing units slots changes) k entry.1 o) (sym is)
+      ∙ subst (λ (j : ℕ). feed_cause d other (history_by nothing units slots changes) j entry.1 (slice_get d.description.streams j) ≡ None) e none) (kept k s is))
   | inr ne ↦
       let same : units_of k (units ++ (entry ∷ [])) ≡ units_of k units =
       units_append k units (entry ∷ []) ∙ ap (λ (l : List AccessUnit). units_of k units ++ l) (other_units k entry [] ne) ∙ append-nil (units_of k units) in
@@ -163,6 +166,7 @@ with_unit records entry tick =
 
 -- These records were read without a refusal, and the slots that they settle are written.
 record SoFar (run : Run) (a : Air) (records : List (ℕ × AccessUnit)) : Type 0 where
+  before : a.before ≡ nothing
   accepted : a.accepted ≡ without_ticks records
   greatest : a.greatest ≡ greatest_of records
   slots : a.slots ≡ settled_at run (greatest_of records)
@@ -208,7 +212,9 @@ none_refused run a other records entry so job tick last =
     (omega (arith, written, rises)) room in
     let none = taken_stream run.scheduled run.capacity a.slots units entry found.stream found.on_air taken in
     let unit : unit_refusal run a entry ≡ None =
-    ap (λ (cs : TextsSoFar). feed_cause run.scheduled run.capacity (history_by a.accepted a.slots cs) entry.0 entry.1
+    ap (λ (b : Before). feed_cause run.scheduled run.capacity (history_by b a.accepted a.slots a.changes) entry.0 entry.1
+    (slice_get run.scheduled.description.streams entry.0)) so.before
+    ∙ ap (λ (cs : TextsSoFar). feed_cause run.scheduled run.capacity (history_by nothing a.accepted a.slots cs) entry.0 entry.1
     (slice_get run.scheduled.description.streams entry.0)) so.changes
     ∙ ap (λ (us : List (ℕ × AccessUnit)). feed_cause run.scheduled run.capacity (job_history us a.slots) entry.0 entry.1
     (slice_get run.scheduled.description.streams entry.0)) so.accepted
@@ -235,7 +241,8 @@ so_far_unit run a other records entry so job tick =
     subst (λ (o : Option AirRefusal). SoFar run (caught_up run (judged_by run a entry o) o) (records ++ (entry ∷ [])))
     (sym (none_refused run a other records entry so job tick last))
     (subst (λ (b : Bool). SoFar run (caught_up run (cond b (changed run a entry) (taken run a entry (accepted_by a entry None) a.changes)) None)
-    (records ++ (entry ∷ []))) (sym alone) (record {
+    (records ++ (entry ∷ []))) (sym (no_texts run entry alone)) (record {
+      before = so.before;
       accepted = rw tick (ap (λ (l : List (ℕ × AccessUnit)). l ++ (entry ∷ [])) so.accepted ∙ sym more);
       greatest = ap (λ (g : ℕ). max g entry.1.dts) so.greatest ∙ sym (greatest_more records entry);
       slots = more_slots run a records entry so;
@@ -253,7 +260,8 @@ so_far_tick run a other records entry so job tick =
     let none : air_cause run a entry ≡ None = rw (is_near run a other records entry so job, tick) refl in
     subst (λ (o : Option AirRefusal). SoFar run (caught_up run (judged_by run a entry o) o) (records ++ (entry ∷ []))) (sym none)
     (subst (λ (b : Bool). SoFar run (caught_up run (cond b (changed run a entry) (taken run a entry (accepted_by a entry None) a.changes)) None)
-    (records ++ (entry ∷ []))) (sym (tick_alone run entry tick)) (record {
+    (records ++ (entry ∷ []))) (sym (no_texts run entry (tick_alone run entry tick))) (record {
+      before = so.before;
       accepted = rw tick (so.accepted ∙ sym same);
       greatest = ap (λ (g : ℕ). max g entry.1.dts) so.greatest ∙ sym (greatest_more records entry);
       slots = more_slots run a records entry so;
@@ -267,6 +275,15 @@ so_far_more : (run : Run) (a : Air) (other : Room) (records : List (ℕ × Acces
     is_tick entry ≡ tick → SoFar run (aired run a entry) (records ++ (entry ∷ []))
 so_far_more run a other records entry true so job is = so_far_tick run a other records entry so job is
 so_far_more run a other records entry false so job is = so_far_unit run a other records entry so job is
+
+-- A record of such a job changes neither the texts nor the line-up.
+job_alone : (run : Run) (other : Room) (records : List (ℕ × AccessUnit)) (entry : ℕ × AccessUnit) (tick : Bool) →
+    IsJobInOrder run other (records ++ (entry ∷ [])) → is_tick entry ≡ tick → changes_run run entry ≡ false
+job_alone run other records entry true job is = tick_alone run entry is
+job_alone run other records entry false job is =
+    let last = last_taken run.scheduled other [] (without_ticks records) entry
+    (ap (λ (us : List (ℕ × AccessUnit)). first_refused run.scheduled other [] us) (sym (with_unit records entry is)) ∙ job.accepted) in
+    own_stream_alone run other (without_ticks records) entry last.1
 
 -- ---- All records
 
@@ -282,26 +299,35 @@ shorter run other records entry job = record {
       job.in_order before (after ++ (entry ∷ [])) e (ap (λ (l : List (ℕ × AccessUnit)). l ++ (entry ∷ [])) is ∙ append_assoc before (e ∷ after) (entry ∷ []));
 }
 
-so_far_with : (run : Run) (a : Air) (other : Room) (records : List (ℕ × AccessUnit)) (found : Result (Option (ℕ × AccessUnit)) UnitFileError) →
-    (IsJobInOrder run other records → SoFar run a records) → IsJobInOrder run other (with_entry found records) →
-    SoFar run (with_record run found a) (with_entry found records)
+-- The run is the one that began.
+record SoFarIn (run : Run) (c : Course) (records : List (ℕ × AccessUnit)) : Type 0 where
+  is : c.run ≡ run
+  so_far : SoFar run c.air records
+
+so_far_with : (run : Run) (c : Course) (other : Room) (records : List (ℕ × AccessUnit)) (found : Result (Option (ℕ × AccessUnit)) UnitFileError) →
+    (IsJobInOrder run other records → SoFarIn run c records) → IsJobInOrder run other (with_entry found records) →
+    SoFarIn run (with_record found c) (with_entry found records)
 unfolding with_record with_entry
-so_far_with run a other records (Err fault) so job = so job
-so_far_with run a other records (Ok None) so job = so job
-so_far_with run a other records (Ok (Some entry)) so job =
-    so_far_more run a other records entry (is_tick entry) (so (shorter run other records entry job)) job refl
+so_far_with run c other records (Err fault) so job = so job
+so_far_with run c other records (Ok None) so job = so job
+so_far_with run c other records (Ok (Some entry)) so job =
+    let before = so (shorter run other records entry job) in
+    subst (λ (d : Course). SoFarIn run d (records ++ (entry ∷ [])))
+    (sym (known_alone run c entry before.is (job_alone run other records entry (is_tick entry) job refl)))
+    (record { is = refl; so_far = so_far_more run c.air other records entry (is_tick entry) before.so_far job refl })
 
 so_far_none : (run : Run) → SoFar run silence []
 so_far_none run =
     let none = none_taken run in
-    record { accepted = refl; greatest = refl; slots = none.slots; refused = refl; changes = refl; kept = kept_none run.scheduled }
+    record { before = refl; accepted = refl; greatest = refl; slots = none.slots; refused = refl; changes = refl; kept = kept_none run.scheduled }
 
-so_far : (run : Run) (other : Room) (n : ℕ) (xs : List ℕ) → IsJobInOrder run other (records_of n xs) → SoFar run (heard run n xs) (records_of n xs)
+all_so_far : (run : Run) (other : Room) (n : ℕ) (xs : List ℕ) → IsJobInOrder run other (records_of n xs) → SoFarIn run (heard run n xs) (records_of n xs)
 unfolding heard records_of
-so_far run other zero xs job = so_far_none run
-so_far run other (suc n) xs job = so_far_with run (heard run n xs) other (records_of n xs) (record_at (after_records n xs)) (so_far run other n xs) job
+all_so_far run other zero xs job = record { is = refl; so_far = so_far_none run }
+all_so_far run other (suc n) xs job =
+    so_far_with run (heard run n xs) other (records_of n xs) (record_at (after_records n xs)) (all_so_far run other n xs) job
 
 pub aired_in_order : AiredInOrder
 aired_in_order run other n xs job =
-    let so = so_far run other n xs job in
+    let so = (all_so_far run other n xs job).so_far in
     record { accepted = so.accepted; refused = so.refused }

@@ -6,12 +6,13 @@ use Rattle.pes_packet.specs.AccessUnits.{AccessUnit}
 use Rattle.unit_queue.specs.declared.refusal.FeedError.{FeedError}
 use Rattle.on_air.specs.declared.leap.Leap.{Leap}
 use Rattle.on_air.specs.declared.refusals.AirRefusal.{AirRefusal}
-use Rattle.on_air.specs.declared.refusals.AirRefusal.TheVariants.{Ahead, Followed, Texts}
+use Rattle.on_air.specs.declared.refusals.AirRefusal.TheVariants.{Ahead, Followed, LineUp, Texts}
+use Rattle.on_air.specs.declared.refusals.LineUpRefusal.{LineUpRefusal}
 use Rattle.on_air.specs.declared.refusals.TextsRefusal.{TextsRefusal}
 use Rattle.on_air.specs.declared.refusals.FarRecord.{FarRecord}
 use Rattle.on_air.specs.Leaps.{is_followed, is_near, leap_with, leap_records}
 use Rattle.on_air.specs.Airing.{Run, Air, is_tick, is_far_from, leap_by, leap_left, unit_refusal, air_cause, greatest_by, judged_by, aired, caught_up, on_to}
-use Rattle.on_air.specs.Airing.{brings_texts, far_record, fed_refusal, settled_at, slots_followed, taken_cause, texts_refusal}
+use Rattle.on_air.specs.Airing.{brings_line_up, brings_texts, line_up_refusal, far_record, fed_refusal, settled_at, slots_followed, taken_cause, texts_refusal}
 use Rattle.on_air.specs.Laws.{NearEach, AllFar, LeapFollowed, LeapMovesOn}
 
 -- ---- One record that is too far ahead
@@ -119,19 +120,23 @@ reported_by false many true other rest slots greatest due packet from to never e
 reported_by false many false other rest slots greatest due packet from to never e = absurd (never e)
 
 -- A record that is not too far ahead is never followed.
-not_reported : (brings : Bool) (texts : Option TextsRefusal) (entry : ℕ × AccessUnit) (refused : Option FeedError) (packet from to : ℕ) →
-    cond brings (option_map Texts texts) (option_map (fed_refusal entry) refused) ≡ Some (Followed packet from to) → ⊥
-not_reported true None entry refused packet from to e = cc
-not_reported true (Some r) entry refused packet from to e = cc
-not_reported false texts entry None packet from to e = cc
-not_reported false texts entry (Some cause) packet from to e = cc
+not_reported : (brings other : Bool) (texts : Option TextsRefusal) (line_up : Option LineUpRefusal) (entry : ℕ × AccessUnit) (refused : Option FeedError)
+    (packet from to : ℕ) →
+    cond brings (option_map Texts texts) (cond other (option_map LineUp line_up) (option_map (fed_refusal entry) refused)) ≡ Some (Followed packet from to) → ⊥
+not_reported true other None line_up entry refused packet from to e = cc
+not_reported true other (Some r) line_up entry refused packet from to e = cc
+not_reported false true texts None entry refused packet from to e = cc
+not_reported false true texts (Some r) entry refused packet from to e = cc
+not_reported false false texts line_up entry None packet from to e = cc
+not_reported false false texts line_up entry (Some cause) packet from to e = cc
 
 pub leap_reported : (run : Run) (a : Air) (entry : ℕ × AccessUnit) (packet from to : ℕ) → air_cause run a entry ≡ Some (Followed packet from to) →
     ReportsLeap (is_far_from run a entry) (is_followed (leap_by run a entry)) a.slots a.greatest entry.1.dts packet from to
 leap_reported run a entry packet from to e =
     reported_by (is_far_from run a entry) (is_followed (leap_by run a entry)) (is_tick entry) (far_record run a entry) (taken_cause run a entry) a.slots
     a.greatest entry.1.dts packet from to
-    (not_reported (brings_texts run entry) (texts_refusal run a entry) entry (unit_refusal run a entry) packet from to) e
+    (not_reported (brings_texts run entry) (brings_line_up run entry) (texts_refusal run a entry) (line_up_refusal run a entry) entry (unit_refusal run a entry)
+    packet from to) e
 
 pub leap_moves_on : LeapMovesOn
 unfolding judged_by greatest_by slots_followed

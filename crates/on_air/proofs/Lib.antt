@@ -1,9 +1,13 @@
 pub mod InTime
 pub mod Room
+pub mod Contents
 pub mod SlotsOn
 pub mod FedRecords
 pub mod Aired
+pub mod Courses
 pub mod TextsOn
+pub mod LineUpsRead
+pub mod LineUpsOn
 pub mod AsMultiplexed
 pub mod InOrder
 pub mod HeardRecords

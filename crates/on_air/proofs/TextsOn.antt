@@ -1,7 +1,7 @@
 -- A record that brings texts
 use Rattle.std.proofs.Common.{◌≡◌, ◌⊎◌, ◌+◌, ◌<◌, ◌==◌, ◌&&◌, ℕ, zero, suc, max, Bool, true, false, List, ◌∷◌, ◌++◌, length, Option, Some, None, refl, sym, ap, ◌∙◌, subst}
 use Rattle.std.proofs.Common.{Result, Ok, Err, inl, inr, arith, cond}
-use Rattle.std.specs.Prelude.{is_none, option_map, slice_get}
+use Rattle.std.specs.Prelude.{is_none, not, option_map, slice_get, if◌then◌else◌}
 use Rattle.std.proofs.lemmas.Bool.{and_parts, and_right, eqb-true, ne_eqb}
 use Rattle.std.proofs.lemmas.Option.{slice_get_past}
 use Rattle.description_parts.specs.Described.{Described}
@@ -13,33 +13,33 @@ use Rattle.changed_texts.specs.Reading.{description_in}
 use Rattle.changed_texts.specs.TextFaults.{text_fault}
 use Rattle.changed_texts.specs.declared.fault.TextFault.{TextFault}
 use Rattle.pes_packet.specs.AccessUnits.{AccessUnit}
-use Rattle.pes_packet.specs.Units.{units_of}
-use Rattle.slot_contents.specs.Contents.{Content, packet_of}
 use Rattle.mux_core.specs.Buffer.{Buffered, IsOutput, Took}
-use Rattle.mux_core.specs.Formats.{formatted}
-use Rattle.mux_core.specs.Histories.{Change, content_over, last_texts, with_change, NextTexts}
+use Rattle.mux_core.specs.Histories.{Change, last_texts, with_change, NextTexts}
 use Rattle.mux_core.specs.TextChanges.{next_change, text_cause}
 use Rattle.mux_core.specs.MuxStates.{MuxState, Represents, Changes}
 use Rattle.mux_core.specs.Scheduled.{Scheduled}
-use Rattle.mux_core.specs.WholeJobs.{run_output}
 use Rattle.mux_core.proofs.TextChanges.{content_before}
 use Rattle.on_air.specs.declared.refusals.AirRefusal.{AirRefusal}
-use Rattle.on_air.specs.declared.refusals.AirRefusal.TheVariants.{Texts}
+use Rattle.on_air.specs.declared.refusals.AirRefusal.TheVariants.{LineUp, Texts}
 use Rattle.on_air.specs.declared.refusals.TextsRefusal.{TextsRefusal}
 use Rattle.on_air.specs.declared.refusals.TextsRefusal.TheVariants.{Unread, Fault}
 use Rattle.on_air.specs.Leaps.{no_leap}
 use Rattle.on_air.specs.Airing.{Run, Air, job_of, air_output, air_cause, brings_texts, changes_with, far_cause, fed_refusal, greatest_by, is_far_from, is_tick}
 use Rattle.on_air.specs.Airing.{judged, judged_by, leap_left, unit_refusal, on_to, settled_at, taken, texts_cause, texts_now, texts_refusal, with_count}
-use Rattle.on_air.specs.Airing.{with_read, with_texts}
+use Rattle.on_air.specs.Airing.{brings_line_up, changes_run, line_up_refusal, with_read, with_texts}
+use Rattle.on_air.specs.Courses.{course_after}
+use Rattle.on_air.specs.LineUps.{has_plan}
 use Rattle.on_air.specs.AirStates.{AirState, Carries, IsOnAir, Promises}
-use Rattle.on_air.specs.Hearing.{Fails, IsNearTexts, JudgesTexts, unread_error}
+use Rattle.on_air.specs.Hearing.{Fails, FailsIn, IsNearTexts, JudgesTexts, unread_error}
 use Rattle.on_air.specs.declared.texts.TextsError.{TextsError}
 use Rattle.on_air.proofs.Aired.{Moves, judged_texts, keeps, refused_by}
+use Rattle.on_air.proofs.Contents.{output_same}
+use Rattle.on_air.proofs.Courses.{fails_in, texts_stay}
 
--- Whether a record brings texts, by its stream and the number of plans
-pub texts_same : (run : Run) (entry : ℕ × AccessUnit) (one : Bool) → IsInRange run.scheduled.description → one ≡ is_none run.scheduled.schedule.following →
-    (one && (entry.0 == 254)) ≡ true → brings_texts run entry ≡ true
-texts_same run entry one ranges same is =
+-- Whether a record brings texts or a line-up, by its stream and the number of plans
+pub change_same : (run : Run) (entry : ℕ × AccessUnit) (one : Bool) → IsInRange run.scheduled.description → one ≡ is_none run.scheduled.schedule.following →
+    (one && (entry.0 == 254)) ≡ true → changes_run run entry ≡ true
+change_same run entry one ranges same is =
     let parts = and_parts one (entry.0 == 254) is in
     let number : entry.0 ≡ 254 = eqb-true entry.0 254 parts.1 in
     let none : slice_get run.scheduled.description.streams entry.0 ≡ None =
@@ -47,21 +47,43 @@ texts_same run entry one ranges same is =
     rw (none, sym same, parts.0, parts.1) refl
 
 pub unit_same : (run : Run) (entry : ℕ × AccessUnit) (one : Bool) → one ≡ is_none run.scheduled.schedule.following → (one && (entry.0 == 254)) ≡ false →
-    brings_texts run entry ≡ false
+    changes_run run entry ≡ false
 unit_same run entry one same is =
     and_right (is_none (slice_get run.scheduled.description.streams entry.0)) (is_none run.scheduled.schedule.following && (entry.0 == 254))
     (ap (λ (b : Bool). b && (entry.0 == 254)) (sym same) ∙ is)
 
--- A tick brings no texts, and a record that brings texts is no tick.
-pub tick_alone : (run : Run) (entry : ℕ × AccessUnit) → is_tick entry ≡ true → brings_texts run entry ≡ false
+-- A tick brings nothing, and a record that brings texts or a line-up is no tick.
+pub tick_alone : (run : Run) (entry : ℕ × AccessUnit) → is_tick entry ≡ true → changes_run run entry ≡ false
 tick_alone run entry tick =
     let number : entry.0 ≡ 255 = eqb-true entry.0 255 (and_parts (entry.0 == 255) (length entry.1.bytes == 0) tick).0 in
     let other : (entry.0 == 254) ≡ false = ne_eqb entry.0 254 (λ e. absurd (omega (arith, e, number))) in
     and_right (is_none (slice_get run.scheduled.description.streams entry.0)) (is_none run.scheduled.schedule.following && (entry.0 == 254))
     (and_right (is_none run.scheduled.schedule.following) (entry.0 == 254) other)
 
-pub no_tick_texts : (run : Run) (entry : ℕ × AccessUnit) → entry.0 ≡ 254 → is_tick entry ≡ false
-no_tick_texts run entry number = rw number refl
+pub change_number : (run : Run) (entry : ℕ × AccessUnit) → changes_run run entry ≡ true → entry.0 ≡ 254
+change_number run entry changes =
+    let rest = and_parts (is_none (slice_get run.scheduled.description.streams entry.0)) (is_none run.scheduled.schedule.following && (entry.0 == 254)) changes in
+    eqb-true entry.0 254 (and_parts (is_none run.scheduled.schedule.following) (entry.0 == 254) rest.1).1
+
+number_alone : (entry : ℕ × AccessUnit) → entry.0 ≡ 254 → is_tick entry ≡ false
+number_alone entry number = rw number refl
+
+pub no_tick_change : (run : Run) (entry : ℕ × AccessUnit) → changes_run run entry ≡ true → is_tick entry ≡ false
+no_tick_change run entry changes = number_alone entry (change_number run entry changes)
+
+-- It brings the one or the other.
+pub brings_by : (run : Run) (entry : ℕ × AccessUnit) (plan : Bool) → changes_run run entry ≡ true → plan ≡ has_plan entry.1.bytes →
+    (brings_line_up run entry ≡ plan) × (brings_texts run entry ≡ not plan)
+brings_by run entry plan changes is = (
+  ap (λ (b : Bool). b && has_plan entry.1.bytes) changes ∙ sym is,
+  ap (λ (b : Bool). b && not (has_plan entry.1.bytes)) changes ∙ ap not (sym is),
+)
+
+pub texts_change : (run : Run) (entry : ℕ × AccessUnit) → brings_texts run entry ≡ true → changes_run run entry ≡ true
+texts_change run entry brings = (and_parts (changes_run run entry) (not (has_plan entry.1.bytes)) brings).0
+
+pub line_up_change : (run : Run) (entry : ℕ × AccessUnit) → brings_line_up run entry ≡ true → changes_run run entry ≡ true
+line_up_change run entry brings = (and_parts (changes_run run entry) (has_plan entry.1.bytes) brings).0
 
 -- The cause of a record that brings texts
 near_texts : (run : Run) (a : Air) (entry : ℕ × AccessUnit) → IsNearTexts run a entry → air_cause run a entry ≡ option_map Texts (texts_refusal run a entry)
@@ -84,6 +106,7 @@ texts_refused run a entry cause start now old new h moves t is mux packets great
 -- The run after texts are taken, before the slots that the record settles are written
 abbrev pub noted : Air → ℕ × AccessUnit → Air
 noted a entry = record {
+  before = a.before;
   accepted = a.accepted;
   slots = a.slots;
   greatest = max a.greatest entry.1.dts;
@@ -107,6 +130,8 @@ noted_on run a entry start now old new h moves mux packets greatest leap records
   leap = leap;
   records = records ∙ ap (λ (n : ℕ). n + 1) h.records;
   one_plan = moves.one_plan ∙ h.one_plan;
+  gone = moves.gone ∙ h.gone;
+  begun = h.begun;
   output = subst (λ (p : Buffered). IsOutput start now p (air_output run a)) (sym packets) h.output;
   headline = h.headline;
 }
@@ -117,23 +142,21 @@ texts_accepted run a entry texts t none read =
     near_texts run a entry t ∙ ap (option_map Texts) (ap (texts_cause run.scheduled.description (texts_now run a)) read ∙ none)
 
 -- The texts on air, after the slots that their record settles
-pub texts_taken : (run : Run) (a : Air) (entry : ℕ × AccessUnit) (due slot : ℕ) (texts : Described) (start later : Option (List ℕ)) (new : AirState) →
-    IsNearTexts run a entry → due ≡ entry.1.dts → texts_cause run.scheduled.description (texts_now run a) (Ok texts) ≡ None → description_in entry.1.bytes ≡ Ok texts →
-    slot ≡ on_to a.slots (settled_at run due) →
-    IsOnAir run (with_texts run (with_count (noted a entry) (on_to (noted a entry).slots (settled_at run due))) texts) start later new →
+pub texts_taken : (run : Run) (a : Air) (entry : ℕ × AccessUnit) (slot : ℕ) (texts : Described) (start later : Option (List ℕ)) (new : AirState) →
+    IsNearTexts run a entry → texts_cause run.scheduled.description (texts_now run a) (Ok texts) ≡ None → description_in entry.1.bytes ≡ Ok texts →
+    slot ≡ (taken run a entry a.accepted a.changes).slots →
+    IsOnAir run (with_texts run (taken run a entry a.accepted a.changes) texts) start later new →
     (air_cause run a entry ≡ None)
     × ((brings_texts run entry ≡ true) × ((slot ≡ (judged run a entry).slots) × IsOnAir run (judged run a entry) start later new))
-texts_taken run a entry due slot texts start later new t is none read same on =
+texts_taken run a entry slot texts start later new t none read same on =
     let accepted = texts_accepted run a entry texts t none read in
     let last = judged_texts run a entry texts accepted t.texts read in (
       accepted,
       (
         t.texts,
         (
-          same ∙ ap (λ (n : ℕ). on_to a.slots (settled_at run n)) is ∙ ap (λ (b : Air). b.slots) (sym last),
-          subst (λ (b : Air). IsOnAir run b start later new) (sym last)
-              (subst (λ (n : ℕ). IsOnAir run (with_texts run (with_count (noted a entry) (on_to (noted a entry).slots (settled_at run n))) texts) start later new)
-              is on),
+          same ∙ ap (λ (b : Air). b.slots) (sym last),
+          subst (λ (b : Air). IsOnAir run b start later new) (sym last) on,
         ),
       ),
     )
@@ -157,36 +180,23 @@ no_refusal false true brings cause texts unit e t b = absurd cc
 no_refusal false false false cause texts unit e t b = absurd cc
 no_refusal false false true cause texts unit e t b = unmapped_texts texts e
 
-pub brings_number : (run : Run) (entry : ℕ × AccessUnit) → brings_texts run entry ≡ true → entry.0 ≡ 254
-brings_number run entry brings =
-    let rest = and_parts (is_none (slice_get run.scheduled.description.streams entry.0)) (is_none run.scheduled.schedule.following && (entry.0 == 254)) brings in
-    eqb-true entry.0 254 (and_parts (is_none run.scheduled.schedule.following) (entry.0 == 254) rest.1).1
-
 pub read_texts : (run : Run) (a : Air) (entry : ℕ × AccessUnit) → air_cause run a entry ≡ None → brings_texts run entry ≡ true →
     (texts : Described) × (description_in entry.1.bytes ≡ Ok texts)
 read_texts run a entry none brings =
-    let tick = no_tick_texts run entry (brings_number run entry brings) in
+    let tick = no_tick_change run entry (texts_change run entry brings) in
     read_by run a (description_in entry.1.bytes)
     (no_refusal (is_far_from run a entry) (is_tick entry) (brings_texts run entry) (far_cause run a entry) (texts_refusal run a entry)
-    (option_map (fed_refusal entry) (unit_refusal run a entry)) none tick brings)
+    (if brings_line_up run entry then option_map LineUp (line_up_refusal run a entry) else option_map (fed_refusal entry) (unit_refusal run a entry))
+    none tick brings)
 
 -- ---- The output
-
-outputs_same : (hex : Bool) (f g : ℕ → Content) (s n : ℕ) → ((t : ℕ) → t < s + n → f t ≡ g t) → run_output hex f s n ≡ run_output hex g s n
-unfolding run_output
-outputs_same hex f g s zero same = refl
-outputs_same hex f g s (suc n) same =
-    ap (λ (c : Content). formatted hex (packet_of c) ++ run_output hex f (suc s) n) (same s (omega arith))
-    ∙ ap (λ (l : List ℕ). formatted hex (packet_of (g s)) ++ l) (outputs_same hex f g (suc s) n (λ t lt. same t (omega (arith, lt))))
 
 -- A change of the texts leaves the output so far as it is.
 pub texts_output : (run : Run) (a : Air) (texts : Described) → air_output run (with_texts run a texts) ≡ air_output run a
 unfolding changes_with
 texts_output run a texts =
-    outputs_same run.hex
-    (content_over run.scheduled (NextTexts (next_change run.scheduled (job_of a) texts) a.changes) (λ k. units_of k a.accepted))
-    (content_over run.scheduled a.changes (λ k. units_of k a.accepted)) 0 a.slots
-    (λ t lt. content_before run.scheduled (next_change run.scheduled (job_of a) texts) a.changes (λ k. units_of k a.accepted) t (omega (arith, lt)))
+    output_same run a.before a.accepted a.accepted a.slots a.changes (NextTexts (next_change run.scheduled (job_of a) texts) a.changes)
+    (λ t lt. content_before run.scheduled (next_change run.scheduled (job_of a) texts) a.changes (job_of a).units t (omega (arith, lt)))
 
 pub read_output : (run : Run) (a : Air) (r : Result Described DescError) → air_output run (with_read run a r) ≡ air_output run a
 unfolding changes_with
@@ -218,10 +228,11 @@ put_on run a texts refused start now old new m h moves packets greatest leap rec
       leap = leap ∙ h.leap;
       records = records ∙ h.records;
       one_plan = moves.one_plan ∙ h.one_plan;
+      gone = moves.gone ∙ h.gone;
+      begun = h.begun;
       output = subst (λ (l : List ℕ). IsOutput start now new.packets l) (sym (texts_output run a texts))
           (subst (λ (p : Buffered). IsOutput start now p (air_output run a)) (sym packets) h.output);
-      headline = keeps run a.accepted (NextTexts (next_change run.scheduled (job_of a) texts) a.changes) (NextTexts (next_change run.scheduled (job_of a) texts) a.changes) a.slots
-          a.slots new.mux h.promises carries;
+      headline = keeps run (with_change (job_of a) (next_change run.scheduled (job_of a) texts)) (job_of (with_texts run a texts)) new.mux h.promises carries refl;
     }
 
 -- Texts that the description and the texts in force allow are refused by no multiplexer that carries the run.
@@ -289,21 +300,19 @@ refused_texts run a bytes texts read m fault why is known carries first some =
 -- ---- The writer
 
 -- The writer fails while the settled slots are written: the texts change no byte before their first slot.
-pub texts_fail : (run : Run) (a : Air) (entry : ℕ × AccessUnit) (due sent : ℕ) (texts : Described) (start later : Option (List ℕ)) (m : MuxState) →
-    Promises run.scheduled → Carries run (job_of a) m → IsNearTexts run a entry → due ≡ entry.1.dts →
+pub texts_fail : (run : Run) (a : Air) (entry : ℕ × AccessUnit) (sent : ℕ) (texts : Described) (start later : Option (List ℕ)) (m : MuxState) →
+    Promises run.scheduled → Carries run (job_of a) m → IsNearTexts run a entry →
     texts_cause run.scheduled.description (texts_now run a) (Ok texts) ≡ None → description_in entry.1.bytes ≡ Ok texts →
-    Fails run (with_count (noted a entry) (on_to (noted a entry).slots (settled_at run due))) start later sent →
-    (air_cause run a entry ≡ None) × Fails run (judged run a entry) start later sent
+    Fails run (taken run a entry a.accepted a.changes) start later sent →
+    (air_cause run a entry ≡ None) × FailsIn (course_after run a entry) start later sent
 unfolding changes_with
-texts_fail run a entry due sent texts start later m promises carries t is none read fails =
+texts_fail run a entry sent texts start later m promises carries t none read before =
     let accepted = texts_accepted run a entry texts t none read in
-    let last = judged_texts run a entry texts accepted t.texts read in
-    let before : Fails run (taken run a entry a.accepted a.changes) start later sent =
-    subst (λ (n : ℕ). Fails run (with_count (noted a entry) (on_to (noted a entry).slots (settled_at run n))) start later sent) is fails in
-    let change = next_change run.scheduled (job_of (taken run a entry a.accepted a.changes)) texts in (
+    let last = judged_texts run a entry texts accepted t.texts read in (
       accepted,
-      subst (λ (b : Air). Fails run b start later sent) (sym last) (record {
-        took = subst (λ (l : List ℕ). Took start later sent l) (sym (texts_output run (taken run a entry a.accepted a.changes) texts)) before.took;
-        headline = keeps run a.accepted a.changes (NextTexts change a.changes) a.slots (taken run a entry a.accepted a.changes).slots m promises carries;
-      }),
+      fails_in run a entry start later sent accepted (texts_stay run a entry t.texts)
+          (subst (λ (b : Air). Fails run b start later sent) (sym last) (record {
+            took = subst (λ (l : List ℕ). Took start later sent l) (sym (texts_output run (taken run a entry a.accepted a.changes) texts)) before.took;
+            headline = keeps run (job_of a) (job_of (with_texts run (taken run a entry a.accepted a.changes) texts)) m promises carries refl;
+          })),
     )

@@ -1,28 +1,28 @@
 -- The state of a run in memory, and the run that it represents.
-use Rattle.std.specs.Prelude.{◌≡◌, ◌+◌, ℕ, Bool, false, nat_le, if◌then◌else◌, List, [], length, Option, Some, None, is_none, Result, Ok, Err}
+use Rattle.std.specs.Prelude.{◌≡◌, ◌≤◌, ◌+◌, ℕ, Bool, false, nat_le, if◌then◌else◌, List, [], length, Option, Some, None, is_none, Result, Ok, Err}
 use Rattle.description_parts.specs.Ranges.{IsInRange}
 use Rattle.pes_packet.specs.AccessUnits.{AccessUnit}
-use Rattle.pes_packet.specs.Units.{units_of}
+use Rattle.slot_contents.specs.Contents.{Content}
 use Rattle.mux_core.specs.Buffer.{waiting_of, Buffered, IsOutput}
 use Rattle.unit_records.specs.Records.{head_size, size_at}
 use Rattle.plan_checker.specs.Served.{Served}
 use Rattle.switch_checker.specs.Followed.{Followed}
 use Rattle.slot_plan.specs.Promised.{Promised}
 use Rattle.mux_core.specs.Headline.{HeadlineOver}
-use Rattle.mux_core.specs.Histories.{History, bytes_of}
+use Rattle.mux_core.specs.Histories.{History, bytes_of, content_over}
 use Rattle.mux_core.specs.MuxStates.{MuxState, Represents}
 use Rattle.mux_core.specs.NewMux.{is_periods}
 use Rattle.mux_core.specs.declared.done.NewError.{NewError}
 use Rattle.mux_core.specs.declared.done.NewError.TheVariants.{Periods}
 use Rattle.mux_core.specs.Scheduled.{Scheduled}
-use Rattle.mux_core.specs.WholeJobs.{output_of, plan_schedule, switch_schedule}
+use Rattle.mux_core.specs.WholeJobs.{run_output, plan_schedule, switch_schedule}
 use Rattle.on_air.specs.declared.leap.Leap.{Leap}
 use Rattle.on_air.specs.declared.options.Terms.{Terms}
 use Rattle.on_air.specs.declared.refusals.AirRefusal.{AirRefusal}
-use Rattle.on_air.specs.Airing.{Run, Air, history_by, job_of, air_output, lead_of, greatest_lead, room_by, air_cause, accepted_by}
+use Rattle.on_air.specs.Airing.{Run, Air, history_by, job_of, air_output, output_with, lead_of, greatest_lead, room_by, air_cause, accepted_by}
 
 -- the multiplexer, the packets that wait to be written, the terms, the rate and the lead that settle slots, the greatest DTS taken, the records that leap,
--- the number of records read, and whether there is one plan, so that texts may change
+-- the number of records read, whether there is one plan, so that texts and the line-up may change, and the PIDs that have gone
 pub record AirState : Type 0 where
   pub mux : MuxState
   pub packets : Buffered
@@ -33,6 +33,7 @@ pub record AirState : Type 0 where
   pub leap : Leap
   pub records : ℕ
   pub one_plan : Bool
+  pub gone : List ℕ
 
 -- the multiplexer of this run represents a history
 pub record Carries (run : Run) (h : History) (m : MuxState) : Type 0 where
@@ -44,11 +45,15 @@ pub record Carries (run : Run) (h : History) (m : MuxState) : Type 0 where
 abbrev pub with_slots : History → ℕ → History
 with_slots h n = record { units = h.units; changes = h.changes; slots = n }
 
--- the state after slots were written
-pub record WroteOn (run : Run) (h : History) (hex : Bool) (start now : Option (List ℕ)) (m : MuxState) (packets : Buffered) : Type 0 where
+-- from the next slot on, slots carry what the multiplexer of this history has in them
+abbrev pub GoesOn : Scheduled → History → (ℕ → Content) → Type 0
+GoesOn d h content = (slot : ℕ) → h.slots ≤ slot → content slot ≡ content_over d h.changes h.units slot
+
+-- the state after slots were written, which carry this content from the first slot of the run on
+pub record WroteOn (run : Run) (h : History) (content : ℕ → Content) (hex : Bool) (start now : Option (List ℕ)) (m : MuxState) (packets : Buffered) : Type 0 where
   pub mux : Carries run h m
   pub hex_is : packets.hex ≡ hex
-  pub output : IsOutput start now packets (output_of hex run.scheduled h)
+  pub output : IsOutput start now packets (run_output hex content 0 h.slots)
 
 -- the promises of a schedule about its description
 pub record Promises (d : Scheduled) : Type 0 where
@@ -58,15 +63,16 @@ pub record Promises (d : Scheduled) : Type 0 where
 -- the state after a record was judged, and its unit fed if it was accepted: the output so far does not change
 pub record Admits (run : Run) (a : Air) (entry : ℕ × AccessUnit) (refused : Option AirRefusal) (m : MuxState) : Type 0 where
   pub cause : refused ≡ air_cause run a entry
-  pub mux : Carries run (history_by (accepted_by a entry refused) a.slots a.changes) m
-  pub before : output_of run.hex run.scheduled (history_by (accepted_by a entry refused) a.slots a.changes) ≡ air_output run a
+  pub mux : Carries run (history_by a.before (accepted_by a entry refused) a.slots a.changes) m
+  pub before : output_with run a.before (accepted_by a entry refused) a.slots a.changes ≡ air_output run a
 
--- all bytes of the slots so far keep every promise
+-- all bytes that the line-up in force has in the slots so far keep every promise. Under the first line-up of a run these are the bytes written; later they are
+-- so on each PID of what stays, and on the others from the slot on in which the line-up came (`turns`)
 abbrev pub KeepsHeadline : Run → Air → Type 0
-KeepsHeadline run a = HeadlineOver run.scheduled a.changes (λ k. units_of k a.accepted) a.slots (bytes_of run.scheduled (job_of a))
+KeepsHeadline run a = HeadlineOver run.scheduled a.changes (job_of a).units a.slots (bytes_of run.scheduled (job_of a))
 
 -- the state of a run at `a`: the multiplexer represents the accepted units and the written slots; the writer, which held `start` at the beginning, holds the
--- output of these slots except the waiting bytes; and the bytes of these slots keep every promise
+-- output of these slots except the waiting bytes; and the bytes that the line-up in force has in these slots keep every promise
 pub record IsOnAir (run : Run) (a : Air) (start now : Option (List ℕ)) (s : AirState) : Type 0 where
   pub mux : Carries run (job_of a) s.mux
   pub promises : Promises run.scheduled
@@ -78,6 +84,8 @@ pub record IsOnAir (run : Run) (a : Air) (start now : Option (List ℕ)) (s : Ai
   pub leap : s.leap ≡ a.leap
   pub records : s.records ≡ a.records
   pub one_plan : s.one_plan ≡ is_none run.scheduled.schedule.following
+  pub gone : s.gone ≡ a.before.gone
+  pub begun : a.before.from ≤ a.slots
   pub output : IsOutput start now s.packets (air_output run a)
   pub headline : KeepsHeadline run a
 

@@ -1,10 +1,11 @@
--- The rule of a run without end: which records are taken, and which slots are written after each of them and at the end.
-use Rattle.std.specs.Prelude.{ℕ, zero, suc, ◌+◌, ◌-◌, ◌^◌, ◌==◌, ◌&&◌, min, max, Bool, cond, if◌then◌else◌, List, [], ◌∷◌, ◌++◌, length, slice_get, fold}
-use Rattle.std.specs.Prelude.{Option, Some, None, is_none, option_map, Result, Ok, Err, All, ◌≤◌}
+-- The rule of a run without end, while a line-up is in force: which records are taken, and which slots are written after each of them and at the end.
+use Rattle.std.specs.Prelude.{ℕ, ◌+◌, ◌-◌, ◌^◌, ◌==◌, ◌&&◌, min, max, Bool, cond, if◌then◌else◌, List, [], ◌∷◌, ◌++◌, length, slice_get, fold}
+use Rattle.std.specs.Prelude.{Option, Some, None, is_none, not, option_map, Result, Ok, Err, All, ◌≤◌}
 use Rattle.clock27.specs.Release.{release}
 use Rattle.pes_packet.specs.AccessUnits.{AccessUnit}
 use Rattle.pes_packet.specs.Marks.{marks_size}
 use Rattle.pes_packet.specs.Units.{units_of}
+use Rattle.slot_contents.specs.Contents.{Content}
 use Rattle.description_parts.specs.Described.{Described, DescribedStream}
 use Rattle.description_keys.specs.declared.fault.DescFault.TheVariants as key
 use Rattle.description_keys.specs.declared.fault.DescError.{DescError}
@@ -12,38 +13,53 @@ use Rattle.description_keys.specs.declared.fault.DescError.TheVariants as unread
 use Rattle.changed_texts.specs.Reading.{description_in}
 use Rattle.changed_texts.specs.TextFaults.{text_fault}
 use Rattle.unit_queue.specs.declared.refusal.FeedError.{FeedError}
-use Rattle.unit_records.specs.Records.{record_at}
-use Rattle.unit_records.specs.declared.reading.UnitFileError.{UnitFileError}
-use Rattle.mux_core.specs.RecordRuns.{after_records}
 use Rattle.mux_core.specs.Rooms.{needed_units, room_in}
 use Rattle.mux_core.specs.Scheduled.{Scheduled}
 use Rattle.mux_core.specs.Histories.{History, last_texts, TextsSoFar, unchanged, NextTexts}
 use Rattle.mux_core.specs.TextChanges.{next_change}
 use Rattle.mux_core.specs.MuxStates.{feed_cause}
-use Rattle.mux_core.specs.WholeJobs.{output_of}
+use Rattle.mux_core.specs.WholeJobs.{run_output}
+use Rattle.turns.specs.Turns.{Turn, content_by}
 use Rattle.mux_core.specs.declared.room.Room.{Room}
 use Rattle.mux_core.specs.declared.room.Room.TheVariants.{Units, Due}
 use Rattle.on_air.specs.declared.leap.Leap.{Leap}
 use Rattle.on_air.specs.declared.options.Terms.{Terms}
 use Rattle.on_air.specs.declared.refusals.AirRefusal.{AirRefusal}
 use Rattle.on_air.specs.declared.refusals.FarRecord.{FarRecord}
+use Rattle.on_air.specs.declared.refusals.LineUpRefusal.{LineUpRefusal}
 use Rattle.on_air.specs.declared.refusals.RefusedUnit.{RefusedUnit}
 use Rattle.on_air.specs.declared.refusals.TextsRefusal.{TextsRefusal}
 use Rattle.on_air.specs.declared.refusals.TextsRefusal.TheVariants.{Unread, Fault}
-use Rattle.on_air.specs.declared.refusals.AirRefusal.TheVariants.{Feed, Ahead, Followed, Texts}
+use Rattle.on_air.specs.declared.refusals.AirRefusal.TheVariants.{Feed, Ahead, Followed, Texts, LineUp}
 use Rattle.on_air.specs.Leaps.{is_far, is_followed, leap_with, no_leap}
+use Rattle.on_air.specs.LineUps.{has_plan, line_up_in, line_up_cause}
 
--- the schedule, the room for units that wait, the terms, and whether packets are written as lines of digits
+-- the schedule of the line-up in force, the room for units that wait, the terms, and whether packets are written as lines of digits
 pub record Run : Type 0 where
   pub scheduled : Scheduled
   pub capacity : Room
   pub terms : Terms
   pub hex : Bool
 
--- the progress of a run: the accepted units, each with the number of its stream, in order; the number of slots written; the greatest DTS taken, in units of
--- 90 kHz; the records that leap, up to the last record read; the number of records read; the numbers of the refused records, with the causes; the changes of
--- the texts, the newest first
+-- what came before the line-up in force: the slot from which on it is in force; for each of its streams, by number, the units that were accepted before; the
+-- line-ups before it, the newest first; the units that were accepted under them, each with the number that its stream had, in order; and the PIDs that one of
+-- them had and the line-up in force does not have
+pub record Before : Type 0 where
+  pub from : ℕ
+  pub units : ℕ → List AccessUnit
+  pub turns : List Turn
+  pub accepted : List (ℕ × AccessUnit)
+  pub gone : List ℕ
+
+-- before the first line-up of a run there is nothing
+abbrev pub nothing : Before
+nothing = record { from = 0; units = λ k. []; turns = []; accepted = []; gone = [] }
+
+-- the progress of a run: what came before the line-up in force; under that line-up the accepted units, each with the number of its stream, in order; the
+-- number of slots written; the greatest DTS taken, in units of 90 kHz; the records that leap, up to the last record read; the number of records read; the
+-- numbers of the refused records, with the causes; the texts since the line-up came, the newest first
 pub record Air : Type 0 where
+  pub before : Before
   pub accepted : List (ℕ × AccessUnit)
   pub slots : ℕ
   pub greatest : ℕ
@@ -53,17 +69,35 @@ pub record Air : Type 0 where
   pub changes : TextsSoFar
 
 abbrev pub silence : Air
-silence = record { accepted = []; slots = 0; greatest = 0; leap = no_leap; records = 0; refused = []; changes = unchanged }
+silence = record {
+  before = nothing;
+  accepted = [];
+  slots = 0;
+  greatest = 0;
+  leap = no_leap;
+  records = 0;
+  refused = [];
+  changes = unchanged;
+}
 
--- the history of the multiplexer, and its output
-abbrev pub history_by : List (ℕ × AccessUnit) → ℕ → TextsSoFar → History
-history_by units slots changes = record { units = λ k. units_of k units; changes = changes; slots = slots }
+-- the history of the multiplexer: a multiplexer of the line-up in force alone has it
+abbrev pub history_by : Before → List (ℕ × AccessUnit) → ℕ → TextsSoFar → History
+history_by before units slots changes = record { units = λ k. before.units k ++ units_of k units; changes = changes; slots = slots }
 
 abbrev pub job_of : Air → History
-job_of a = history_by a.accepted a.slots a.changes
+job_of a = history_by a.before a.accepted a.slots a.changes
+
+-- what each slot carries: before the line-up in force came, what the line-ups before it have there
+abbrev pub content_with : Run → Before → List (ℕ × AccessUnit) → TextsSoFar → ℕ → Content
+content_with run before units changes =
+    content_by (record { from = before.from; scheduled = run.scheduled; history = history_by before units before.from changes }) before.turns
+
+-- the output
+abbrev pub output_with : Run → Before → List (ℕ × AccessUnit) → ℕ → TextsSoFar → List ℕ
+output_with run before units slots changes = run_output run.hex (content_with run before units changes) 0 slots
 
 abbrev pub air_output : Run → Air → List ℕ
-air_output run a = output_of run.hex run.scheduled (job_of a)
+air_output run a = output_with run a.before a.accepted a.slots a.changes
 
 -- ---- slots that are settled
 
@@ -111,10 +145,17 @@ on_to slots target = slots + (target - slots)
 abbrev pub is_tick : ℕ × AccessUnit → Bool
 is_tick entry = (entry.0 == 255) && (length entry.1.bytes == 0)
 
--- the record brings texts: stream 254, in a run of one plan whose description has no such stream
-abbrev pub brings_texts : Run → ℕ × AccessUnit → Bool
-brings_texts run entry =
+-- the record changes the line-up or its texts: stream 254, in a run of one plan whose description has no such stream
+abbrev pub changes_run : Run → ℕ × AccessUnit → Bool
+changes_run run entry =
     is_none (slice_get run.scheduled.description.streams entry.0) && (is_none run.scheduled.schedule.following && (entry.0 == 254))
+
+-- it brings a line-up, a description with a plan; or texts, a description alone
+abbrev pub brings_line_up : Run → ℕ × AccessUnit → Bool
+brings_line_up run entry = changes_run run entry && has_plan entry.1.bytes
+
+abbrev pub brings_texts : Run → ℕ × AccessUnit → Bool
+brings_texts run entry = changes_run run entry && not (has_plan entry.1.bytes)
 
 -- the DTS of the record is further after the greatest DTS so far than the terms allow
 abbrev pub is_far_from : Run → Air → ℕ × AccessUnit → Bool
@@ -160,10 +201,16 @@ texts_now run a = last_texts run.scheduled.description a.changes
 abbrev pub texts_refusal : Run → Air → ℕ × AccessUnit → Option TextsRefusal
 texts_refusal run a entry = texts_cause run.scheduled.description (texts_now run a) (description_in entry.1.bytes)
 
+-- why a line-up is refused
+abbrev pub line_up_refusal : Run → Air → ℕ × AccessUnit → Option LineUpRefusal
+line_up_refusal run a entry = line_up_cause run.scheduled (job_of a) a.before.gone (line_up_in entry.1.bytes)
+
 -- why a record that is neither far ahead nor a tick is refused
 abbrev pub taken_cause : Run → Air → ℕ × AccessUnit → Option AirRefusal
 taken_cause run a entry =
-    if brings_texts run entry then option_map Texts (texts_refusal run a entry) else option_map (fed_refusal entry) (unit_refusal run a entry)
+    if brings_texts run entry then option_map Texts (texts_refusal run a entry)
+    else (if brings_line_up run entry then option_map LineUp (line_up_refusal run a entry)
+    else option_map (fed_refusal entry) (unit_refusal run a entry))
 
 -- why the record is refused; a tick is not fed
 abbrev pub air_cause : Run → Air → ℕ × AccessUnit → Option AirRefusal
@@ -180,6 +227,7 @@ greatest_by a (Feed unit) = a.greatest
 greatest_by a (Ahead far) = a.greatest
 greatest_by a (Followed packet from to) = to
 greatest_by a (Texts refusal) = a.greatest
+greatest_by a (LineUp refusal) = a.greatest
 
 -- the records that leap after a refused record: unchanged if the record is not too far ahead, none if the run follows the record, otherwise with the record
 unfoldable pub leap_left : Run → Air → ℕ × AccessUnit → AirRefusal → Leap
@@ -187,10 +235,12 @@ leap_left run a entry (Feed unit) = a.leap
 leap_left run a entry (Ahead far) = leap_by run a entry
 leap_left run a entry (Followed packet from to) = no_leap
 leap_left run a entry (Texts refusal) = a.leap
+leap_left run a entry (LineUp refusal) = a.leap
 
 -- a unit, a tick or texts are taken: the slots that its DTS settles are written
 abbrev pub taken : Run → Air → ℕ × AccessUnit → List (ℕ × AccessUnit) → TextsSoFar → Air
 taken run a entry accepted changes = record {
+  before = a.before;
   accepted = accepted;
   slots = on_to a.slots (settled_at run entry.1.dts);
   greatest = max a.greatest entry.1.dts;
@@ -208,6 +258,7 @@ changes_with run a (Err refusal) = a.changes
 -- the progress with the texts that bytes are read as on air
 abbrev pub with_read : Run → Air → Result Described DescError → Air
 with_read run a texts = record {
+  before = a.before;
   accepted = a.accepted;
   slots = a.slots;
   greatest = a.greatest;
@@ -227,6 +278,7 @@ changed run a entry = with_read run (taken run a entry a.accepted a.changes) (de
 -- a refused record writes no slot
 unfoldable pub judged_by : Run → Air → ℕ × AccessUnit → Option AirRefusal → Air
 judged_by run a entry (Some cause) = record {
+  before = a.before;
   accepted = a.accepted;
   slots = a.slots;
   greatest = greatest_by a cause;
@@ -243,6 +295,7 @@ judged run a entry = judged_by run a entry (air_cause run a entry)
 -- the same progress with this number of slots
 abbrev pub with_count : Air → ℕ → Air
 with_count a slots = record {
+  before = a.before;
   accepted = a.accepted;
   slots = slots;
   greatest = a.greatest;
@@ -259,6 +312,7 @@ slots_followed run a (Some (Feed unit)) = a.slots
 slots_followed run a (Some (Ahead far)) = a.slots
 slots_followed run a (Some (Followed packet from to)) = on_to a.slots (settled_at run to)
 slots_followed run a (Some (Texts refusal)) = a.slots
+slots_followed run a (Some (LineUp refusal)) = a.slots
 
 abbrev pub caught_up : Run → Air → Option AirRefusal → Air
 caught_up run a refused = with_count a (slots_followed run a refused)
@@ -266,19 +320,6 @@ caught_up run a refused = with_count a (slots_followed run a refused)
 -- the progress after a record was judged, and followed if it is the last of a leap
 abbrev pub aired : Run → Air → ℕ × AccessUnit → Air
 aired run a entry = caught_up run (judged run a entry) (air_cause run a entry)
-
--- ---- a whole input
-
--- the progress after a read: unchanged if the read gives no record
-unfoldable pub with_record : Run → Result (Option (ℕ × AccessUnit)) UnitFileError → Air → Air
-with_record run (Ok (Some entry)) a = aired run a entry
-with_record run (Ok None) a = a
-with_record run (Err fault) a = a
-
--- the progress after n records of an input
-unfoldable pub heard : Run → ℕ → List ℕ → Air
-heard run zero xs = silence
-heard run (suc n) xs = with_record run (record_at (after_records n xs)) (heard run n xs)
 
 -- the progress at the end of the input
 abbrev pub ended : Run → Air → Air

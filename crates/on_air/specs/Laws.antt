@@ -13,10 +13,10 @@ use Rattle.mux_core.specs.RecordRuns.{after_records}
 use Rattle.mux_core.specs.WholeJobs.{job_history, output_of, first_refused}
 use Rattle.mux_core.specs.declared.room.Room.{Room}
 use Rattle.on_air.specs.declared.refusals.AirRefusal.{AirRefusal}
-use Rattle.on_air.specs.declared.refusals.AirRefusal.TheVariants.{Feed, Ahead, Followed, Texts}
+use Rattle.on_air.specs.declared.refusals.AirRefusal.TheVariants.{Feed, Ahead, Followed, Texts, LineUp}
 use Rattle.on_air.specs.Leaps.{is_near, leap_records}
 use Rattle.on_air.specs.Airing.{Run, Air, greatest_lead, is_tick, is_far_from, lead_of, limit_of, last_at, HasRoom, settled_at, on_to, air_cause, aired}
-use Rattle.on_air.specs.Airing.{heard, ended, air_output}
+use Rattle.on_air.specs.Courses.{IsFirst, course_ended, heard, output_at}
 use Rattle.on_air.specs.AirStates.{Promises}
 
 -- a unit that a stream accepts before the first slot is also accepted later, if no slot from its release on is written and there is room for it
@@ -72,13 +72,13 @@ pub record AiredAll (a : Air) (records : List (ℕ × AccessUnit)) : Type 0 wher
   pub refused : a.refused ≡ []
 
 abbrev pub AiredInOrder : Type 0
-AiredInOrder = (run : Run) (other : Room) (n : ℕ) (xs : List ℕ) → IsJobInOrder run other (records_of n xs) → AiredAll (heard run n xs) (records_of n xs)
+AiredInOrder = (run : Run) (other : Room) (n : ℕ) (xs : List ℕ) → IsJobInOrder run other (records_of n xs) → AiredAll (heard run n xs).air (records_of n xs)
 
 -- if no record is refused, in order or not, the output is the output of the whole job, multiplexed at once: with the number of slots that the terms ask for,
 -- otherwise up to the greatest DTS
 abbrev pub AiredAsMultiplexed : Type 0
-AiredAsMultiplexed = (run : Run) (other : Room) (n : ℕ) (xs : List ℕ) → first_refused run.scheduled other [] (records_of n xs) ≡ None → (heard run n xs).refused ≡ [] →
-    air_output run (ended run (heard run n xs))
+AiredAsMultiplexed = (run : Run) (other : Room) (n : ℕ) (xs : List ℕ) → first_refused run.scheduled other [] (records_of n xs) ≡ None → (heard run n xs).air.refused ≡ [] →
+    output_at (course_ended (heard run n xs))
     ≡ output_of run.hex run.scheduled (job_history (records_of n xs) (last_at run (greatest_of (records_of n xs))))
 
 -- ---- records that leap
@@ -143,10 +143,11 @@ IsJudgedAlone (Some (Feed unit)) = IsOwnCause unit.cause
 IsJudgedAlone (Some (Ahead far)) = ⊥
 IsJudgedAlone (Some (Followed packet from to)) = ⊥
 IsJudgedAlone (Some (Texts refusal)) = ⊤
+IsJudgedAlone (Some (LineUp refusal)) = ⊤
 
--- after any input, however damaged, such a record is refused for no other cause: neither for its time nor for the room, if the run has the room that its
--- streams need
+-- after any input, however damaged, such a record is refused for no other cause, as long as no other line-up has come: neither for its time nor for the room, if
+-- the run has the room that its streams need
 abbrev pub NearIsJudgedAlone : Type 0
 NearIsJudgedAlone = (run : Run) (n : ℕ) (xs : List ℕ) (entry : ℕ × AccessUnit) → Promises run.scheduled →
-    HasRoom run run.scheduled.description.streams → ComesNear run (heard run n xs) entry →
-    IsJudgedAlone (air_cause run (heard run n xs) entry)
+    HasRoom run run.scheduled.description.streams → IsFirst (heard run n xs) → ComesNear run (heard run n xs).air entry →
+    IsJudgedAlone (air_cause run (heard run n xs).air entry)

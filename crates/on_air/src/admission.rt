@@ -2,8 +2,8 @@
 
 ghost use Rattle.std.specs.Prelude.{◌≡◌, false, option_map};
 ghost use Rattle.on_air.specs.declared.refusals.AirRefusal.TheVariants.{Feed};
-ghost use Rattle.on_air.specs.Airing.{Run, Air, brings_texts, is_far_from, is_tick, job_of};
-ghost use Rattle.on_air.specs.AirStates.{Carries, Promises, Admits};
+ghost use Rattle.on_air.specs.Airing.{Run, Air, changes_run, is_far_from, is_tick, job_of};
+ghost use Rattle.on_air.specs.AirStates.{Carries, Admits};
 
 use crate::refusals::{RefusedUnit, refused_unit};
 use mux_core::Mux;
@@ -24,8 +24,8 @@ pub(crate) fn admit<A: Allocator>(
     stream: u8,
     unit: Unit<A>,
 ) -> Option<RefusedUnit>
-    ensures { (run : Run) (a : Air) → Carries run (job_of a) mux.old → Promises run.scheduled →
-        is_far_from run a (stream, unit) ≡ false → brings_texts run (stream, unit) ≡ false →
+    ensures { (run : Run) (a : Air) → Carries run (job_of a) mux.old →
+        is_far_from run a (stream, unit) ≡ false → changes_run run (stream, unit) ≡ false →
         Admits run a (stream, unit) (option_map Feed result) mux.new }
 {
     if is_tick(stream, &unit) {

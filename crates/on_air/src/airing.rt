@@ -1,22 +1,23 @@
 //! A run without end: its calls.
 
-ghost use Rattle.std.specs.Prelude.{◌≡◌, ◌<◌, ◌≤◌, ◌-◌, ◌+◌, ◌^◌, ◌==◌, ◌&&◌, ℕ, List, [], Option, Some, None, Ok, Err, true, IfOk, IfErr, OnOk, OnErr};
+ghost use Rattle.std.specs.Prelude.{◌≡◌, ◌<◌, ◌≤◌, ◌-◌, ◌+◌, ◌^◌, ◌==◌, ◌&&◌, ℕ, List, [], Option, Some, true, IfOk, IfErr, OnOk, OnErr};
 ghost use Rattle.counted_io.specs.Device.{Failed};
 ghost use Rattle.mux_core.specs.Buffer.{waiting_of};
 ghost use Rattle.pes_packet.specs.AccessUnits.{AccessUnit};
-ghost use Rattle.on_air.specs.Airing.{Run, Air, air_cause, caught_up, ended, is_far_from, judged, on_to, settled_at, texts_cause};
-ghost use Rattle.on_air.specs.Airing.{texts_now, with_count, with_texts};
+ghost use Rattle.on_air.specs.Airing.{Run, Air, air_cause, caught_up, ended, is_far_from, judged, on_to, settled_at, taken};
+ghost use Rattle.on_air.specs.Airing.{texts_now, with_count};
 ghost use Rattle.on_air.specs.AirStates.{IsOnAir, IsOut};
-ghost use Rattle.on_air.specs.Hearing.{Fails, Hears, IsNearTexts, JudgesTexts, TakesUnit, CountsRecord, CountsRecords, CountsTaken};
-ghost use Rattle.on_air.specs.Hearing.{LetsOut, NamesDevice, HasHeard, HearsOn};
+ghost use Rattle.on_air.specs.Courses.{Course};
+ghost use Rattle.on_air.specs.Hearing.{Fails, Hears, IsNearChange, IsOn, TakesUnit, CountsRecord};
+ghost use Rattle.on_air.specs.Hearing.{CountsRecords, CountsTaken, LetsOut, NamesDevice, HasHeard, HearsOn};
 
 use crate::admission::admit;
 use crate::answers::{Ending, Heard, Verdict};
 use crate::leap::{Leap, is_far};
+use crate::line_up::has_plan;
 use crate::options::Terms;
 use crate::refusals::{AirRefusal, FarRecord};
 use crate::slots::{last_slot, settled, write_on};
-use crate::texts::{TextsError, judged_texts};
 use crate::waiting::holds_record;
 use clock27::Rate;
 use counted_io::Sink;
@@ -28,11 +29,11 @@ use std::alloc::{Allocator, Global};
 use std::marker::Model;
 use unit_records::read_unit;
 
-/// The stream of records that bring texts.
-const TEXTS: u8 = 254;
+/// The stream of records that bring texts or line-ups.
+const CHANGES: u8 = 254;
 
 /// A run without end. It takes its memory when it is made; a record takes memory for its unit's bytes, until the unit
-/// is sent.
+/// is sent, and a line-up takes memory in place of the one before it.
 #[derive(Drop)]
 pub struct OnAir<A: Allocator = Global> {
     pub(crate) mux: Mux<A>,
@@ -44,6 +45,7 @@ pub struct OnAir<A: Allocator = Global> {
     pub(crate) leap: Leap,
     pub(crate) records: u64,
     pub(crate) one_plan: bool,
+    pub(crate) gone: Vec<u16, A>,
 }
 
 impl<A: Allocator> Model for OnAir<A> {
@@ -61,6 +63,7 @@ impl<A: Allocator> Model for OnAir<A> {
       leap = o.leap;
       records = o.records;
       one_plan = o.one_plan;
+      gone = o.gone.items;
     } };
 }
 
@@ -109,6 +112,7 @@ impl<A: Allocator + Copy> OnAir<A> {
             AirRefusal::Ahead(_) => Ok(()),
             AirRefusal::Feed(_) => Ok(()),
             AirRefusal::Texts(_) => Ok(()),
+            AirRefusal::LineUp(_) => Ok(()),
         }
     }
 
@@ -148,11 +152,11 @@ impl<A: Allocator + Copy> OnAir<A> {
         self.mux.texts()
     }
 
-    // Returns whether records of a stream bring texts.
-    fn brings_texts(&self, stream: u8) -> bool
+    // Returns whether records of a stream bring texts or line-ups.
+    fn changes_run(&self, stream: u8) -> bool
         ensures { result ≡ (self.now.one_plan && (stream == 254)) }
     {
-        self.one_plan && stream == TEXTS
+        self.one_plan && stream == CHANGES
     }
 
     // Writes what waits. Nothing waits then.
@@ -190,6 +194,26 @@ impl<A: Allocator + Copy> OnAir<A> {
         write_on(&mut self.mux, target, &mut self.packets, to)
     }
 
+    // Counts a record, and writes the slots that its DTS settles; an incomplete last part waits.
+    pub(crate) fn tick<W: Sink>(&mut self, due: u64, to: &mut W) -> Result<(), OutputFault>
+        requires { self.old.records < 2 ^ 64 - 1 }
+        ensures ok { (run : Run) (a : Air) (entry : ℕ × AccessUnit) (start : Option (List ℕ)) →
+            IsOnAir run a start (W.contents to.old) self.old → due ≡ entry.1.dts →
+            OnOk result (IsOnAir run (taken run a entry a.accepted a.changes) start (W.contents to.new) self.new) }
+        ensures err { (run : Run) (a : Air) (entry : ℕ × AccessUnit) (start : Option (List ℕ)) →
+            IsOnAir run a start (W.contents to.old) self.old → due ≡ entry.1.dts →
+            IfErr result (λ fault. Fails run (taken run a entry a.accepted a.changes) start (W.contents to.new) fault.sent) }
+        ensures records { OnOk result (self.new.records ≡ self.old.records + 1) }
+        ensures clean { OnOk result (W.fault_count to.new ≡ W.fault_count to.old) }
+        ensures fault { OnErr result (Failed (W.fault_count to.old) (W.fault_count to.new)) }
+    {
+        self.records += 1;
+        self.leap = Leap::none();
+        let greatest = self.greatest.max(due);
+        self.greatest = greatest;
+        self.write_until(due, to)
+    }
+
     // Refuses a record that is too far ahead, and counts it among the records that leap.
     fn pass_over(&mut self, stream: u8, due: u64) -> AirRefusal
         requires { self.old.records < 2 ^ 64 - 1 }
@@ -225,7 +249,7 @@ impl<A: Allocator + Copy> OnAir<A> {
 impl OnAir {
     /// Takes the next record: judges it, and writes the slots that it settles, to the last byte if a read of the
     /// record after it may wait. A refused record changes nothing; if the run follows it, `follow` writes the slots
-    /// between. Texts are in force from the slot after these.
+    /// between. Texts are in force from the slot after these, a line-up from the next slot on, before these.
     pub fn hear<R: HeldInput, W: Sink>(
         &mut self,
         alloc: Global,
@@ -258,6 +282,7 @@ impl OnAir {
                     Err(fault) => Err(fault),
                 },
                 Ok(Verdict::TextsFrom(slot)) => Ok(Heard::Changed { index, slot }),
+                Ok(Verdict::LineUpFrom(slot)) => Ok(Heard::LinedUp { index, slot }),
                 Ok(Verdict::RefusedFor(cause)) => Ok(Heard::Refused { index, cause }),
                 Ok(Verdict::NoMemory) => Ok(Heard::Ended(Ending::TextsMemory)),
                 Err(fault) => Err(fault),
@@ -265,16 +290,17 @@ impl OnAir {
         }
     }
 
-    /// Takes records up to a refused record, a change of the texts, or the end. Before a read that may wait it writes all settled slots.
+    /// Takes records up to a refused record, a change of the texts or of the line-up, or the end. Before a read that may
+    /// wait it writes all settled slots.
     pub fn hear_on<R: HeldInput, W: Sink>(
         &mut self,
         alloc: Global,
         input: &mut R,
         to: &mut W,
     ) -> Result<Heard, OutputFault>
-        ensures heard { (run : Run) (n : ℕ) (a : Air) (origin start : Option (List ℕ)) →
-            IsOnAir run a start (W.contents to.old) self.old → HasHeard run n a origin (R.remaining input.old) →
-            HearsOn run a origin (R.remaining input.new) start (W.contents to.new) result self.new }
+        ensures heard { (first : Run) (n : ℕ) (c : Course) (origin start : Option (List ℕ)) →
+            IsOn c start (W.contents to.old) self.old → HasHeard first n c origin (R.remaining input.old) →
+            HearsOn first c origin (R.remaining input.new) start (W.contents to.new) result self.new }
         ensures counts { IfOk result (CountsRecords self.old.records self.new.records) }
         ensures fault { NamesDevice result (R.fault_count input.old) (R.fault_count input.new)
             (W.fault_count to.old) (W.fault_count to.new) }
@@ -290,6 +316,7 @@ impl OnAir {
                     return Ok(Heard::Refused { index, cause });
                 }
                 Ok(Heard::Changed { index, slot }) => return Ok(Heard::Changed { index, slot }),
+                Ok(Heard::LinedUp { index, slot }) => return Ok(Heard::LinedUp { index, slot }),
                 Ok(Heard::Ended(why)) => return Ok(Heard::Ended(why)),
                 Err(fault) => return Err(fault),
             }
@@ -317,8 +344,8 @@ impl OnAir {
             drop(unit);
             return Ok(Verdict::RefusedFor(self.pass_over(stream, due)));
         }
-        if self.brings_texts(stream) {
-            return self.take_texts(alloc, stream, unit, to);
+        if self.changes_run(stream) {
+            return self.take_change(alloc, stream, unit, to);
         }
         self.records += 1;
         match admit(&mut self.mux, stream, unit) {
@@ -334,8 +361,8 @@ impl OnAir {
         }
     }
 
-    // Judges the texts of a record that is not too far ahead.
-    fn take_texts<W: Sink>(
+    // Judges the texts or the line-up of a record that is not too far ahead.
+    fn take_change<W: Sink>(
         &mut self,
         alloc: Global,
         stream: u8,
@@ -344,80 +371,16 @@ impl OnAir {
     ) -> Result<Verdict, OutputFault>
         requires { self.old.records < 2 ^ 64 - 1 }
         ensures takes { (run : Run) (a : Air) (start : Option (List ℕ)) →
-            IsOnAir run a start (W.contents to.old) self.old → IsNearTexts run a (stream, unit) →
+            IsOnAir run a start (W.contents to.old) self.old → IsNearChange run a (stream, unit) →
             TakesUnit run a (stream, unit) start (W.contents to.new) result self.new }
         ensures records { IfOk result (CountsTaken self.old.records self.new.records) }
         ensures clean { OnOk result (W.fault_count to.new ≡ W.fault_count to.old) }
         ensures fault { OnErr result (Failed (W.fault_count to.old) (W.fault_count to.new)) }
     {
-        let due = unit.dts;
-        let judged = judged_texts(alloc, &self.mux, &unit.bytes);
-        drop(unit);
-        match judged {
-            Ok(texts) => self.change(texts, due, to),
-            Err(error) => Ok(self.refuse(error)),
+        if has_plan(&unit.bytes) {
+            self.take_line_up(alloc, stream, unit, to)
+        } else {
+            self.take_texts(alloc, stream, unit, to)
         }
-    }
-
-    // Returns the answer about texts that are not put on air; counts their record if they are refused.
-    fn refuse(&mut self, error: TextsError) -> Verdict
-        requires { self.old.records < 2 ^ 64 - 1 }
-        ensures takes { (run : Run) (a : Air) (entry : ℕ × AccessUnit) (start now : Option (List ℕ)) →
-            IsOnAir run a start now self.old → IsNearTexts run a entry → JudgesTexts run a entry.1.bytes (Err error) →
-            TakesUnit run a entry start now (Ok result) self.new }
-        ensures records { CountsTaken self.old.records self.new.records result }
-    {
-        match error {
-            TextsError::Memory => Verdict::NoMemory,
-            TextsError::Refused(cause) => {
-                self.records += 1;
-                Verdict::RefusedFor(AirRefusal::Texts(cause))
-            }
-        }
-    }
-
-    // Writes the slots that a DTS settles, and puts texts on air after them; an incomplete last part waits.
-    fn change<W: Sink>(
-        &mut self,
-        texts: Description,
-        due: u64,
-        to: &mut W,
-    ) -> Result<Verdict, OutputFault>
-        requires { self.old.records < 2 ^ 64 - 1 }
-        ensures takes { (run : Run) (a : Air) (entry : ℕ × AccessUnit) (start : Option (List ℕ)) →
-            IsOnAir run a start (W.contents to.old) self.old → IsNearTexts run a entry → due ≡ entry.1.dts →
-            JudgesTexts run a entry.1.bytes (Ok texts) →
-            TakesUnit run a entry start (W.contents to.new) result self.new }
-        ensures records { IfOk result (CountsTaken self.old.records self.new.records) }
-        ensures clean { OnOk result (W.fault_count to.new ≡ W.fault_count to.old) }
-        ensures fault { OnErr result (Failed (W.fault_count to.old) (W.fault_count to.new)) }
-    {
-        self.records += 1;
-        self.leap = Leap::none();
-        let greatest = self.greatest.max(due);
-        self.greatest = greatest;
-        match self.write_until(due, to) {
-            Ok(()) => {}
-            Err(fault) => {
-                drop(texts);
-                return Err(fault);
-            }
-        }
-        Ok(Verdict::TextsFrom(self.put_on_air(texts)))
-    }
-
-    // Puts texts on air from the next slot on, and returns this slot.
-    fn put_on_air(&mut self, texts: Description) -> u64
-        ensures slot { (run : Run) (a : Air) (start now : Option (List ℕ)) → IsOnAir run a start now self.old →
-            result ≡ a.slots }
-        ensures changes { (run : Run) (a : Air) (start now : Option (List ℕ)) → IsOnAir run a start now self.old →
-            texts_cause run.scheduled.description (texts_now run a) (Ok texts) ≡ None →
-            IsOnAir run (with_texts run a texts) start now self.new }
-        ensures records { self.new.records ≡ self.old.records }
-    {
-        let slot = self.mux.now();
-        // These texts were judged before, and are not refused.
-        let _ = self.mux.change_texts(texts);
-        slot
     }
 }

@@ -12,6 +12,8 @@ pub enum Heard {
     Refused { index: u64, cause: AirRefusal },
     /// The record of this number changed the texts: they are in force from this slot on.
     Changed { index: u64, slot: u64 },
+    /// The record of this number brought a line-up: it is in force from this slot on.
+    LinedUp { index: u64, slot: u64 },
     /// No record was taken, and none will be.
     Ended(Ending),
 }
@@ -23,8 +25,10 @@ pub(crate) enum Verdict {
     Accepted,
     /// Its texts are in force from this slot on.
     TextsFrom(u64),
+    /// Its line-up is in force from this slot on.
+    LineUpFrom(u64),
     RefusedFor(AirRefusal),
-    /// There was no memory for its texts; nothing changed.
+    /// There was no memory for its texts or its line-up; nothing changed.
     NoMemory,
 }
 
@@ -39,6 +43,6 @@ pub enum Ending {
     Slots,
     /// 2^64 - 1 records were heard.
     Records,
-    /// There was no memory for the texts of a record.
+    /// There was no memory for the texts or the line-up of a record.
     TextsMemory,
 }

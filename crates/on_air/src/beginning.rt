@@ -79,14 +79,14 @@ impl<A: Allocator + Copy> OnAir<A> {
 
 // Numbers of a run.
 #[derive(Clone, Copy)]
-struct Numbers {
-    rate: Rate,
-    lead: u64,
+pub(crate) struct Numbers {
+    pub(crate) rate: Rate,
+    pub(crate) lead: u64,
     room: Room,
 }
 
 // Returns the numbers of a run over a description.
-fn numbers_of(description: &Description, terms: Terms) -> Numbers
+pub(crate) fn numbers_of(description: &Description, terms: Terms) -> Numbers
     ensures rate { result.rate ≡ description.now.rate }
     ensures lead { result.lead ≡ greatest_lead description.now.streams + terms.wait }
     ensures room { result.room ≡ room_by terms.room (greatest_lead description.now.streams + terms.wait) }
@@ -127,6 +127,7 @@ fn begun<A: Allocator + Copy>(
             leap: Leap::none(),
             records: 0,
             one_plan,
+            gone: Vec::new(alloc),
         }),
         Err(_) => {
             drop(mux);

@@ -5,7 +5,9 @@ ghost use Rattle.on_air.specs.Airing as spec;
 
 use changed_texts::TextFault;
 use description_keys::DescFault;
+use line_ups::LineUpFault;
 use pes_packet::Unit;
+use plan_checker::Refusal;
 use std::alloc::Allocator;
 use unit_queue::FeedError;
 
@@ -58,6 +60,23 @@ pub enum TextsRefusal {
     Fault(TextFault),
 }
 
+/// Why a line-up, a description with its plan, is refused.
+#[derive(Clone, Copy)]
+pub enum LineUpRefusal {
+    /// The description is refused.
+    Unread(DescFault),
+    /// A bad line in the plan.
+    PlanLine(u32),
+    /// A condition that does not hold for the plan.
+    Plan(Refusal),
+    /// A PID that an earlier line-up had, and the one in force does not have.
+    Returned(u16),
+    /// What stays would not stay as it is.
+    Fault(LineUpFault),
+    /// A stream goes on this PID although a unit of it waits.
+    Waiting(u16),
+}
+
 /// Why a record is refused. It moves nothing, except if the run follows it.
 #[derive(Clone, Copy)]
 pub enum AirRefusal {
@@ -71,4 +90,6 @@ pub enum AirRefusal {
     Followed { packet: u64, from: u64, to: u64 },
     /// Its texts can't be put on air.
     Texts(TextsRefusal),
+    /// Its line-up can't take the place of the one in force.
+    LineUp(LineUpRefusal),
 }

@@ -3,10 +3,11 @@
 ghost use Rattle.std.specs.Prelude.{◌≡◌, ◌≤◌, ◌^◌, ℕ, [], List, Option, OnOk, OnErr, IfErr};
 ghost use Rattle.counted_io.specs.Device.{Failed};
 ghost use Rattle.mux_core.specs.Buffer.{IsOutput, Took};
+ghost use Rattle.slot_contents.specs.Contents.{Content};
 ghost use Rattle.mux_core.specs.Histories.{History};
-ghost use Rattle.mux_core.specs.WholeJobs.{output_of};
+ghost use Rattle.mux_core.specs.WholeJobs.{run_output};
 ghost use Rattle.on_air.specs.Airing.{Run, settled, last_of, on_to};
-ghost use Rattle.on_air.specs.AirStates.{Carries, with_slots, WroteOn};
+ghost use Rattle.on_air.specs.AirStates.{Carries, GoesOn, with_slots, WroteOn};
 
 use crate::options::Terms;
 use clock27::{Rate, release_slot};
@@ -46,14 +47,17 @@ pub(crate) fn write_on<A: Allocator, B: Allocator, W: Sink>(
     to: &mut W,
 ) -> Result<(), OutputFault>
     requires target { target ≤ 2 ^ 40 }
-    ensures ok { (run : Run) (h : History) (start : Option (List ℕ)) → Carries run h mux.old →
-        IsOutput start (W.contents to.old) packets.old (output_of packets.old.hex run.scheduled h) →
-        OnOk result (WroteOn run (with_slots h (on_to h.slots target)) packets.old.hex start (W.contents to.new) mux.new
-        packets.new) }
-    ensures err { (run : Run) (h : History) (start : Option (List ℕ)) → Carries run h mux.old →
-        IsOutput start (W.contents to.old) packets.old (output_of packets.old.hex run.scheduled h) →
+    // The output carries `content` from the first slot of the run on.
+    ensures ok { (run : Run) (h : History) (content : ℕ → Content) (start : Option (List ℕ)) →
+        Carries run h mux.old → GoesOn run.scheduled h content →
+        IsOutput start (W.contents to.old) packets.old (run_output packets.old.hex content 0 h.slots) →
+        OnOk result (WroteOn run (with_slots h (on_to h.slots target)) content packets.old.hex start (W.contents to.new)
+        mux.new packets.new) }
+    ensures err { (run : Run) (h : History) (content : ℕ → Content) (start : Option (List ℕ)) →
+        Carries run h mux.old → GoesOn run.scheduled h content →
+        IsOutput start (W.contents to.old) packets.old (run_output packets.old.hex content 0 h.slots) →
         IfErr result (λ fault. Took start (W.contents to.new) fault.sent
-        (output_of packets.old.hex run.scheduled (with_slots h (on_to h.slots target)))) }
+        (run_output packets.old.hex content 0 (on_to h.slots target))) }
     ensures clean { OnOk result (W.fault_count to.new ≡ W.fault_count to.old) }
     ensures fault { OnErr result (Failed (W.fault_count to.old) (W.fault_count to.new)) }
 {

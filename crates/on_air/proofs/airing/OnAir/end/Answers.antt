@@ -1,8 +1,9 @@
 use Rattle.std.proofs.Common.{sym, ap, ◌∙◌, subst}
 use Rattle.mux_core.specs.MuxStates.{MuxState}
-use Rattle.on_air.specs.Airing.{job_of, ended}
+use Rattle.on_air.specs.Airing.{content_with, job_of, ended}
 use Rattle.on_air.specs.AirStates.{AirState, Carries}
 use Rattle.on_air.proofs.Aired.{count_fails, counted_on, counted_same, end_output, fails_same, last_same}
+use Rattle.on_air.proofs.Contents.{line_up_goes_on}
 use Rattle.on_air.proofs.airing.OnAir.end.Goals as goal
 
 pub returns-in-Ok-clause-ok : goal.returns-in-Ok-clause-ok
@@ -17,10 +18,11 @@ returns-in-Ok-clause-ok g c = λ run a start h.
     c.flush.ensures.ok run (ended run a) start
     (counted_same run a _ _ start _ _ is
     (counted_on run a c.last_slot-target.result c.self.inside.packets.hex start _ _ c.args.self.now _ h
-    (record { terms = terms; rate = rate; lead = ap (λ (x : AirState). x.lead) c.self.view_is; one_plan = ap (λ (x : AirState). x.one_plan) c.self.view_is })
+    (record { terms = terms; rate = rate; lead = ap (λ (x : AirState). x.lead) c.self.view_is; one_plan = ap (λ (x : AirState). x.one_plan) c.self.view_is; gone = ap (λ (x : AirState). x.gone) c.self.view_is })
     (ap (λ (x : AirState). x.packets.hex) c.self.view_is) greatest (ap (λ (x : AirState). x.leap) c.self.view_is)
     (ap (λ (x : AirState). x.records) c.self.view_is)
-    (c.in-Ok.ensures.ok run (job_of a) start carries (end_output run a start _ c.args.self.now c.self.inside.packets h packets))))
+    (c.in-Ok.ensures.ok run (job_of a) (content_with run a.before a.accepted a.changes) start carries (line_up_goes_on run a h.begun)
+    (end_output run a start _ c.args.self.now c.self.inside.packets h packets))))
 
 pub returns-in-Ok-clause-err : goal.returns-in-Ok-clause-err
 returns-in-Ok-clause-err g c = λ run a start h.
@@ -34,10 +36,11 @@ returns-in-Ok-clause-err g c = λ run a start h.
     c.flush.ensures.err run (ended run a) start
     (counted_same run a _ _ start _ _ is
     (counted_on run a c.last_slot-target.result c.self.inside.packets.hex start _ _ c.args.self.now _ h
-    (record { terms = terms; rate = rate; lead = ap (λ (x : AirState). x.lead) c.self.view_is; one_plan = ap (λ (x : AirState). x.one_plan) c.self.view_is })
+    (record { terms = terms; rate = rate; lead = ap (λ (x : AirState). x.lead) c.self.view_is; one_plan = ap (λ (x : AirState). x.one_plan) c.self.view_is; gone = ap (λ (x : AirState). x.gone) c.self.view_is })
     (ap (λ (x : AirState). x.packets.hex) c.self.view_is) greatest (ap (λ (x : AirState). x.leap) c.self.view_is)
     (ap (λ (x : AirState). x.records) c.self.view_is)
-    (c.in-Ok.ensures.ok run (job_of a) start carries (end_output run a start _ c.args.self.now c.self.inside.packets h packets))))
+    (c.in-Ok.ensures.ok run (job_of a) (content_with run a.before a.accepted a.changes) start carries (line_up_goes_on run a h.begun)
+    (end_output run a start _ c.args.self.now c.self.inside.packets h packets))))
 
 pub returns-in-Err-clause-err : goal.returns-in-Err-clause-err
 returns-in-Err-clause-err g c = λ run a start h.
@@ -51,4 +54,5 @@ returns-in-Err-clause-err g c = λ run a start h.
     fails_same run a _ _ c.in-Err.fault.sent start _ is
     (count_fails run a c.last_slot-target.result c.in-Err.fault.sent c.self.inside.packets.hex start _ _ c.args.self.now h
     (ap (λ (x : AirState). x.packets.hex) c.self.view_is)
-    (c.in-Err.ensures.err run (job_of a) start carries (end_output run a start _ c.args.self.now c.self.inside.packets h packets)))
+    (c.in-Err.ensures.err run (job_of a) (content_with run a.before a.accepted a.changes) start carries (line_up_goes_on run a h.begun)
+    (end_output run a start _ c.args.self.now c.self.inside.packets h packets)))

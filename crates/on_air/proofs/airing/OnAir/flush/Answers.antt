@@ -17,6 +17,7 @@ returns-clause-ok g c = λ run a start h.
       rate = ap (λ (x : AirState). x.rate) c.self.view_is;
       lead = ap (λ (x : AirState). x.lead) c.self.view_is;
       one_plan = ap (λ (x : AirState). x.one_plan) c.self.view_is;
+      gone = ap (λ (x : AirState). x.gone) c.self.view_is;
     })
     (ap (λ (x : AirState). x.mux) c.self.view_is) (c.flush.ensures.hex ∙ ap (λ (p : Buffered). p.hex) packets)
     (ap (λ (x : AirState). x.greatest) c.self.view_is) (ap (λ (x : AirState). x.leap) c.self.view_is) (ap (λ (x : AirState). x.records) c.self.view_is) out)

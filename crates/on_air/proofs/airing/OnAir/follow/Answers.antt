@@ -1,4 +1,4 @@
-use Rattle.on_air.proofs.Aired.{follow_fails, followed_on, stays_ahead, stays_fed, stays_texts}
+use Rattle.on_air.proofs.Aired.{follow_fails, followed_on, stays_ahead, stays_fed, stays_line_up, stays_texts}
 use Rattle.on_air.proofs.airing.OnAir.follow.Goals as goal
 
 pub returns-in-Followed-clause-ok : goal.returns-in-Followed-clause-ok
@@ -17,3 +17,6 @@ returns-in-Feed-clause-ok g c = λ run a start h. stays_fed run a c.args.refusal
 
 pub returns-in-Texts-clause-ok : goal.returns-in-Texts-clause-ok
 returns-in-Texts-clause-ok g c = λ run a start h. stays_texts run a c.args.refusal c.in-Texts.field-0 start _ _ c.in-Texts.is h
+
+pub returns-in-LineUp-clause-ok : goal.returns-in-LineUp-clause-ok
+returns-in-LineUp-clause-ok g c = λ run a start h. stays_line_up run a c.args.refusal c.in-LineUp.field-0 start _ _ c.in-LineUp.is h

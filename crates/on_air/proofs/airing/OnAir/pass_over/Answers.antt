@@ -16,7 +16,7 @@ returns-then-not-is_followed-clause-passes g c = λ run a entry start now h stre
     (ap (λ (x : AirState). x.leap) c.self.view_is) due in
     let few : is_followed (leap_by run a entry) ≡ false = ap (λ (l : Leap). is_followed l) (sym leap) ∙ sym c.is_followed.ensures ∙ c.if-not-is_followed.true in
     passed_over run a entry c.args.stream c.self.inside.greatest c.args.due c.self.inside.terms.ahead start now c.args.self.now _ h
-    (record { terms = terms; rate = ap (λ (x : AirState). x.rate) c.self.view_is; lead = ap (λ (x : AirState). x.lead) c.self.view_is; one_plan = ap (λ (x : AirState). x.one_plan) c.self.view_is }) far few
+    (record { terms = terms; rate = ap (λ (x : AirState). x.rate) c.self.view_is; lead = ap (λ (x : AirState). x.lead) c.self.view_is; one_plan = ap (λ (x : AirState). x.one_plan) c.self.view_is; gone = ap (λ (x : AirState). x.gone) c.self.view_is }) far few
     stream (ap (λ (x : AirState). x.greatest) c.self.view_is) due (ap (λ (t : Terms). t.ahead) terms)
     (ap (λ (x : AirState). x.mux) c.self.view_is) (ap (λ (x : AirState). x.packets) c.self.view_is) (ap (λ (x : AirState). x.greatest) c.self.view_is) leap
     (ap (λ (x : AirState). x.records + 1) c.self.view_is)
@@ -31,7 +31,7 @@ returns-clause-passes g c = λ run a entry start now h stream due far.
     let many : is_followed (leap_by run a entry) ≡ true = ap (λ (l : Leap). is_followed l) (sym leap) ∙ sym c.is_followed.ensures
     ∙ c.if-not-is_followed.false in
     passed_last run a entry c.now-packet.result c.self.inside.greatest c.args.due start now c.args.self.now _ h
-    (record { terms = terms; rate = ap (λ (x : AirState). x.rate) c.self.view_is; lead = ap (λ (x : AirState). x.lead) c.self.view_is; one_plan = ap (λ (x : AirState). x.one_plan) c.self.view_is }) far many
+    (record { terms = terms; rate = ap (λ (x : AirState). x.rate) c.self.view_is; lead = ap (λ (x : AirState). x.lead) c.self.view_is; one_plan = ap (λ (x : AirState). x.one_plan) c.self.view_is; gone = ap (λ (x : AirState). x.gone) c.self.view_is }) far many
     (c.now-packet.ensures (job_of a) represents) (ap (λ (x : AirState). x.greatest) c.self.view_is) due
     (ap (λ (x : AirState). x.mux) c.self.view_is) (ap (λ (x : AirState). x.packets) c.self.view_is) refl c.none-self-inside.ensures
     (ap (λ (x : AirState). x.records + 1) c.self.view_is)

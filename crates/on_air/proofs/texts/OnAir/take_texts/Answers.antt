@@ -4,7 +4,7 @@ use Rattle.mux_core.specs.MuxStates.{MuxState}
 use Rattle.on_air.specs.Airing.{job_of}
 use Rattle.on_air.specs.AirStates.{AirState, Carries}
 use Rattle.on_air.specs.Hearing.{JudgesTexts}
-use Rattle.on_air.proofs.airing.OnAir.take_texts.Goals as goal
+use Rattle.on_air.proofs.texts.OnAir.take_texts.Goals as goal
 
 pub returns-in-Ok-clause-takes : goal.returns-in-Ok-clause-takes
 returns-in-Ok-clause-takes g c = λ run a start h t.

@@ -3,7 +3,7 @@ use Rattle.mux_core.specs.MuxStates.{MuxState}
 use Rattle.on_air.specs.Airing.{job_of}
 use Rattle.on_air.specs.AirStates.{AirState, Carries}
 use Rattle.on_air.proofs.TextsOn.{none_refused, put_on}
-use Rattle.on_air.proofs.airing.OnAir.put_on_air.Goals as goal
+use Rattle.on_air.proofs.texts.OnAir.put_on_air.Goals as goal
 
 pub returns-clause-slot : goal.returns-clause-slot
 returns-clause-slot c = λ run a start now h.
@@ -20,5 +20,6 @@ returns-clause-changes c = λ run a start now h none.
       rate = ap (λ (x : AirState). x.rate) c.self.view_is;
       lead = ap (λ (x : AirState). x.lead) c.self.view_is;
       one_plan = ap (λ (x : AirState). x.one_plan) c.self.view_is;
+      gone = ap (λ (x : AirState). x.gone) c.self.view_is;
     }) (ap (λ (x : AirState). x.packets) c.self.view_is) (ap (λ (x : AirState). x.greatest) c.self.view_is) (ap (λ (x : AirState). x.leap) c.self.view_is)
     (ap (λ (x : AirState). x.records) c.self.view_is) carries puts (none_refused run a c.args.texts _ c.self.inside.mux _ carries puts none)
