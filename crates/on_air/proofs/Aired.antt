@@ -31,6 +31,8 @@ use Rattle.on_air.specs.Leaps.{is_far, is_followed, leap_with, no_leap}
 use Rattle.on_air.specs.LineUps.{has_plan}
 use Rattle.on_air.specs.AirStates.{AirState, Carries, with_slots, WroteOn, Promises, Admits, IsOnAir, run_with}
 use Rattle.on_air.specs.Hearing.{Fails}
+use Rattle.on_air.proofs.Contents.{output_same}
+use Rattle.on_air.proofs.TurnsOn.{turn_kept, turns_go_on}
 
 -- If a multiplexer carries a history, the bytes of its units keep every promise in any number of slots, whatever texts change.
 pub keeps : (run : Run) (h later : History) (m : MuxState) → Promises run.scheduled → Carries run h m → later.units ≡ h.units →
@@ -68,7 +70,7 @@ refused_by run a entry cause start now old new h moves packets greatest leap rec
   records = records ∙ ap (λ (n : ℕ). n + 1) h.records;
   one_plan = moves.one_plan ∙ h.one_plan;
   gone = moves.gone ∙ h.gone;
-  begun = h.begun;
+  line_ups = record { begun = h.line_ups.begun; turns = h.line_ups.turns; gone = h.line_ups.gone };
   output = subst (λ (p : Buffered). IsOutput start now p (air_output run a)) (sym packets) h.output;
   headline = h.headline;
 }
@@ -168,8 +170,14 @@ admitted_on run a entry start now old new h moves packets greatest leap records 
   records = records ∙ ap (λ (n : ℕ). n + 1) h.records;
   one_plan = moves.one_plan ∙ h.one_plan;
   gone = moves.gone ∙ h.gone;
-  begun = h.begun;
-  output = subst (λ (l : List ℕ). IsOutput start now new.packets l) (sym admits.before)
+  line_ups = record {
+    begun = h.line_ups.begun;
+    turns = turns_go_on run a.before (job_of a) (history_by a.before (accepted_by a entry None) a.slots a.changes) a.slots h.line_ups.begun admits.before
+        (turn_kept run a.before.from (history_by a.before (accepted_by a entry None) a.slots a.changes)
+        (history_by a.before (accepted_by a entry None) a.slots a.changes) new.mux h.promises admits.mux refl) h.line_ups.turns;
+    gone = h.line_ups.gone;
+  };
+  output = subst (λ (l : List ℕ). IsOutput start now new.packets l) (sym (output_same run a.before a.accepted (accepted_by a entry None) a.slots a.changes a.changes admits.before))
       (subst (λ (p : Buffered). IsOutput start now p (air_output run a)) (sym packets) h.output);
   headline = keeps run (history_by a.before (accepted_by a entry None) a.slots a.changes) (history_by a.before (accepted_by a entry None) a.slots a.changes)
       new.mux h.promises admits.mux refl;
@@ -241,14 +249,18 @@ flushed run a start now later old new h moves mux hex greatest leap records outp
   records = records ∙ h.records;
   one_plan = moves.one_plan ∙ h.one_plan;
   gone = moves.gone ∙ h.gone;
-  begun = h.begun;
+  line_ups = record { begun = h.line_ups.begun; turns = h.line_ups.turns; gone = h.line_ups.gone };
   output = output;
   headline = h.headline;
 }
 
 pub not_flushed : (run : Run) (a : Air) (start now later : Option (List ℕ)) (sent : ℕ) (old : AirState) → IsOnAir run a start now old →
     Took start later sent (air_output run a) → Fails run a start later sent
-not_flushed run a start now later sent old h took = record { took = took; headline = h.headline }
+not_flushed run a start now later sent old h took = record {
+  took = took;
+  line_ups = h.line_ups;
+  headline = h.headline;
+}
 
 -- ---- The end
 
@@ -278,7 +290,12 @@ counted_on run a target hex start now later old new h moves like greatest leap r
   records = records ∙ h.records;
   one_plan = moves.one_plan ∙ h.one_plan;
   gone = moves.gone ∙ h.gone;
-  begun = omega (arith, h.begun);
+  line_ups = record {
+    begun = omega (arith, h.line_ups.begun);
+    turns = turns_go_on run a.before (job_of a) (job_of (with_count a (on_to a.slots target))) a.slots h.line_ups.begun (λ t lt. refl)
+        (turn_kept run a.before.from (job_of a) (job_of (with_count a (on_to a.slots target))) old.mux h.promises h.mux refl) h.line_ups.turns;
+    gone = h.line_ups.gone;
+  };
   output = subst (λ (b : Bool). IsOutput start later new.packets (run_output b (content_with run a.before a.accepted a.changes) 0 (on_to a.slots target)))
       (like ∙ h.hex) wrote.output;
   headline = keeps run (job_of a) (job_of (with_count a (on_to a.slots target))) old.mux h.promises h.mux refl;
@@ -289,6 +306,12 @@ pub count_fails : (run : Run) (a : Air) (target sent : ℕ) (hex : Bool) (start 
     Fails run (with_count a (on_to a.slots target)) start later sent
 count_fails run a target sent hex start now later old h like took = record {
   took = subst (λ (b : Bool). Took start later sent (run_output b (content_with run a.before a.accepted a.changes) 0 (on_to a.slots target))) (like ∙ h.hex) took;
+  line_ups = record {
+    begun = omega (arith, h.line_ups.begun);
+    turns = turns_go_on run a.before (job_of a) (job_of (with_count a (on_to a.slots target))) a.slots h.line_ups.begun (λ t lt. refl)
+        (turn_kept run a.before.from (job_of a) (job_of (with_count a (on_to a.slots target))) old.mux h.promises h.mux refl) h.line_ups.turns;
+    gone = h.line_ups.gone;
+  };
   headline = keeps run (job_of a) (job_of (with_count a (on_to a.slots target))) old.mux h.promises h.mux refl;
 }
 
@@ -395,7 +418,11 @@ begins d terms hex start s carries promises none unsent same t r l g leap n one 
   records = n;
   one_plan = one;
   gone = gone;
-  begun = omega arith;
+  line_ups = record {
+    begun = omega arith;
+    turns = (turn_kept (run_with d terms hex) 0 empty_history empty_history s.mux promises carries refl, refl);
+    gone = λ pid other off. tt;
+  };
   output = holds_none start s.packets none unsent;
   headline = keeps (run_with d terms hex) empty_history empty_history s.mux promises carries refl;
 }

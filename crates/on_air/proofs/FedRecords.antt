@@ -42,12 +42,17 @@ kept_content : (d : Scheduled) (h : History) (capacity : Room) (k t : ℕ) (u : 
 unfolding content_over
 kept_content d h capacity k t u none lt = content_kept feed_laws.later d h capacity k t u (slot_of d.schedule t) refl none lt
 
+slots_stay : (run : Run) (a : Air) (entry : ℕ × AccessUnit) → unit_refusal run a entry ≡ None → (t : ℕ) → t < a.slots →
+    content_over run.scheduled a.changes (history_by a.before (a.accepted ++ (entry ∷ [])) a.slots a.changes).units t
+    ≡ content_over run.scheduled a.changes (job_of a).units t
+slots_stay run a entry none t lt =
+    ap (λ (h : History). content_over run.scheduled a.changes h.units t) (sym (joined a entry))
+    ∙ kept_content run.scheduled (job_of a) run.capacity entry.0 t entry.1 none lt
+
 pub unit_stays : (run : Run) (a : Air) (entry : ℕ × AccessUnit) → unit_refusal run a entry ≡ None →
     output_with run a.before (a.accepted ++ (entry ∷ [])) a.slots a.changes ≡ air_output run a
 unit_stays run a entry none =
-    output_same run a.before a.accepted (a.accepted ++ (entry ∷ [])) a.slots a.changes a.changes
-    (λ t lt. ap (λ (h : History). content_over run.scheduled a.changes h.units t) (sym (joined a entry))
-    ∙ kept_content run.scheduled (job_of a) run.capacity entry.0 t entry.1 none lt)
+    output_same run a.before a.accepted (a.accepted ++ (entry ∷ [])) a.slots a.changes a.changes (slots_stay run a entry none)
 
 -- ---- The causes of refusal
 
@@ -66,7 +71,7 @@ fed_cause run a entry refused near unit alone is = rw (near, unit, alone) (ap (o
 pub ticked : (run : Run) (a : Air) (m : MuxState) (entry : ℕ × AccessUnit) → Carries run (job_of a) m → is_far_from run a entry ≡ false → is_tick entry ≡ true →
     Admits run a entry None m
 unfolding accepted_by
-ticked run a m entry c near tick = record { cause = rw (near, tick) refl; mux = rw tick c; before = rw tick refl }
+ticked run a m entry c near tick = record { cause = rw (near, tick) refl; mux = rw tick c; before = λ t lt. rw tick refl }
 
 pub unfed : (run : Run) (a : Air) (old new : MuxState) (entry : ℕ × AccessUnit) (cause : FeedError) → Carries run (job_of a) old →
     is_far_from run a entry ≡ false → is_tick entry ≡ false → changes_run run entry ≡ false →
@@ -75,7 +80,7 @@ unfolding accepted_by
 unfed run a old new entry cause c near unit alone takes same = record {
   cause = fed_cause run a entry (Some cause) near unit alone (takes.first ∙ cause_is run a old entry c);
   mux = subst (λ (m : MuxState). Carries run (job_of a) m) (sym same) c;
-  before = refl;
+  before = λ t lt. refl;
 }
 
 pub fed : (run : Run) (a : Air) (old new : MuxState) (entry : ℕ × AccessUnit) → Carries run (job_of a) old →
@@ -89,5 +94,5 @@ fed run a old new entry c near unit alone takes = record {
     scheduled = takes.same_schedule ∙ c.scheduled;
     capacity = takes.same_capacity ∙ c.capacity;
   });
-  before = rw unit (unit_stays run a entry (sym (takes.first ∙ cause_is run a old entry c)));
+  before = λ t lt. rw unit (slots_stay run a entry (sym (takes.first ∙ cause_is run a old entry c)) t lt);
 }

@@ -1,12 +1,14 @@
 pub mod InTime
 pub mod Room
 pub mod Contents
+pub mod TurnsOn
 pub mod SlotsOn
 pub mod FedRecords
 pub mod Aired
 pub mod Courses
 pub mod TextsOn
 pub mod LineUpsRead
+pub mod GonePids
 pub mod LineUpsOn
 pub mod AsMultiplexed
 pub mod InOrder

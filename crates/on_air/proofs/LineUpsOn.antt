@@ -11,12 +11,13 @@ use Rattle.plan_checker.specs.Served.{Served}
 use Rattle.mux_core.specs.Buffer.{Buffered, IsOutput}
 use Rattle.mux_core.specs.Scheduled.{Scheduled}
 use Rattle.mux_core.specs.Histories.{History}
-use Rattle.mux_core.specs.LineUps.{TakesOver, next_history, scheduled_by, take_over_refusal}
+use Rattle.mux_core.specs.LineUps.{SilentBefore, TakesOver, UntouchedOver, next_history, scheduled_by}
 use Rattle.mux_core.specs.LineUps as mux
 use Rattle.mux_core.specs.MuxStates.{MuxState, Represents}
 use Rattle.mux_core.specs.declared.line_up.TakeOverError.{TakeOverError}
 use Rattle.mux_core.specs.declared.line_up.TakeOverError.TheVariants as over
-use Rattle.turns.specs.Turns.{turn_with}
+use Rattle.turns.specs.Turns.{Follows, turn_with}
+use Rattle.turns.proofs.TakenOver.{follows_law}
 use Rattle.on_air.specs.declared.line_up.LineUpError.{LineUpError}
 use Rattle.on_air.specs.declared.line_up.LineUpError.TheVariants as error
 use Rattle.on_air.specs.declared.options.Terms.{Terms}
@@ -32,6 +33,8 @@ use Rattle.on_air.specs.Hearing.{Fails, FailsIn, IsNearLineUp, IsOn, RefusesLine
 use Rattle.on_air.proofs.Aired.{Moves, flushed, keeps, refused_by}
 use Rattle.on_air.proofs.Contents.{carried_before, outputs_same, turns_same}
 use Rattle.on_air.proofs.Courses.{course_over, over}
+use Rattle.on_air.proofs.GonePids.{are_new, knows_next}
+use Rattle.on_air.proofs.TurnsOn.{turn_kept}
 use Rattle.on_air.proofs.LineUpsRead.{cause_over, judged_none, judged_some, refused_read}
 use Rattle.on_air.proofs.TextsOn.{no_tick_change}
 
@@ -137,12 +140,21 @@ one_plan_before run entry brings =
 
 pub over_on : (run : Run) (a : Air) (entry : ℕ × AccessUnit) (next : Served) (start now : Option (List ℕ)) (old new : AirState) (m : MuxState) →
     IsOnAir run a start now old → brings_line_up run entry ≡ true → Promises (scheduled_by next) → Carries run (job_of a) m →
-    TakesOver (job_of a) m next None new.mux → new.packets ≡ old.packets → new.terms ≡ old.terms → new.rate ≡ next.description.rate →
+    TakesOver (job_of a) m next None new.mux → UntouchedOver m.schedule (job_of a) next → SilentBefore m.schedule (job_of a) next →
+    returned_pid a.before.gone next.description ≡ None → new.packets ≡ old.packets → new.terms ≡ old.terms → new.rate ≡ next.description.rate →
     new.lead ≡ greatest_lead next.description.streams + old.terms.wait → new.greatest ≡ old.greatest → new.leap ≡ old.leap → new.records ≡ old.records →
     new.one_plan ≡ old.one_plan → new.gone ≡ a.before.gone ++ pids_gone run.scheduled.description next.description →
     IsOnAir (with_line_up run next) (taken_over run a next.description) start now new
-over_on run a entry next start now old new m h brings promises carried takes packets terms rate lead greatest leap records one gone =
+over_on run a entry next start now old new m h brings promises carried takes untouched silent none packets terms rate lead greatest leap records one gone =
     let carries = over_carries run a next m new.mux carried takes in
+    let cause : mux.line_up_cause run.scheduled (job_of a) next ≡ None =
+    ap (λ (d : Scheduled). mux.line_up_cause d (job_of a) next) (sym carried.scheduled)
+    ∙ judged_none (mux.line_up_cause m.schedule (job_of a) next) takes.first in
+    let follows : Follows (turn_of (with_line_up run next) (taken_over run a next.description)) (turn_of run a) a.before.turns =
+    subst (λ (g : History). Follows (turn_with a.slots (scheduled_by next) g) (turn_of run a) a.before.turns) (next_job run a next.description)
+    (follows_law a.before.from run.scheduled (job_of a) next a.before.turns h.promises.ranges promises.ranges h.line_ups.begun cause
+    (subst (λ (d : Scheduled). UntouchedOver d (job_of a) next) carried.scheduled untouched)
+    (subst (λ (d : Scheduled). SilentBefore d (job_of a) next) carried.scheduled silent) (are_new run a next h.line_ups.gone none)) in
     record {
       mux = carries;
       promises = promises;
@@ -155,7 +167,15 @@ over_on run a entry next start now old new m h brings promises carried takes pac
       records = records ∙ h.records;
       one_plan = one ∙ h.one_plan ∙ one_plan_before run entry brings;
       gone = gone;
-      begun = omega arith;
+      line_ups = record {
+        begun = omega arith;
+        turns = (
+          turn_kept (with_line_up run next) a.slots (job_of (taken_over run a next.description)) (job_of (taken_over run a next.description)) new.mux promises
+              carries refl,
+          (follows, h.line_ups.turns),
+        );
+        gone = knows_next run a next h.line_ups.gone;
+      };
       output = subst (λ (l : List ℕ). IsOutput start now new.packets l) (sym (over_output run a next))
           (subst (λ (p : Buffered). IsOutput start now p (air_output run a)) (sym packets) h.output);
       headline = keeps (with_line_up run next) (job_of (taken_over run a next.description)) (job_of (taken_over run a next.description)) new.mux promises carries

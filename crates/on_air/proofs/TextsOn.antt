@@ -35,6 +35,7 @@ use Rattle.on_air.specs.declared.texts.TextsError.{TextsError}
 use Rattle.on_air.proofs.Aired.{Moves, judged_texts, keeps, refused_by}
 use Rattle.on_air.proofs.Contents.{output_same}
 use Rattle.on_air.proofs.Courses.{fails_in, texts_stay}
+use Rattle.on_air.proofs.TurnsOn.{turn_kept, turns_go_on}
 
 -- Whether a record brings texts or a line-up, by its stream and the number of plans
 pub change_same : (run : Run) (entry : ℕ × AccessUnit) (one : Bool) → IsInRange run.scheduled.description → one ≡ is_none run.scheduled.schedule.following →
@@ -131,7 +132,7 @@ noted_on run a entry start now old new h moves mux packets greatest leap records
   records = records ∙ ap (λ (n : ℕ). n + 1) h.records;
   one_plan = moves.one_plan ∙ h.one_plan;
   gone = moves.gone ∙ h.gone;
-  begun = h.begun;
+  line_ups = record { begun = h.line_ups.begun; turns = h.line_ups.turns; gone = h.line_ups.gone };
   output = subst (λ (p : Buffered). IsOutput start now p (air_output run a)) (sym packets) h.output;
   headline = h.headline;
 }
@@ -229,7 +230,14 @@ put_on run a texts refused start now old new m h moves packets greatest leap rec
       records = records ∙ h.records;
       one_plan = moves.one_plan ∙ h.one_plan;
       gone = moves.gone ∙ h.gone;
-      begun = h.begun;
+      line_ups = record {
+        begun = h.line_ups.begun;
+        turns = turns_go_on run a.before (job_of a) (job_of (with_texts run a texts)) a.slots h.line_ups.begun
+            (λ t lt. content_before run.scheduled (next_change run.scheduled (job_of a) texts) a.changes (job_of a).units t lt)
+            (turn_kept run a.before.from (with_change (job_of a) (next_change run.scheduled (job_of a) texts)) (job_of (with_texts run a texts)) new.mux h.promises
+            carries refl) h.line_ups.turns;
+        gone = h.line_ups.gone;
+      };
       output = subst (λ (l : List ℕ). IsOutput start now new.packets l) (sym (texts_output run a texts))
           (subst (λ (p : Buffered). IsOutput start now p (air_output run a)) (sym packets) h.output);
       headline = keeps run (with_change (job_of a) (next_change run.scheduled (job_of a) texts)) (job_of (with_texts run a texts)) new.mux h.promises carries refl;
@@ -313,6 +321,16 @@ texts_fail run a entry sent texts start later m promises carries t none read bef
       fails_in run a entry start later sent accepted (texts_stay run a entry t.texts)
           (subst (λ (b : Air). Fails run b start later sent) (sym last) (record {
             took = subst (λ (l : List ℕ). Took start later sent l) (sym (texts_output run (taken run a entry a.accepted a.changes) texts)) before.took;
+            line_ups = record {
+              begun = before.line_ups.begun;
+              turns = turns_go_on run a.before (job_of (taken run a entry a.accepted a.changes)) (job_of (with_texts run (taken run a entry a.accepted a.changes) texts))
+                  (taken run a entry a.accepted a.changes).slots before.line_ups.begun
+                  (λ t lt. content_before run.scheduled (next_change run.scheduled (job_of (taken run a entry a.accepted a.changes)) texts) a.changes
+                  (job_of a).units t lt)
+                  (turn_kept run a.before.from (job_of a) (job_of (with_texts run (taken run a entry a.accepted a.changes) texts)) m promises carries refl)
+                  before.line_ups.turns;
+              gone = before.line_ups.gone;
+            };
             headline = keeps run (job_of a) (job_of (with_texts run (taken run a entry a.accepted a.changes) texts)) m promises carries refl;
           })),
     )

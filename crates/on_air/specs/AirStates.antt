@@ -1,5 +1,5 @@
 -- The state of a run in memory, and the run that it represents.
-use Rattle.std.specs.Prelude.{◌≡◌, ◌≤◌, ◌+◌, ℕ, Bool, false, nat_le, if◌then◌else◌, List, [], length, Option, Some, None, is_none, Result, Ok, Err}
+use Rattle.std.specs.Prelude.{◌≡◌, ◌≤◌, ◌<◌, ◌+◌, ℕ, Bool, false, nat_le, if◌then◌else◌, List, [], length, Option, Some, None, is_none, Result, Ok, Err}
 use Rattle.description_parts.specs.Ranges.{IsInRange}
 use Rattle.pes_packet.specs.AccessUnits.{AccessUnit}
 use Rattle.slot_contents.specs.Contents.{Content}
@@ -16,10 +16,15 @@ use Rattle.mux_core.specs.declared.done.NewError.{NewError}
 use Rattle.mux_core.specs.declared.done.NewError.TheVariants.{Periods}
 use Rattle.mux_core.specs.Scheduled.{Scheduled}
 use Rattle.mux_core.specs.WholeJobs.{run_output, plan_schedule, switch_schedule}
+use Rattle.line_ups.specs.Kept.{slot_with}
+use Rattle.slot_plan.specs.declared.slot.Slot.TheVariants.{Null}
+use Rattle.turns.specs.Turns.{AreOff, TurnsFit}
 use Rattle.on_air.specs.declared.leap.Leap.{Leap}
 use Rattle.on_air.specs.declared.options.Terms.{Terms}
 use Rattle.on_air.specs.declared.refusals.AirRefusal.{AirRefusal}
-use Rattle.on_air.specs.Airing.{Run, Air, history_by, job_of, air_output, output_with, lead_of, greatest_lead, room_by, air_cause, accepted_by}
+use Rattle.on_air.specs.Airing.{Run, Air, history_by, job_of, air_output, lead_of, greatest_lead, room_by, air_cause, accepted_by}
+use Rattle.on_air.specs.Courses.{turn_of}
+use Rattle.on_air.specs.LineUps.{is_among}
 
 -- the multiplexer, the packets that wait to be written, the terms, the rate and the lead that settle slots, the greatest DTS taken, the records that leap,
 -- the number of records read, whether there is one plan, so that texts and the line-up may change, and the PIDs that have gone
@@ -60,16 +65,28 @@ pub record Promises (d : Scheduled) : Type 0 where
   pub ranges : IsInRange d.description
   pub promised : Promised d.description d.schedule
 
--- the state after a record was judged, and its unit fed if it was accepted: the output so far does not change
+-- the state after a record was judged, and its unit fed if it was accepted: no slot so far changes
 pub record Admits (run : Run) (a : Air) (entry : ℕ × AccessUnit) (refused : Option AirRefusal) (m : MuxState) : Type 0 where
   pub cause : refused ≡ air_cause run a entry
   pub mux : Carries run (history_by a.before (accepted_by a entry refused) a.slots a.changes) m
-  pub before : output_with run a.before (accepted_by a entry refused) a.slots a.changes ≡ air_output run a
+  pub before : (slot : ℕ) → slot < a.slots →
+      content_over run.scheduled a.changes (history_by a.before (accepted_by a entry refused) a.slots a.changes).units slot
+      ≡ content_over run.scheduled a.changes (job_of a).units slot
 
 -- all bytes that the line-up in force has in the slots so far keep every promise. Under the first line-up of a run these are the bytes written; later they are
 -- so on each PID of what stays, and on the others from the slot on in which the line-up came (`turns`)
 abbrev pub KeepsHeadline : Run → Air → Type 0
 KeepsHeadline run a = HeadlineOver run.scheduled a.changes (job_of a).units a.slots (bytes_of run.scheduled (job_of a))
+
+-- a PID that has not gone, and that the line-up in force does not have, was not on air before
+abbrev pub KnowsGone : Run → Air → Type 0
+KnowsGone run a = (pid : ℕ) → is_among a.before.gone (Some pid) ≡ false → slot_with run.scheduled.description pid ≡ Null → AreOff a.before.turns pid
+
+-- the line-ups so far fit, one after another: all bytes written keep what `turns` promises of them, and no PID returns
+pub record LineUpsFit (run : Run) (a : Air) : Type 0 where
+  pub begun : a.before.from ≤ a.slots
+  pub turns : TurnsFit (turn_of run a) a.before.turns
+  pub gone : KnowsGone run a
 
 -- the state of a run at `a`: the multiplexer represents the accepted units and the written slots; the writer, which held `start` at the beginning, holds the
 -- output of these slots except the waiting bytes; and the bytes that the line-up in force has in these slots keep every promise
@@ -85,7 +102,7 @@ pub record IsOnAir (run : Run) (a : Air) (start now : Option (List ℕ)) (s : Ai
   pub records : s.records ≡ a.records
   pub one_plan : s.one_plan ≡ is_none run.scheduled.schedule.following
   pub gone : s.gone ≡ a.before.gone
-  pub begun : a.before.from ≤ a.slots
+  pub line_ups : LineUpsFit run a
   pub output : IsOutput start now s.packets (air_output run a)
   pub headline : KeepsHeadline run a
 

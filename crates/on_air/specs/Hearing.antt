@@ -29,11 +29,12 @@ use Rattle.on_air.specs.declared.refusals.AirRefusal.TheVariants.{LineUp}
 use Rattle.on_air.specs.Airing.{Run, Air, air_cause, brings_line_up, brings_texts, changes_run, is_far_from, is_tick, texts_cause, texts_now, judged, caught_up}
 use Rattle.on_air.specs.Airing.{air_output, limit_of, line_up_refusal}
 use Rattle.on_air.specs.Courses.{Course, before_next, course_after, heard, takes_over, taken_over, with_line_up}
-use Rattle.on_air.specs.AirStates.{AirState, IsOnAir, IsOut, KeepsHeadline}
+use Rattle.on_air.specs.AirStates.{AirState, IsOnAir, IsOut, KeepsHeadline, LineUpsFit}
 
 -- the writer failed: it took exactly the first `sent` bytes of an output that keeps every promise
 pub record Fails (run : Run) (a : Air) (start now : Option (List ℕ)) (sent : ℕ) : Type 0 where
   pub took : Took start now sent (air_output run a)
+  pub line_ups : LineUpsFit run a
   pub headline : KeepsHeadline run a
 
 -- a record was read, which has some bytes, and judged, when the run still had slots to write; if the bytes of the input are known, the record is at their

@@ -21,7 +21,7 @@ returns-in-Ok-clause-ok g c = λ run a start h.
     (record { terms = terms; rate = rate; lead = ap (λ (x : AirState). x.lead) c.self.view_is; one_plan = ap (λ (x : AirState). x.one_plan) c.self.view_is; gone = ap (λ (x : AirState). x.gone) c.self.view_is })
     (ap (λ (x : AirState). x.packets.hex) c.self.view_is) greatest (ap (λ (x : AirState). x.leap) c.self.view_is)
     (ap (λ (x : AirState). x.records) c.self.view_is)
-    (c.in-Ok.ensures.ok run (job_of a) (content_with run a.before a.accepted a.changes) start carries (line_up_goes_on run a h.begun)
+    (c.in-Ok.ensures.ok run (job_of a) (content_with run a.before a.accepted a.changes) start carries (line_up_goes_on run a h.line_ups.begun)
     (end_output run a start _ c.args.self.now c.self.inside.packets h packets))))
 
 pub returns-in-Ok-clause-err : goal.returns-in-Ok-clause-err
@@ -39,7 +39,7 @@ returns-in-Ok-clause-err g c = λ run a start h.
     (record { terms = terms; rate = rate; lead = ap (λ (x : AirState). x.lead) c.self.view_is; one_plan = ap (λ (x : AirState). x.one_plan) c.self.view_is; gone = ap (λ (x : AirState). x.gone) c.self.view_is })
     (ap (λ (x : AirState). x.packets.hex) c.self.view_is) greatest (ap (λ (x : AirState). x.leap) c.self.view_is)
     (ap (λ (x : AirState). x.records) c.self.view_is)
-    (c.in-Ok.ensures.ok run (job_of a) (content_with run a.before a.accepted a.changes) start carries (line_up_goes_on run a h.begun)
+    (c.in-Ok.ensures.ok run (job_of a) (content_with run a.before a.accepted a.changes) start carries (line_up_goes_on run a h.line_ups.begun)
     (end_output run a start _ c.args.self.now c.self.inside.packets h packets))))
 
 pub returns-in-Err-clause-err : goal.returns-in-Err-clause-err
@@ -54,5 +54,5 @@ returns-in-Err-clause-err g c = λ run a start h.
     fails_same run a _ _ c.in-Err.fault.sent start _ is
     (count_fails run a c.last_slot-target.result c.in-Err.fault.sent c.self.inside.packets.hex start _ _ c.args.self.now h
     (ap (λ (x : AirState). x.packets.hex) c.self.view_is)
-    (c.in-Err.ensures.err run (job_of a) (content_with run a.before a.accepted a.changes) start carries (line_up_goes_on run a h.begun)
+    (c.in-Err.ensures.err run (job_of a) (content_with run a.before a.accepted a.changes) start carries (line_up_goes_on run a h.line_ups.begun)
     (end_output run a start _ c.args.self.now c.self.inside.packets h packets)))

@@ -22,7 +22,7 @@ returns-clause-ok g c = λ run a start h.
     (counted_on run a c.settled-target.result c.self.inside.packets.hex start _ _ c.args.self.now _ h (record { terms = terms; rate = rate; lead = lead; one_plan = ap (λ (x : AirState). x.one_plan) c.self.view_is; gone = ap (λ (x : AirState). x.gone) c.self.view_is })
     (ap (λ (x : AirState). x.packets.hex) c.self.view_is) (ap (λ (x : AirState). x.greatest) c.self.view_is) (ap (λ (x : AirState). x.leap) c.self.view_is)
     (ap (λ (x : AirState). x.records) c.self.view_is) wrote))
-    (c.write_on.ensures.ok run (job_of a) (content_with run a.before a.accepted a.changes) start carries (line_up_goes_on run a h.begun)
+    (c.write_on.ensures.ok run (job_of a) (content_with run a.before a.accepted a.changes) start carries (line_up_goes_on run a h.line_ups.begun)
     (end_output run a start _ c.args.self.now c.self.inside.packets h packets))
 
 pub returns-clause-err : goal.returns-clause-err
@@ -39,5 +39,5 @@ returns-clause-err g c = λ run a start h.
     (λ fault took. fails_same run a _ _ fault.sent start _ is
     (count_fails run a c.settled-target.result fault.sent c.self.inside.packets.hex start _ _ c.args.self.now h
     (ap (λ (x : AirState). x.packets.hex) c.self.view_is) took))
-    (c.write_on.ensures.err run (job_of a) (content_with run a.before a.accepted a.changes) start carries (line_up_goes_on run a h.begun)
+    (c.write_on.ensures.err run (job_of a) (content_with run a.before a.accepted a.changes) start carries (line_up_goes_on run a h.line_ups.begun)
     (end_output run a start _ c.args.self.now c.self.inside.packets h packets))

@@ -21,6 +21,7 @@ returns-in-Ok-clause-takes c = λ run a entry start now h t read none gone.
       (
         c.now-slot.ensures (job_of a) carries.represents,
         over_on run a entry c.args.plan start now c.args.self.now _ c.self.inside.mux h t.line_up promises carries takes
+            (c.in-Ok.ensures.untouched (job_of a) carries.represents) (c.in-Ok.ensures.silent (job_of a) carries.represents) none
             (ap (λ (x : AirState). x.packets) c.self.view_is) (ap (λ (x : AirState). x.terms) c.self.view_is)
             (c.numbers_of-of.ensures.rate ∙ ap (λ (d : Described). d.rate) same)
             (c.numbers_of-of.ensures.lead ∙ ap (λ (d : Described). greatest_lead d.streams + c.self.inside.terms.wait) same
