@@ -12,12 +12,14 @@ use Rattle.unit_records.specs.declared.reading.UnitFileError.{UnitFileError}
 use Rattle.mux_core.specs.RecordRuns.{after_records}
 use Rattle.mux_core.specs.WholeJobs.{job_history, output_of, first_refused}
 use Rattle.mux_core.specs.declared.room.Room.{Room}
+use Rattle.turns.specs.LineUpRuns.{HeadlineOverLineUps}
 use Rattle.on_air.specs.declared.refusals.AirRefusal.{AirRefusal}
 use Rattle.on_air.specs.declared.refusals.AirRefusal.TheVariants.{Feed, Ahead, Followed, Texts, LineUp}
 use Rattle.on_air.specs.Leaps.{is_near, leap_records}
 use Rattle.on_air.specs.Airing.{Run, Air, greatest_lead, is_tick, is_far_from, lead_of, limit_of, last_at, HasRoom, settled_at, on_to, air_cause, aired}
-use Rattle.on_air.specs.Courses.{IsFirst, course_ended, heard, output_at}
-use Rattle.on_air.specs.AirStates.{Promises}
+use Rattle.on_air.specs.Airing.{air_output}
+use Rattle.on_air.specs.Courses.{IsFirst, course_ended, heard, output_at, turn_of}
+use Rattle.on_air.specs.AirStates.{LineUpsFit, Promises}
 
 -- a unit that a stream accepts before the first slot is also accepted later, if no slot from its release on is written and there is room for it
 abbrev pub TakenInTime : Type 0
@@ -151,3 +153,10 @@ abbrev pub NearIsJudgedAlone : Type 0
 NearIsJudgedAlone = (run : Run) (n : ℕ) (xs : List ℕ) (entry : ℕ × AccessUnit) → Promises run.scheduled →
     HasRoom run run.scheduled.description.streams → IsFirst (heard run n xs) → ComesNear run (heard run n xs).air entry →
     IsJudgedAlone (air_cause run (heard run n xs).air entry)
+
+-- ---- line-ups
+
+-- all bytes written so far, under whatever line-ups, keep what one line-up promises, each PID from the slot on in which it came on air
+abbrev pub LineUpsKept : Type 0
+LineUpsKept = (run : Run) (a : Air) → LineUpsFit run a → run.hex ≡ false →
+    HeadlineOverLineUps (turn_of run a) a.before.turns a.slots (air_output run a)

@@ -1,7 +1,8 @@
 //! Laws of the definitions. Each function does nothing: its contract is the law.
 
 ghost use Rattle.on_air.specs.EndlessRuns.{EndlessInput, EndlessRecords};
-ghost use Rattle.on_air.specs.Laws.{TakenInTime, AiredInOrder, AiredAsMultiplexed, LeapFollowed, LeapMovesOn, NearIsJudgedAlone};
+ghost use Rattle.on_air.specs.Laws.{TakenInTime, AiredInOrder, AiredAsMultiplexed, LeapFollowed, LeapMovesOn};
+ghost use Rattle.on_air.specs.Laws.{LineUpsKept, NearIsJudgedAlone};
 
 /// States that a unit that a stream accepts before the first slot is also accepted later, if no slot from its release
 /// on is written.
@@ -42,4 +43,9 @@ pub fn near_is_judged_alone()
 pub fn endless()
     ensures records { EndlessRecords }
     ensures input { EndlessInput }
+{}
+
+/// States that all bytes written so far, under whatever line-ups, keep the promises.
+pub fn line_ups_kept()
+    ensures { LineUpsKept }
 {}
