@@ -9,14 +9,20 @@ use Rattle.unit_queue.specs.declared.refusal.FeedError.{FeedError}
 use Rattle.unit_queue.specs.declared.refusal.FeedError.TheVariants.{UnknownStream, Empty, TooLarge, TooSoon, BadPts, Late, TooFar, Full, Group, Pace, OffAir}
 use Rattle.on_air.specs.Airing.{refused_unit}
 use Rattle.on_air.specs.declared.refusals.AirRefusal.{AirRefusal}
-use Rattle.on_air.specs.declared.refusals.AirRefusal.TheVariants.{Feed, Ahead, Followed, Texts}
+use Rattle.on_air.specs.declared.refusals.AirRefusal.TheVariants.{Feed, Ahead, Followed, Texts, LineUp}
 use Rattle.on_air.specs.declared.refusals.FarRecord.{FarRecord}
 use Rattle.on_air.specs.declared.refusals.RefusedUnit.{RefusedUnit}
 use Rattle.on_air.specs.declared.refusals.TextsRefusal.{TextsRefusal}
 use Rattle.on_air.specs.declared.refusals.TextsRefusal.TheVariants.{Unread, Fault}
+use Rattle.on_air.specs.declared.refusals.LineUpRefusal.{LineUpRefusal}
+use Rattle.on_air.specs.declared.refusals.LineUpRefusal.TheVariants as line_up
+use Rattle.line_ups.specs.declared.fault.LineUpFault.TheVariants.{Pid}
+use Rattle.slot_plan.specs.Entries.{code_of}
+use Rattle.plan_checker.specs.declared.refusal.Refusal.{Refusal}
 use Rattle.description_keys.specs.Codes.{fault_code, fault_item}
 use Rattle.explained_jobs.specs.declared.unit_limits.UnitLimits.{UnitLimits}
-use Rattle.explained_jobs.specs.TextWords.{text_words}
+use Rattle.explained_jobs.specs.TextWords.{part_words, text_words}
+use Rattle.explained_jobs.specs.LineUpWords.{line_up_words, waiting_words}
 
 -- 1. The limit
 
@@ -129,9 +135,30 @@ unfoldable pub refused_texts_words : TextsRefusal → List ℕ
 refused_texts_words (Unread fault) = unread_words (fault_code fault) (fault_item fault)
 refused_texts_words (Fault fault) = text_words fault
 
+-- why a line-up is refused: its description, a line of its plan, a condition with its numbers, or what it changes
+abbrev pub plan_line_words : ℕ → List ℕ
+plan_line_words line = part_words (codes "plan") line (codes "not as a plan has it: tsmux plan < DESCRIPTION makes one")
+
+unfoldable pub numbered_condition : ℕ → ℕ → ℕ → ℕ → ℕ → List ℕ
+numbered_condition code part item left right =
+    codes "refused " ++ decimal code ++ codes " " ++ decimal part ++ codes " " ++ decimal item ++ codes " " ++ decimal left ++ codes " " ++ decimal right
+    ++ codes ": tsjob explain DESCRIPTION PLAN says why\n"
+
+abbrev pub plan_words : Refusal → List ℕ
+plan_words r = numbered_condition (code_of r.condition) r.part r.item r.left r.right
+
+unfoldable pub refused_line_up_words : LineUpRefusal → List ℕ
+refused_line_up_words (line_up.Unread fault) = unread_words (fault_code fault) (fault_item fault)
+refused_line_up_words (line_up.PlanLine line) = plan_line_words line
+refused_line_up_words (line_up.Plan refusal) = plan_words refusal
+refused_line_up_words (line_up.Returned pid) = line_up_words (Pid pid)
+refused_line_up_words (line_up.Fault fault) = line_up_words fault
+refused_line_up_words (line_up.Waiting pid) = waiting_words pid
+
 -- the line for a refused record, by what the streams declare
 unfoldable pub air_line : List UnitLimits → ℕ → AirRefusal → List ℕ
 air_line streams index (Feed u) = stream_words index u (slice_get streams u.stream)
 air_line streams index (Ahead far) = far_head index far (slice_get streams far.stream) ++ ahead_words far.ahead far.from
 air_line streams index (Followed packet from to) = leap_line index packet from to
 air_line streams index (Texts refusal) = switch_head index ++ refused_texts_words refusal
+air_line streams index (LineUp refusal) = switch_head index ++ refused_line_up_words refusal

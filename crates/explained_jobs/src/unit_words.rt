@@ -3,11 +3,14 @@
 ghost use Rattle.std.specs.Prelude.{◌≡◌, ◌≤◌, ◌++◌, OnOk, string_bytes};
 ghost use Rattle.explained_jobs.specs.UnitWords as spec;
 
-use crate::text_words::write_text_fault;
+use crate::line_up_words::{write_line_up_fault, write_waiting};
+use crate::text_words::{write_part, write_text_fault};
 use crate::unit_limits::{UnitLimits, declared_limits, limits_at};
 use description::Description;
-use on_air::{AirRefusal, FarRecord, RefusedUnit, TextsRefusal, refused_unit};
+use line_ups::LineUpFault;
+use on_air::{AirRefusal, FarRecord, LineUpRefusal, RefusedUnit, TextsRefusal, refused_unit};
 use pes_packet::Unit;
+use plan_checker::Refusal;
 use std::alloc::AllocError;
 use std::fmt::Write;
 use unit_queue::FeedError;
@@ -285,6 +288,66 @@ pub(crate) fn write_refused_texts(
     }
 }
 
+// Appends which line of a plan is bad.
+fn write_plan_line(line: u32, text: &mut String) -> Result<(), AllocError>
+    ensures { OnOk result (string_bytes text.new ≡ string_bytes text.old ++ spec.plan_line_words line) }
+{
+    write_part(
+        "plan",
+        line as usize,
+        "not as a plan has it: tsmux plan < DESCRIPTION makes one",
+        text,
+    )
+}
+
+// Appends which condition fails, with its numbers.
+fn write_numbered_condition(
+    code: u8,
+    part: u8,
+    item: u32,
+    left: u128,
+    right: u128,
+    text: &mut String,
+) -> Result<(), AllocError>
+    ensures { OnOk result (string_bytes text.new
+        ≡ string_bytes text.old ++ spec.numbered_condition code part item left right) }
+{
+    write!(
+        text,
+        "refused {code} {part} {item} {left} {right}: tsjob explain DESCRIPTION PLAN says why\n"
+    )
+}
+
+// Appends which condition a plan does not keep.
+fn write_plan(refusal: Refusal, text: &mut String) -> Result<(), AllocError>
+    ensures { OnOk result (string_bytes text.new ≡ string_bytes text.old ++ spec.plan_words refusal) }
+{
+    let code = refusal.condition.code();
+    write_numbered_condition(
+        code,
+        refusal.part,
+        refusal.item,
+        refusal.left,
+        refusal.right,
+        text,
+    )
+}
+
+// Appends why a line-up is refused.
+#[tactic(auto, unfolding(crate::specs::UnitWords::refused_line_up_words))]
+fn write_refused_line_up(refusal: LineUpRefusal, text: &mut String) -> Result<(), AllocError>
+    ensures { OnOk result (string_bytes text.new ≡ string_bytes text.old ++ spec.refused_line_up_words refusal) }
+{
+    match refusal {
+        LineUpRefusal::Unread(fault) => write_unread(fault.code(), fault.item(), text),
+        LineUpRefusal::PlanLine(line) => write_plan_line(line, text),
+        LineUpRefusal::Plan(refusal) => write_plan(refusal, text),
+        LineUpRefusal::Returned(pid) => write_line_up_fault(LineUpFault::Pid(pid), text),
+        LineUpRefusal::Fault(fault) => write_line_up_fault(fault, text),
+        LineUpRefusal::Waiting(pid) => write_waiting(pid, text),
+    }
+}
+
 /// Appends why a record is refused on air, by the limits of the streams.
 #[tactic(auto, unfolding(crate::specs::UnitWords::air_line))]
 pub fn write_air(
@@ -310,6 +373,10 @@ pub fn write_air(
         AirRefusal::Texts(refusal) => {
             write_switch_head(index, text)?;
             write_refused_texts(refusal, text)
+        }
+        AirRefusal::LineUp(refusal) => {
+            write_switch_head(index, text)?;
+            write_refused_line_up(refusal, text)
         }
     }
 }

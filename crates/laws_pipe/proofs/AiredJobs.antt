@@ -24,7 +24,8 @@ use Rattle.checked_jobs.proofs.LongerJobs.{job_kept}
 use Rattle.on_air.specs.declared.answers.Ending.{Ending}
 use Rattle.on_air.specs.declared.answers.Ending.TheVariants.{Input, Unread, Slots, Records, TextsMemory}
 use Rattle.on_air.specs.declared.refusals.AirRefusal.{AirRefusal}
-use Rattle.on_air.specs.Airing.{Air, Run, HasRoom, air_output, is_tick, ended, heard, last_at, last_by, last_of, slots_or}
+use Rattle.on_air.specs.Airing.{Run, HasRoom, is_tick, last_at, last_by, last_of, slots_or}
+use Rattle.on_air.specs.Courses.{Course, course_ended, heard, output_at}
 use Rattle.on_air.specs.Laws.{ComeInOrder, greatest_of, records_of, without_ticks}
 use Rattle.on_air.proofs.AsMultiplexed.{aired_as_multiplexed, first_taken}
 use Rattle.on_air.proofs.InOrder.{aired_in_order}
@@ -175,7 +176,7 @@ none_in (r ∷ rs) e = absurd (false≢true (sym e ∙ lt-ltb 0 (length (r ∷ r
 
 -- The run read n records and refused none, and no record follows.
 record HeardWhole (run : Run) (rest : List ℕ) (n : ℕ) : Type 0 where
-  none_refused : (heard run n rest).refused ≡ []
+  none_refused : (heard run n rest).air.refused ≡ []
   none_left : record_at (after_records n rest) ≡ Ok None
 
 status_0 : (status : ℕ) → status ≡ 1 → status ≡ 0 → ⊥
@@ -193,12 +194,12 @@ unfolding end_outcome
 heard_of saving o run input output faults rest e slots bytes =
     let reported = e.airs.heard_is.heard_is.known rest bytes in
     let by_none = rw slots at
-    (not_lost e.end.has_lost (why_outcome o.terms.slots e.airs.came.records e.end.has_refused e.end.why).status e.status_is) in
+    (not_lost e.end.has_lost (why_outcome o.terms.slots e.airs.came.air.records e.end.has_refused e.end.why).status e.status_is) in
     let stopped : e.end.why ≡ None → e.end.has_refused ≡ true = λ w. e.refused ∙ ((rw w at e.ends).1).0 in
-    let f = finished e.airs.came.records e.end.has_refused e.end.why stopped (sym by_none) in
+    let f = finished e.airs.came.air.records e.end.has_refused e.end.why stopped (sym by_none) in
     let last = rw f.is at e.ends in
     record {
-      none_refused = ap (λ a. a.refused) (sym reported.0) ∙ none_in e.airs.came.refused (sym e.refused ∙ f.none);
+      none_refused = ap (λ (c : Course). c.air.refused) (sym reported.0) ∙ none_in e.airs.came.air.refused (sym e.refused ∙ f.none);
       none_left = (last (after_records e.airs.heard_is.count rest) reported.1).0;
     }
 
@@ -216,8 +217,8 @@ ended_output m saving o bytes j input output faults same takes known air e =
     let none_here : first_refused (run_of o air.job).scheduled (capacity_for j.units) [] (records_of e.airs.heard_is.count l.rest) ≡ None =
     ap (λ us. first_refused (run_of o air.job).scheduled (capacity_for j.units) [] us) units ∙ none in
     let reported = e.airs.heard_is.heard_is.known l.rest l.left_is in
-    let here : air_output (run_of o air.job) (ended (run_of o air.job) e.airs.came) ≡ packets_of m j =
-    ap (λ a. air_output (run_of o air.job) (ended (run_of o air.job) a)) reported.0
+    let here : output_at (course_ended e.airs.came) ≡ packets_of m j =
+    ap (λ (c : Course). output_at (course_ended c)) reported.0
     ∙ aired_as_multiplexed (run_of o air.job) (capacity_for j.units) e.airs.heard_is.count l.rest none_here whole.none_refused
     ∙ ap (λ us. output_of (run_of o air.job).hex (run_of o air.job).scheduled (job_history us (last_at (run_of o air.job) (greatest_of us)))) units
     ∙ same_output_of m o air.job j same of.is in
@@ -274,4 +275,4 @@ refuses_none m saving o bytes j input output faults status same takes known air 
       in_order = comes;
     }) in
     let reported = e.airs.heard_is.heard_is.known l.rest l.left_is in
-    e.refused ∙ ap (λ (a : Air). nat_lt 0 (length a.refused)) reported.0 ∙ ap (λ (r : List (ℕ × AirRefusal)). nat_lt 0 (length r)) taken.refused
+    e.refused ∙ ap (λ (c : Course). nat_lt 0 (length c.air.refused)) reported.0 ∙ ap (λ (r : List (ℕ × AirRefusal)). nat_lt 0 (length r)) taken.refused

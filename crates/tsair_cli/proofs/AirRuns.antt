@@ -1,5 +1,5 @@
 -- What the records and the end of a run leave
-use Rattle.std.proofs.Common.{◌≡◌, ◌⊎◌, ℕ, Bool, List, [], ◌++◌, map, Option, Some, None, Ok, refl, sym, ap, ◌∙◌, subst, inl, inr, append-nil}
+use Rattle.std.proofs.Common.{◌≡◌, ◌⊎◌, ℕ, Bool, List, [], ◌++◌, Option, Some, None, Ok, refl, sym, ap, ◌∙◌, subst, inl, inr, append-nil}
 use Rattle.std.specs.Prelude.{is_some}
 use Rattle.std.specs.Io.KnownBytes.{Appends}
 use Rattle.counted_io.specs.Device.{Failed}
@@ -7,7 +7,7 @@ use Rattle.mux_core.specs.Buffer.{waiting_of, Buffered, IsOutput}
 use Rattle.devices.specs.Devices.{Device, IsUntouched, Port, between}
 use Rattle.devices.specs.Lines.{Reports}
 use Rattle.devices.specs.Outcomes.{halt_line}
-use Rattle.devices.specs.declared.halt.Halt.TheVariants.{Write, Memory as NoMemory}
+use Rattle.devices.specs.declared.halt.Halt.TheVariants.{Write}
 use Rattle.checked_jobs.specs.Jobs.{JobView, job_of}
 use Rattle.mux_core.specs.NewMux.{Judges}
 use Rattle.mux_core.specs.declared.done.NewError.{NewError}
@@ -15,17 +15,16 @@ use Rattle.mux_core.specs.declared.done.NewError.TheVariants.{Capacity, Periods,
 use Rattle.checked_jobs.specs.JobFaults.{plans_view}
 use Rattle.checked_jobs.specs.declared.jobs.JobPlans.{JobPlans}
 use Rattle.checked_jobs.specs.declared.jobs.JobPlans.TheVariants.{One, Two}
-use Rattle.on_air.specs.Airing.{Run, Air, air_output, ended}
+use Rattle.on_air.specs.Airing.{Run, ended}
 use Rattle.on_air.specs.AirStates.{AirState, IsOnAir}
+use Rattle.on_air.specs.Courses.{course_ended, output_at}
 use Rattle.on_air.specs.Hearing.{Fails}
 use Rattle.tsair_cli.specs.declared.arguments.AirOptions.{AirOptions}
 use Rattle.tsair_cli.specs.declared.hearing.RecordsEnd.{RecordsEnd}
-use Rattle.explained_jobs.specs.UnitWords.{limits_of}
-use Rattle.explained_jobs.specs.declared.unit_limits.UnitLimits.{UnitLimits}
 use Rattle.tsair_cli.specs.AirRuns.{AirsJob, AirsRecords, Begins, begin_cause, begin_outcome, run_of}
 use Rattle.tsair_cli.specs.Endings.{end_outcome}
 use Rattle.tsair_cli.specs.Fronts.{ReadsPlans}
-use Rattle.tsair_cli.specs.HeardRecords.{EndsRecords, FailsRecords, limits_in}
+use Rattle.tsair_cli.specs.HeardRecords.{EndsRecords, FailsRecords}
 use Rattle.devices.specs.declared.files.FileFault.{FileFault}
 use Rattle.tsair_cli.specs.States.{Saving, saving_of}
 use Rattle.tsair_cli.proofs.HeardRecords.{stopped_at_most}
@@ -44,8 +43,8 @@ records_failed saving o run input output before so_far after sent status f r s =
   so_far = so_far;
   airs = f.airs;
   stops = f.stops;
-  air = f.airs.came;
-  air_is = inl refl;
+  course = f.airs.came;
+  course_is = inl refl;
   sent = sent;
   fails = f.fails;
   failed = f.failed;
@@ -56,12 +55,12 @@ records_failed saving o run input output before so_far after sent status f r s =
 pub run_ended : (saving : Saving) (o : AirOptions) (run : Run) (input : Device) (begin mid end before so_far after : Port) (why : RecordsEnd) (s t : AirState)
     (records status : ℕ)
     (e : EndsRecords saving run o.stop begin.bytes input (between begin mid) (between before so_far) why s) →
-    IsOnAir run (ended run e.airs.came) begin.bytes end.bytes t → waiting_of t.packets ≡ [] → end.failed ≡ mid.failed →
+    IsOnAir e.airs.came.run (ended e.airs.came.run e.airs.came.air) begin.bytes end.bytes t → waiting_of t.packets ≡ [] → end.failed ≡ mid.failed →
     records ≡ t.records → Reports (between so_far after) (end_outcome o.terms.slots records why).report →
     status ≡ (end_outcome o.terms.slots records why).status →
     AirsRecords saving o run input (between begin end) (between before after) status
 run_ended saving o run input begin mid end before so_far after why s t records status e h none clean n r st =
-    let count : records ≡ e.airs.came.records = n ∙ h.records in
+    let count : records ≡ e.airs.came.air.records = n ∙ h.records in
     inl (record {
       rest = e.rest;
       so_far = so_far;
@@ -74,7 +73,7 @@ run_ended saving o run input begin mid end before so_far after why s t records s
       refused = e.refused;
       lost = e.lost;
       reader = e.reader;
-      written = whole_output begin.bytes end.bytes t.packets (air_output run (ended run e.airs.came)) none h.output;
+      written = whole_output begin.bytes end.bytes t.packets (output_at (course_ended e.airs.came)) none h.output;
       clean = clean ∙ e.clean;
       headline = h.headline;
       reports = subst (λ (m : ℕ). Reports (between so_far after) (end_outcome o.terms.slots m why).report) count r;
@@ -83,15 +82,15 @@ run_ended saving o run input begin mid end before so_far after why s t records s
 
 pub end_failed : (saving : Saving) (o : AirOptions) (run : Run) (input : Device) (begin mid end before so_far after : Port) (why : RecordsEnd) (s : AirState) (sent status : ℕ)
     (e : EndsRecords saving run o.stop begin.bytes input (between begin mid) (between before so_far) why s) →
-    Fails run (ended run e.airs.came) begin.bytes end.bytes sent → Failed mid.failed end.failed →
+    Fails e.airs.came.run (ended e.airs.came.run e.airs.came.air) begin.bytes end.bytes sent → Failed mid.failed end.failed →
     Reports (between so_far after) (halt_line Write) → status ≡ 3 → AirsRecords saving o run input (between begin end) (between before after) status
 end_failed saving o run input begin mid end before so_far after why s sent status e f failed r st = inr (record {
   rest = e.rest;
   so_far = so_far;
   airs = e.airs;
   stops = λ on. stopped_at_most e.airs.came why.why (e.stops on);
-  air = ended run e.airs.came;
-  air_is = inr refl;
+  course = course_ended e.airs.came;
+  course_is = inr refl;
   sent = sent;
   fails = f;
   failed = subst (λ (n : ℕ). Failed n end.failed) e.clean failed;
@@ -113,18 +112,6 @@ begun o before left plans switch is r = record {
   job_is = r.plans_are ∙ ap (λ (b : Bool). job_of b r.front) is;
   no_rest = no_rest plans;
 }
-
--- What the streams of the plans declare is what the streams of the run declare.
-pub limits_of_plans : (o : AirOptions) (plans : JobPlans) (streams : List UnitLimits) → streams ≡ map limits_of (plans_view plans []).description.streams →
-    streams ≡ limits_in (run_of o (plans_view plans []))
-limits_of_plans o (One c) streams is = is
-limits_of_plans o (Two c) streams is = is
-
--- A front was read, and there is no memory for what its streams declare.
-pub no_limits : (saving : Saving) (o : AirOptions) (input output faults : Device) (status : ℕ) (plans : JobPlans) (switch : Bool) → ReadsPlans switch input plans →
-    IsUntouched output → Reports faults (halt_line NoMemory) → status ≡ 3 → AirsJob saving o input output faults status
-no_limits saving o input output faults status plans switch r u t s =
-    inr (inr (inr (record { clean = r.has_read.clean; unwritten = u; reports = t; status_is = s })))
 
 -- If the answer is `Periods`, the cause is too many periods.
 periods_judged : (wanted : Option NewError) → Judges wanted (Some Periods) → wanted ≡ Some Periods

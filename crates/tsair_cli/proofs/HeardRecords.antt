@@ -8,23 +8,24 @@ use Rattle.mux_core.specs.declared.output.OutputFault.{OutputFault}
 use Rattle.unit_records.specs.declared.reading.UnitFileError.TheVariants.{Cut, Size, Device as AtReader, Memory}
 use Rattle.mux_core.specs.RecordRuns.{after_records}
 use Rattle.on_air.specs.declared.refusals.AirRefusal.{AirRefusal}
-use Rattle.on_air.specs.declared.answers.Heard.TheVariants.{Refused, Changed, Ended}
+use Rattle.on_air.specs.declared.answers.Heard.TheVariants.{Refused, Changed, LinedUp, Ended}
 use Rattle.on_air.specs.declared.answers.Ending.{Ending}
 use Rattle.on_air.specs.declared.answers.Ending.TheVariants.{Input, Unread, Slots, Records, TextsMemory}
-use Rattle.on_air.specs.Airing.{Run, Air, caught_up, heard, silence, limit_of, texts_now}
+use Rattle.on_air.specs.Airing.{Run, Air, caught_up, silence, limit_of, texts_now}
 use Rattle.on_air.specs.AirStates.{AirState, IsOnAir}
-use Rattle.on_air.specs.Hearing.{Fails, HeardOn, HearsOn, NamesDevice}
+use Rattle.on_air.specs.Courses.{Course, at_begin, heard}
+use Rattle.on_air.specs.Hearing.{Fails, HeardOn, HearsOn, IsOn, NamesDevice}
 use Rattle.explained_jobs.specs.declared.unit_limits.UnitLimits.{UnitLimits}
 use Rattle.description_parts.specs.Described.{Described}
 use Rattle.tsair_cli.specs.declared.repeats.Repeats.{Repeats}
 use Rattle.tsair_cli.specs.Repeats.{none_refused, repeats_text, with_cause}
-use Rattle.tsair_cli.specs.HeardRecords.{Airs, EndsRecords, FailsRecords, NamesReader, OfChange, OfMore, Reported}
+use Rattle.tsair_cli.specs.HeardRecords.{Airs, AreLimits, EndsRecords, FailsRecords, NamesReader, OfChange, OfMore, Reported}
 use Rattle.tsair_cli.specs.HeardRecords.{ReportsChange, StopsAtFirst, all_lines, changed_among}
-use Rattle.tsair_cli.specs.HeardRecords.{changes_of, has_refused, limits_in, lines_among, lines_by, lost_among, said_of}
+use Rattle.tsair_cli.specs.HeardRecords.{changes_of, has_refused, limits_in, lines_among, lines_by, lost_among, said_of, texts_among}
 use Rattle.tsair_cli.specs.States.{KeepsState, Saving}
-use Rattle.tsair_cli.proofs.ReportedLines.{reported_more, reported_none, reported_on, ReportsLines, lines_reported, more_reported, change_aside}
-use Rattle.tsair_cli.proofs.ReportedLines.{lines_more, repeats_more, lines_all, changed_same, changed_last, texts_of_change, changed_more, lost_same}
-use Rattle.tsair_cli.proofs.ReportedLines.{lost_last, lost_more}
+use Rattle.tsair_cli.proofs.ReportedLines.{reported_on, one_reported, reported_none, texts_same, texts_more, limits_same, ReportsLines, lines_reported}
+use Rattle.tsair_cli.proofs.ReportedLines.{change_aside, lines_more, repeats_more, lines_all, changed_same, changed_last, changed_more, changes_with}
+use Rattle.tsair_cli.proofs.ReportedLines.{changes_over, lost_same, lost_last, lost_more}
 
 some_refused : (old new : List (ℕ × AirRefusal)) (refused : ℕ × AirRefusal) → new ≡ old ++ (refused ∷ []) → nat_lt 0 (length new) ≡ true
 some_refused old new refused is =
@@ -47,39 +48,40 @@ at_most_one l one = omega (arith, one)
 at_most_none : (l : List (ℕ × AirRefusal)) → l ≡ [] → length l ≤ 1
 at_most_none l none = let size : length l ≡ 0 = ap length none in omega (arith, size)
 
-pub stopped_at_most : (came : Air) (why : Option Ending) → StopsAtFirst came why → length came.refused ≤ 1
-stopped_at_most came None one = at_most_one came.refused one
-stopped_at_most came (Some why) none = at_most_none came.refused none
+pub stopped_at_most : (came : Course) (why : Option Ending) → StopsAtFirst came why → length came.air.refused ≤ 1
+stopped_at_most came None one = at_most_one came.air.refused one
+stopped_at_most came (Some why) none = at_most_none came.air.refused none
 
 -- 1. Up to a refused record, or to the end
 
 pub record Midway (saving : Saving) (run : Run) (origin left start now : Option (List ℕ)) (faults : Device) (refused lost : Bool) (repeats : Repeats)
-    (s : AirState) : Type 0 where
+    (limits : Option (List UnitLimits)) (s : AirState) : Type 0 where
   pub airs : Airs saving run origin left faults
-  pub lines : lines_among airs.reported ≡ (said_of airs.came.refused).lines
-  pub repeats_are : repeats ≡ (said_of airs.came.refused).repeats
+  pub lines : lines_among airs.reported ≡ (said_of airs.came.air.refused).lines
+  pub repeats_are : repeats ≡ (said_of airs.came.air.refused).repeats
   pub changed : changed_among airs.reported ≡ changes_of airs.came
   pub refused_is : refused ≡ has_refused airs.came
   pub lost_is : lost ≡ lost_among airs.begun_lost airs.reported
-  pub state : IsOnAir run airs.came start now s
+  pub limits_are : AreLimits limits (texts_among (texts_now run silence) airs.reported)
+  pub state : IsOn airs.came start now s
 
 pub first : (saving : Saving) (run : Run) (origin start now : Option (List ℕ)) (before after : Port) (texts : Described) (lost : Bool) (repeats : Repeats)
-    (s : AirState) →
-    IsOnAir run silence start now s → texts ≡ texts_now run silence → KeepsState saving texts (between before after) lost → repeats ≡ none_refused →
-    Midway saving run origin origin start now (between before after) false lost repeats s
+    (limits : Option (List UnitLimits)) (s : AirState) → IsOnAir run silence start now s → texts ≡ texts_now run silence →
+    KeepsState saving texts (between before after) lost → repeats ≡ none_refused → AreLimits limits texts →
+    Midway saving run origin origin start now (between before after) false lost repeats limits s
 unfolding heard after_records lines_among
-first saving run origin start now before after texts lost repeats s h are keeps is = record {
+first saving run origin start now before after texts lost repeats limits s h are keeps is known = record {
   airs = record {
-    came = silence;
+    came = at_begin run;
     heard_is = record {
       count = 0;
       heard_is = record {
-        known = λ xs e. (refl, e, λ m none. below_none (λ i. (heard run i xs).slots < limit_of run.terms) m none);
+        known = λ xs e. (refl, e, λ m none. below_none (λ i. (heard run i xs).air.slots < limit_of run.terms) m none);
         some = λ rest. record {
           bytes = rest;
           led = refl;
           rest_is = refl;
-          slots_left = λ m none. below_none (λ i. (heard run i rest).slots < limit_of run.terms) m none;
+          slots_left = λ m none. below_none (λ i. (heard run i rest).air.slots < limit_of run.terms) m none;
         };
       };
     };
@@ -87,7 +89,7 @@ first saving run origin start now before after texts lost repeats s h are keeps 
     begun_lost = lost;
     begun = subst (λ (d : Described). KeepsState saving d (between before after) lost) are keeps;
     reported = [];
-    so_far = reported_none saving (limits_in run) after;
+    so_far = reported_none saving (texts_now run silence) after;
     lines = inl refl;
   };
   lines = refl;
@@ -95,29 +97,35 @@ first saving run origin start now before after texts lost repeats s h are keeps 
   changed = refl;
   refused_is = refl;
   lost_is = refl;
+  limits_are = limits_same limits texts (texts_now run silence) (sym are) known;
   state = h;
 }
 
--- A refused record is reported, and the run has followed it if the run follows such records.
+-- The course after a refused record, which the run has followed if it follows such records.
+abbrev followed : Run → Air → AirRefusal → Course
+followed run b cause = record { run = run; air = caught_up run b (Some cause) }
+
+-- A refused record is reported.
 abbrev airs_refused : (saving : Saving) (run : Run) (origin mid left : Option (List ℕ)) (before so_far after : Port) (repeats : Repeats) (index : ℕ)
-    (cause : AirRefusal) (airs : Airs saving run origin mid (between before so_far)) (b : Air) → HeardOn run origin left (caught_up run b (Some cause)) →
+    (cause : AirRefusal) (airs : Airs saving run origin mid (between before so_far)) (b : Air) → HeardOn run origin left (followed airs.came.run b cause) →
     lines_among (airs.reported ++ lines_by repeats (index, cause)) ≡ (said_of b.refused).lines →
-    ReportsLines (limits_in run) repeats (index, cause) (between so_far after) → Airs saving run origin left (between before after)
+    ReportsLines (limits_in (texts_among (texts_now run silence) airs.reported)) repeats (index, cause) (between so_far after) →
+    Airs saving run origin left (between before after)
 airs_refused saving run origin mid left before so_far after repeats index cause airs b heard_on are r = record {
-  came = caught_up run b (Some cause);
+  came = followed airs.came.run b cause;
   heard_is = heard_on;
   first = airs.first;
   begun_lost = airs.begun_lost;
   begun = airs.begun;
   reported = airs.reported ++ lines_by repeats (index, cause);
-  so_far = reported_on saving (limits_in run) airs.first so_far after airs.reported (lines_by repeats (index, cause)) airs.so_far
-      (lines_reported saving (limits_in run) repeats (index, cause) so_far after r);
+  so_far = reported_on saving (texts_now run silence) airs.first so_far after airs.reported (lines_by repeats (index, cause)) airs.so_far
+      (lines_reported saving (texts_among (texts_now run silence) airs.reported) repeats (index, cause) so_far after r);
   lines = inl are;
 }
 
 -- At the end the records without a line are reported.
 abbrev airs_last : (saving : Saving) (run : Run) (origin left : Option (List ℕ)) (before so_far after : Port) (repeats : Repeats)
-    (airs : Airs saving run origin left (between before so_far)) → lines_among (airs.reported ++ (OfMore repeats ∷ [])) ≡ all_lines airs.came.refused →
+    (airs : Airs saving run origin left (between before so_far)) → lines_among (airs.reported ++ (OfMore repeats ∷ [])) ≡ all_lines airs.came.air.refused →
     Reports (between so_far after) (repeats_text repeats) → Airs saving run origin left (between before after)
 airs_last saving run origin left before so_far after repeats airs are r = record {
   came = airs.came;
@@ -126,14 +134,14 @@ airs_last saving run origin left before so_far after repeats airs are r = record
   begun_lost = airs.begun_lost;
   begun = airs.begun;
   reported = airs.reported ++ (OfMore repeats ∷ []);
-  so_far = reported_on saving (limits_in run) airs.first so_far after airs.reported (OfMore repeats ∷ []) airs.so_far
-      (more_reported saving (limits_in run) repeats so_far after r);
+  so_far = reported_on saving (texts_now run silence) airs.first so_far after airs.reported (OfMore repeats ∷ []) airs.so_far
+      (one_reported saving (texts_among (texts_now run silence) airs.reported) so_far after (OfMore repeats) r);
   lines = inr are;
 }
 
 -- Further records are taken, and nothing is reported.
-abbrev airs_on : (saving : Saving) (run : Run) (origin mid left : Option (List ℕ)) (faults : Device) (airs : Airs saving run origin mid faults) (b : Air) →
-    HeardOn run origin left b → lines_among airs.reported ≡ (said_of b.refused).lines → Airs saving run origin left faults
+abbrev airs_on : (saving : Saving) (run : Run) (origin mid left : Option (List ℕ)) (faults : Device) (airs : Airs saving run origin mid faults) (b : Course) →
+    HeardOn run origin left b → lines_among airs.reported ≡ (said_of b.air.refused).lines → Airs saving run origin left faults
 airs_on saving run origin mid left faults airs b heard_on are = record {
   came = b;
   heard_is = heard_on;
@@ -154,35 +162,41 @@ repeats_stay : (repeats : Repeats) (old new : List (ℕ × AirRefusal)) → repe
 repeats_stay repeats old new are same = are ∙ ap (λ (l : List (ℕ × AirRefusal)). (said_of l).repeats) (sym same)
 
 pub next : (saving : Saving) (run : Run) (origin mid left start now later last : Option (List ℕ)) (before so_far after : Port) (refused lost : Bool)
-    (repeats counted : Repeats) (s heard_to new : AirState) (index : ℕ) (cause : AirRefusal)
-    (m : Midway saving run origin mid start now (between before so_far) refused lost repeats s) →
+    (repeats counted : Repeats) (limits : Option (List UnitLimits)) (s heard_to new : AirState) (index : ℕ) (cause : AirRefusal)
+    (m : Midway saving run origin mid start now (between before so_far) refused lost repeats limits s) →
     HearsOn run m.airs.came origin left start later (Ok (Refused index cause)) heard_to →
-    ((a : Air) → IsOnAir run a start later heard_to → IsOnAir run (caught_up run a (Some cause)) start last new) →
-    ReportsLines (limits_in run) repeats (index, cause) (between so_far after) → counted ≡ with_cause repeats cause →
-    Midway saving run origin left start last (between before after) true lost counted new
-next saving run origin mid left start now later last before so_far after refused lost repeats counted s heard_to new index cause m (b, heard_on, adds, state)
-    follows r is =
-    let are = lines_more m.airs.reported repeats m.airs.came.refused b.refused (index, cause) m.lines m.repeats_are adds.refused in
+    ((r : Run) (a : Air) → IsOnAir r a start later heard_to → IsOnAir r (caught_up r a (Some cause)) start last new) →
+    ((d : Described) → AreLimits limits d → ReportsLines (limits_in d) repeats (index, cause) (between so_far after)) → counted ≡ with_cause repeats cause →
+    Midway saving run origin left start last (between before after) true lost counted limits new
+next saving run origin mid left start now later last before so_far after refused lost repeats counted limits s heard_to new index cause m
+    (b, heard_on, adds, state) follows r is =
+    let c = m.airs.came in
+    let are = lines_more m.airs.reported repeats c.air.refused b.refused (index, cause) m.lines m.repeats_are adds.refused in
     record {
-      airs = airs_refused saving run origin mid left before so_far after repeats index cause m.airs b heard_on are r;
+      airs = airs_refused saving run origin mid left before so_far after repeats index cause m.airs b heard_on are
+          (r (texts_among (texts_now run silence) m.airs.reported) m.limits_are);
       lines = are;
-      repeats_are = is ∙ repeats_more repeats m.airs.came.refused b.refused (index, cause) m.repeats_are adds.refused;
-      changed = changed_same m.airs.reported repeats (index, cause) m.airs.came b m.changed adds.changes;
-      refused_is = sym (some_refused m.airs.came.refused b.refused (index, cause) adds.refused);
+      repeats_are = is ∙ repeats_more repeats c.air.refused b.refused (index, cause) m.repeats_are adds.refused;
+      changed = changed_same m.airs.reported repeats (index, cause) c (followed c.run b cause) m.changed (changes_are c.run c.air b adds.before adds.changes);
+      refused_is = sym (some_refused c.air.refused b.refused (index, cause) adds.refused);
       lost_is = lost_same m.airs.begun_lost m.airs.reported repeats (index, cause) lost m.lost_is;
-      state = follows b state;
+      limits_are = limits_same limits (texts_among (texts_now run silence) m.airs.reported) _
+          (texts_same (texts_now run silence) m.airs.reported repeats (index, cause)) m.limits_are;
+      state = follows c.run b state;
     }
 
--- The texts changed, and the change is reported.
-pub next_change : (saving : Saving) (run : Run) (origin mid left start now later : Option (List ℕ)) (before so_far after : Port) (refused lost : Bool)
-    (repeats : Repeats) (s new : AirState) (index slot : ℕ) (texts : Described) (is_lost all_lost : Bool)
-    (m : Midway saving run origin mid start now (between before so_far) refused lost repeats s) →
-    HearsOn run m.airs.came origin left start later (Ok (Changed index slot)) new →
-    ((a : Air) → IsOnAir run a start later new → texts ≡ texts_now run a) →
-    ReportsChange saving index slot texts (between so_far after) is_lost → all_lost ≡ (is_lost || lost) →
-    Midway saving run origin left start later (between before after) refused all_lost repeats new
-next_change saving run origin mid left start now later before so_far after refused lost repeats s new index slot texts is_lost all_lost m (b, heard_on, adds, state) are r
-    more = record {
+-- A change is reported.
+abbrev changed_on : (saving : Saving) (run : Run) (origin mid left start now later : Option (List ℕ)) (before so_far after : Port) (refused lost : Bool)
+    (repeats : Repeats) (limits known : Option (List UnitLimits)) (s new : AirState) (index slot : ℕ) (texts : Described) (is_lost all_lost : Bool)
+    (m : Midway saving run origin mid start now (between before so_far) refused lost repeats limits s) (b : Course) → HeardOn run origin left b →
+    b.air.refused ≡ m.airs.came.air.refused → changes_of b ≡ (slot, texts) ∷ changes_of m.airs.came → IsOn b start later new →
+    ReportsChange saving index slot texts (between so_far after) is_lost → all_lost ≡ (is_lost || lost) → AreLimits known texts →
+    Midway saving run origin left start later (between before after) refused all_lost repeats known new
+changed_on saving run origin mid left start now later before so_far after refused lost repeats limits known s new index slot texts is_lost all_lost m b heard_on
+    same is state r more are =
+    let stay = change_aside m.airs.reported index slot texts is_lost
+    ∙ lines_stay m.airs.reported m.airs.came.air.refused b.air.refused m.lines same in
+    record {
       airs = record {
         came = b;
         heard_is = heard_on;
@@ -190,45 +204,70 @@ next_change saving run origin mid left start now later before so_far after refus
         begun_lost = m.airs.begun_lost;
         begun = m.airs.begun;
         reported = m.airs.reported ++ (OfChange index slot texts is_lost ∷ []);
-        so_far = reported_more saving (limits_in run) m.airs.first so_far after m.airs.reported (OfChange index slot texts is_lost) m.airs.so_far r;
-        lines = inl (change_aside m.airs.reported index slot texts is_lost
-            ∙ lines_stay m.airs.reported m.airs.came.refused b.refused m.lines adds.refused);
+        so_far = reported_on saving (texts_now run silence) m.airs.first so_far after m.airs.reported (OfChange index slot texts is_lost ∷ []) m.airs.so_far
+            (one_reported saving (texts_among (texts_now run silence) m.airs.reported) so_far after (OfChange index slot texts is_lost) r);
+        lines = inl stay;
       };
-      lines = change_aside m.airs.reported index slot texts is_lost ∙ lines_stay m.airs.reported m.airs.came.refused b.refused m.lines adds.refused;
-      repeats_are = repeats_stay repeats m.airs.came.refused b.refused m.repeats_are adds.refused;
-      changed = changed_more m.airs.reported index slot texts is_lost m.airs.came b m.changed adds
-          (are b state ∙ texts_of_change run m.airs.came b index slot adds);
-      refused_is = m.refused_is ∙ ap (λ (l : List (ℕ × AirRefusal)). nat_lt 0 (length l)) (sym adds.refused);
+      lines = stay;
+      repeats_are = repeats_stay repeats m.airs.came.air.refused b.air.refused m.repeats_are same;
+      changed = changed_more m.airs.reported index slot texts is_lost m.airs.came b m.changed is;
+      refused_is = m.refused_is ∙ ap (λ (l : List (ℕ × AirRefusal)). nat_lt 0 (length l)) (sym same);
       lost_is = lost_more m.airs.begun_lost m.airs.reported index slot texts is_lost lost all_lost m.lost_is more;
+      limits_are = limits_same known texts _ (texts_more (texts_now run silence) m.airs.reported index slot texts is_lost) are;
       state = state;
     }
 
+-- The texts changed.
+pub next_change : (saving : Saving) (run : Run) (origin mid left start now later : Option (List ℕ)) (before so_far after : Port) (refused lost : Bool)
+    (repeats : Repeats) (limits known : Option (List UnitLimits)) (s new : AirState) (index slot : ℕ) (texts : Described) (is_lost all_lost : Bool)
+    (m : Midway saving run origin mid start now (between before so_far) refused lost repeats limits s) →
+    HearsOn run m.airs.came origin left start later (Ok (Changed index slot)) new →
+    ((r : Run) (a : Air) → IsOnAir r a start later new → texts ≡ texts_now r a) →
+    ReportsChange saving index slot texts (between so_far after) is_lost → all_lost ≡ (is_lost || lost) → AreLimits known texts →
+    Midway saving run origin left start later (between before after) refused all_lost repeats known new
+next_change saving run origin mid left start now later before so_far after refused lost repeats limits known s new index slot texts is_lost all_lost m
+    (b, heard_on, adds, state) are r more limited =
+    changed_on saving run origin mid left start now later before so_far after refused lost repeats limits known s new index slot texts is_lost all_lost m
+    (record { run = m.airs.came.run; air = b }) heard_on adds.refused
+    (changes_with m.airs.came.run m.airs.came.air b index slot texts adds (are m.airs.came.run b state)) state r more limited
+
+-- The line-up changed.
+pub next_line_up : (saving : Saving) (run : Run) (origin mid left start now later : Option (List ℕ)) (before so_far after : Port) (refused lost : Bool)
+    (repeats : Repeats) (limits known : Option (List UnitLimits)) (s new : AirState) (index slot : ℕ) (texts : Described) (is_lost all_lost : Bool)
+    (m : Midway saving run origin mid start now (between before so_far) refused lost repeats limits s) →
+    HearsOn run m.airs.came origin left start later (Ok (LinedUp index slot)) new →
+    ((r : Run) (a : Air) → IsOnAir r a start later new → texts ≡ texts_now r a) →
+    ReportsChange saving index slot texts (between so_far after) is_lost → all_lost ≡ (is_lost || lost) → AreLimits known texts →
+    Midway saving run origin left start later (between before after) refused all_lost repeats known new
+next_line_up saving run origin mid left start now later before so_far after refused lost repeats limits known s new index slot texts is_lost all_lost m
+    (b, heard_on, adds, state) are r more limited =
+    changed_on saving run origin mid left start now later before so_far after refused lost repeats limits known s new index slot texts is_lost all_lost m
+    b heard_on adds.refused (changes_over m.airs.came.run m.airs.came.air b index slot texts adds (are b.run b.air state)) state r more limited
+
 -- The writer failed within the slots up to a record that the run follows.
 pub follow_fails : (saving : Saving) (run : Run) (stop : Bool) (mid start now later : Option (List ℕ)) (input output : Device) (before so_far after : Port)
-    (refused lost : Bool) (repeats : Repeats) (s heard_to : AirState) (index : ℕ) (cause : AirRefusal) (sent : ℕ)
-    (m : Midway saving run input.before.bytes mid start now (between before so_far) refused lost repeats s) →
+    (refused lost : Bool) (repeats : Repeats) (limits : Option (List UnitLimits)) (s heard_to : AirState) (index : ℕ) (cause : AirRefusal) (sent : ℕ)
+    (m : Midway saving run input.before.bytes mid start now (between before so_far) refused lost repeats limits s) →
     HearsOn run m.airs.came input.before.bytes input.after.bytes start later (Ok (Refused index cause)) heard_to →
-    ((a : Air) → IsOnAir run a start later heard_to → Fails run (caught_up run a (Some cause)) start output.after.bytes sent) →
-    ReportsLines (limits_in run) repeats (index, cause) (between so_far after) → (stop ≡ true → refused ≡ false) → IsClean input → HasFailed output →
+    ((r : Run) (a : Air) → IsOnAir r a start later heard_to → Fails r (caught_up r a (Some cause)) start output.after.bytes sent) →
+    ((d : Described) → AreLimits limits d → ReportsLines (limits_in d) repeats (index, cause) (between so_far after)) →
+    (stop ≡ true → refused ≡ false) → IsClean input → HasFailed output →
     FailsRecords saving run stop start input output (between before after) sent
-follow_fails saving run stop mid start now later input output before so_far after refused lost repeats s heard_to index cause sent m (b, heard_on, adds, state)
-    failing r first_one clean failed =
+follow_fails saving run stop mid start now later input output before so_far after refused lost repeats limits s heard_to index cause sent m
+    (b, heard_on, adds, state) failing r first_one clean failed =
+    let c = m.airs.came in
     record {
       airs = airs_refused saving run input.before.bytes mid input.after.bytes before so_far after repeats index cause m.airs b heard_on
-          (lines_more m.airs.reported repeats m.airs.came.refused b.refused (index, cause) m.lines m.repeats_are adds.refused) r;
+          (lines_more m.airs.reported repeats c.air.refused b.refused (index, cause) m.lines m.repeats_are adds.refused)
+          (r (texts_among (texts_now run silence) m.airs.reported) m.limits_are);
       stops = λ on. at_most_one b.refused
-          (one_refused m.airs.came.refused b.refused (index, cause) adds.refused (none_refused_yet refused m.airs.came.refused m.refused_is (first_one on)));
-      fails = failing b state;
+          (one_refused c.air.refused b.refused (index, cause) adds.refused (none_refused_yet refused c.air.refused m.refused_is (first_one on)));
+      fails = failing c.run b state;
       clean = clean;
       failed = failed;
     }
 
 -- 2. The end of a run
-
--- The line is by what the streams of the run declare.
-pub by_limits : (run : Run) (streams : List UnitLimits) (repeats : Repeats) (refused : ℕ × AirRefusal) (faults : Device) → streams ≡ limits_in run →
-    ReportsLines streams repeats refused faults → ReportsLines (limits_in run) repeats refused faults
-by_limits run streams repeats refused faults is r = subst (λ (l : List UnitLimits). ReportsLines l repeats refused faults) is r
 
 reader_named : (input : Device) (why : Ending) (w0 w1 : ℕ) → NamesDevice (Ok (Ended why)) input.before.failed input.after.failed w0 w1 →
     NamesReader input (Some why)
@@ -252,23 +291,26 @@ writer_clean Records r0 r1 w0 w1 n = n.1
 writer_clean TextsMemory r0 r1 w0 w1 n = n.1
 
 pub ends : (saving : Saving) (run : Run) (stop : Bool) (mid start now : Option (List ℕ)) (input output : Device) (before so_far after : Port)
-    (refused lost : Bool) (repeats : Repeats) (s new : AirState) (why : Ending)
-    (m : Midway saving run input.before.bytes mid start now (between before so_far) refused lost repeats s) →
+    (refused lost : Bool) (repeats : Repeats) (limits : Option (List UnitLimits)) (s new : AirState) (why : Ending)
+    (m : Midway saving run input.before.bytes mid start now (between before so_far) refused lost repeats limits s) →
     HearsOn run m.airs.came input.before.bytes input.after.bytes start output.after.bytes (Ok (Ended why)) new →
     NamesDevice (Ok (Ended why)) input.before.failed input.after.failed output.before.failed output.after.failed →
     Reports (between so_far after) (repeats_text repeats) → (stop ≡ true → refused ≡ false) →
     EndsRecords saving run stop start input output (between before after) (record { has_refused = refused; has_lost = lost; why = Some why }) new
-ends saving run stop mid start now input output before so_far after refused lost repeats s new why m (b, (rest, heard_on, ends_at), adds, state) n r first_one =
-    let stay = lines_stay m.airs.reported m.airs.came.refused b.refused m.lines adds.refused in
-    let all = lines_all m.airs.reported repeats b.refused stay (repeats_stay repeats m.airs.came.refused b.refused m.repeats_are adds.refused) in
+ends saving run stop mid start now input output before so_far after refused lost repeats limits s new why m (b, (rest, heard_on, ends_at), adds, state) n r
+    first_one =
+    let c = m.airs.came in
+    let d : Course = record { run = c.run; air = b } in
+    let stay = lines_stay m.airs.reported c.air.refused b.refused m.lines adds.refused in
+    let all = lines_all m.airs.reported repeats b.refused stay (repeats_stay repeats c.air.refused b.refused m.repeats_are adds.refused) in
     record {
       rest = rest;
       airs = airs_last saving run input.before.bytes rest before so_far after repeats
-          (airs_on saving run input.before.bytes mid rest (between before so_far) m.airs b heard_on stay) all r;
+          (airs_on saving run input.before.bytes mid rest (between before so_far) m.airs d heard_on stay) all r;
       lines = all;
-      changed = changed_last m.airs.reported repeats m.airs.came b m.changed adds.changes;
+      changed = changed_last m.airs.reported repeats c d m.changed (changes_are c.run c.air b adds.before adds.changes);
       ends = ends_at;
-      stops = λ on. adds.refused ∙ none_refused_yet refused m.airs.came.refused m.refused_is (first_one on);
+      stops = λ on. adds.refused ∙ none_refused_yet refused c.air.refused m.refused_is (first_one on);
       refused = m.refused_is ∙ ap (λ (l : List (ℕ × AirRefusal)). nat_lt 0 (length l)) (sym adds.refused);
       lost = lost_last m.airs.begun_lost m.airs.reported repeats lost m.lost_is;
       state = state;
@@ -278,46 +320,48 @@ ends saving run stop mid start now input output before so_far after refused lost
 
 -- The first refused record is reported, and followed if the run follows such records; it ends the run.
 pub stops : (saving : Saving) (run : Run) (stop : Bool) (mid start now later : Option (List ℕ)) (input output : Device) (before so_far said after : Port)
-    (refused lost : Bool) (repeats counted : Repeats) (s heard_to new : AirState) (index : ℕ) (cause : AirRefusal)
-    (m : Midway saving run input.before.bytes mid start now (between before so_far) refused lost repeats s) →
+    (refused lost : Bool) (repeats counted : Repeats) (limits : Option (List UnitLimits)) (s heard_to new : AirState) (index : ℕ) (cause : AirRefusal)
+    (m : Midway saving run input.before.bytes mid start now (between before so_far) refused lost repeats limits s) →
     HearsOn run m.airs.came input.before.bytes input.after.bytes start later (Ok (Refused index cause)) heard_to →
-    ((a : Air) → IsOnAir run a start later heard_to → IsOnAir run (caught_up run a (Some cause)) start output.after.bytes new) →
-    ReportsLines (limits_in run) repeats (index, cause) (between so_far said) → counted ≡ with_cause repeats cause →
+    ((r : Run) (a : Air) → IsOnAir r a start later heard_to → IsOnAir r (caught_up r a (Some cause)) start output.after.bytes new) →
+    ((d : Described) → AreLimits limits d → ReportsLines (limits_in d) repeats (index, cause) (between so_far said)) → counted ≡ with_cause repeats cause →
     Reports (between said after) (repeats_text counted) → stop ≡ true → (stop ≡ true → refused ≡ false) → IsClean input → IsClean output →
     EndsRecords saving run stop start input output (between before after) (record { has_refused = true; has_lost = lost; why = None }) new
-stops saving run stop mid start now later input output before so_far said after refused lost repeats counted s heard_to new index cause m
+stops saving run stop mid start now later input output before so_far said after refused lost repeats counted limits s heard_to new index cause m
     (b, heard_on, adds, state) follows r is more on first_one clean written =
-    let some = some_refused m.airs.came.refused b.refused (index, cause) adds.refused in
-    let are = lines_more m.airs.reported repeats m.airs.came.refused b.refused (index, cause) m.lines m.repeats_are adds.refused in
+    let c = m.airs.came in
+    let some = some_refused c.air.refused b.refused (index, cause) adds.refused in
+    let are = lines_more m.airs.reported repeats c.air.refused b.refused (index, cause) m.lines m.repeats_are adds.refused in
     let lines = m.airs.reported ++ lines_by repeats (index, cause) in
-    let all = lines_all lines counted b.refused are
-    (is ∙ repeats_more repeats m.airs.came.refused b.refused (index, cause) m.repeats_are adds.refused) in
+    let all = lines_all lines counted b.refused are (is ∙ repeats_more repeats c.air.refused b.refused (index, cause) m.repeats_are adds.refused) in
     record {
       rest = input.after.bytes;
       airs = airs_last saving run input.before.bytes input.after.bytes before said after counted
-          (airs_refused saving run input.before.bytes mid input.after.bytes before so_far said repeats index cause m.airs b heard_on are r) all more;
+          (airs_refused saving run input.before.bytes mid input.after.bytes before so_far said repeats index cause m.airs b heard_on are
+          (r (texts_among (texts_now run silence) m.airs.reported) m.limits_are)) all more;
       lines = all;
-      changed = changed_last lines counted m.airs.came b
-          (changed_same m.airs.reported repeats (index, cause) m.airs.came m.airs.came m.changed refl) adds.changes;
+      changed = changed_last lines counted c (followed c.run b cause)
+          (changed_same m.airs.reported repeats (index, cause) c c m.changed refl) (changes_are c.run c.air b adds.before adds.changes);
       ends = (on, (some, refl));
-      stops = λ asked. one_refused m.airs.came.refused b.refused (index, cause) adds.refused
-          (none_refused_yet refused m.airs.came.refused m.refused_is (first_one asked));
+      stops = λ asked. one_refused c.air.refused b.refused (index, cause) adds.refused
+          (none_refused_yet refused c.air.refused m.refused_is (first_one asked));
       refused = sym some;
       lost = lost_last m.airs.begun_lost lines counted lost (lost_same m.airs.begun_lost m.airs.reported repeats (index, cause) lost m.lost_is);
-      state = follows b state;
+      state = follows c.run b state;
       reader = clean;
       clean = written;
     }
 
 pub fails : (saving : Saving) (run : Run) (stop : Bool) (mid start now : Option (List ℕ)) (input output faults : Device) (refused lost : Bool)
-    (repeats : Repeats) (s new : AirState) (fault : OutputFault) (m : Midway saving run input.before.bytes mid start now faults refused lost repeats s) →
+    (repeats : Repeats) (limits : Option (List UnitLimits)) (s new : AirState) (fault : OutputFault)
+    (m : Midway saving run input.before.bytes mid start now faults refused lost repeats limits s) →
     HearsOn run m.airs.came input.before.bytes input.after.bytes start output.after.bytes (Err fault) new →
     NamesDevice (Err fault) input.before.failed input.after.failed output.before.failed output.after.failed →
     (stop ≡ true → refused ≡ false) → FailsRecords saving run stop start input output faults fault.sent
-fails saving run stop mid start now input output faults refused lost repeats s new fault m (b, heard_on, same, failing) n first_one = record {
+fails saving run stop mid start now input output faults refused lost repeats limits s new fault m (b, heard_on, same, failing) n first_one = record {
   airs = airs_on saving run input.before.bytes mid input.after.bytes faults m.airs b heard_on
-      (lines_stay m.airs.reported m.airs.came.refused b.refused m.lines same);
-  stops = λ on. at_most_none b.refused (same ∙ none_refused_yet refused m.airs.came.refused m.refused_is (first_one on));
+      (lines_stay m.airs.reported m.airs.came.air.refused b.air.refused m.lines same);
+  stops = λ on. at_most_none b.air.refused (same ∙ none_refused_yet refused m.airs.came.air.refused m.refused_is (first_one on));
   fails = failing;
   clean = n.0;
   failed = n.1;

@@ -15,9 +15,10 @@ use Rattle.devices.specs.declared.halt.Halt.TheVariants.{Read, Write, Memory}
 use Rattle.checked_jobs.specs.Jobs.{JobView, job_of}
 use Rattle.checked_jobs.specs.JobSchedules.{schedule_by}
 use Rattle.on_air.specs.declared.answers.Ending.{Ending}
-use Rattle.on_air.specs.Airing.{Run, Air, air_output, ended}
+use Rattle.on_air.specs.Airing.{Run, ended}
 use Rattle.on_air.specs.AirStates.{KeepsHeadline, Promises, run_with}
-use Rattle.on_air.specs.Hearing.{Fails, HeardOn}
+use Rattle.on_air.specs.Courses.{Course, course_ended, output_at}
+use Rattle.on_air.specs.Hearing.{FailsIn, HeardOn}
 use Rattle.tsair_cli.specs.declared.arguments.AirOptions.{AirOptions}
 use Rattle.tsair_cli.specs.declared.front.FrontError.{FrontError}
 use Rattle.tsair_cli.specs.declared.hearing.RecordsEnd.{RecordsEnd}
@@ -60,18 +61,18 @@ pub record EndsRun (saving : Saving) (o : AirOptions) (run : Run) (input output 
   pub so_far : Port
   pub airs : Airs saving run input.before.bytes rest (between faults.before so_far)
   pub end : RecordsEnd
-  pub ends : EndsBy run airs.came o.stop rest input.after.bytes end.why
+  pub ends : EndsBy airs.came o.stop rest input.after.bytes end.why
   pub stops : o.stop ≡ true → StopsAtFirst airs.came end.why
-  pub lines : lines_among airs.reported ≡ all_lines airs.came.refused
+  pub lines : lines_among airs.reported ≡ all_lines airs.came.air.refused
   pub changed : changed_among airs.reported ≡ changes_of airs.came
   pub refused : end.has_refused ≡ has_refused airs.came
   pub lost : end.has_lost ≡ lost_among airs.begun_lost airs.reported
   pub reader : NamesReader input end.why
-  pub written : Appends output.before.bytes output.after.bytes (air_output run (ended run airs.came))
+  pub written : Appends output.before.bytes output.after.bytes (output_at (course_ended airs.came))
   pub clean : IsClean output
-  pub headline : KeepsHeadline run (ended run airs.came)
-  pub reports : Reports (between so_far faults.after) (end_outcome o.terms.slots airs.came.records end).report
-  pub status_is : status ≡ (end_outcome o.terms.slots airs.came.records end).status
+  pub headline : KeepsHeadline airs.came.run (ended airs.came.run airs.came.air)
+  pub reports : Reports (between so_far faults.after) (end_outcome o.terms.slots airs.came.air.records end).report
+  pub status_is : status ≡ (end_outcome o.terms.slots airs.came.air.records end).status
 
 -- the writer failed: it took exactly the first bytes of the output that the records so far settle, or of all slots of the run, and every promise holds for
 -- these slots
@@ -79,11 +80,11 @@ pub record FailsToAir (saving : Saving) (o : AirOptions) (run : Run) (input outp
   pub rest : Option (List ℕ)
   pub so_far : Port
   pub airs : Airs saving run input.before.bytes rest (between faults.before so_far)
-  pub stops : o.stop ≡ true → length airs.came.refused ≤ 1
-  pub air : Air
-  pub air_is : (air ≡ airs.came) ⊎ (air ≡ ended run airs.came)
+  pub stops : o.stop ≡ true → length airs.came.air.refused ≤ 1
+  pub course : Course
+  pub course_is : (course ≡ airs.came) ⊎ (course ≡ course_ended airs.came)
   pub sent : ℕ
-  pub fails : Fails run air output.before.bytes output.after.bytes sent
+  pub fails : FailsIn course output.before.bytes output.after.bytes sent
   pub failed : HasFailed output
   pub reports : Reports (between so_far faults.after) (halt_line Write)
   pub status_is : status ≡ 3

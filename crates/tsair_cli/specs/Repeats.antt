@@ -3,16 +3,17 @@ use Rattle.std.specs.Prelude.{ℕ, ◌+◌, ◌-◌, ◌^◌, ◌==◌, ◌&&◌
 use Rattle.devices.specs.Lines.{line_text}
 use Rattle.unit_queue.specs.Codes.{feed_code}
 use Rattle.on_air.specs.declared.refusals.AirRefusal.{AirRefusal}
-use Rattle.on_air.specs.declared.refusals.AirRefusal.TheVariants.{Feed, Ahead, Followed, Texts}
+use Rattle.on_air.specs.declared.refusals.AirRefusal.TheVariants.{Feed, Ahead, Followed, Texts, LineUp}
 use Rattle.tsair_cli.specs.declared.repeats.CodedRecord.{CodedRecord}
 use Rattle.tsair_cli.specs.declared.repeats.Repeats.{Repeats}
 
--- the code of a refusal with the DTS of its record: a leap that the run follows, and texts, have none
+-- the code of a refusal with the DTS of its record: a leap that the run follows, texts and line-ups have none
 unfoldable pub coded : AirRefusal → Option CodedRecord
 coded (Feed unit) = Some (record { code = feed_code unit.cause; dts = unit.dts })
 coded (Ahead far) = Some (record { code = 11; dts = far.to })
 coded (Followed packet from to) = None
 coded (Texts refusal) = None
+coded (LineUp refusal) = None
 
 -- two refused records are alike: they have one code, and are due within less than a second
 abbrev pub distance : ℕ → ℕ → ℕ

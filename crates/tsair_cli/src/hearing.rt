@@ -1,14 +1,16 @@
 //! The records of a run, taken in turn.
 
-ghost use Rattle.std.specs.Prelude.{◌≡◌, false, true, List, ℕ, Option, IfOk, option_map, string_bytes};
+ghost use Rattle.std.specs.Prelude.{◌≡◌, ◌||◌, false, true, List, ℕ, Option, IfOk, option_map, string_bytes};
 ghost use Rattle.devices.specs.Devices.{reads, writes};
 ghost use Rattle.devices.specs.Lines.{Reports};
 ghost use Rattle.on_air.specs.Airing.{Run, silence};
 ghost use Rattle.on_air.specs.AirStates.{IsOnAir};
-ghost use Rattle.explained_jobs.specs.UnitWords.{air_line};
+ghost use Rattle.description_parts.specs.Described.{Described};
 ghost use Rattle.devices.specs.Devices.{IsUntouched};
 ghost use Rattle.tsair_cli.specs.Repeats.{is_repeat, repeats_text};
+ghost use Rattle.explained_jobs.specs.UnitWords.{air_line};
 ghost use Rattle.tsair_cli.specs.HeardRecords.{
+  AreLimits,
   HearsAll,
   ReportsBoth,
   ReportsChange,
@@ -25,16 +27,15 @@ use crate::state::save_state;
 use counted_io::Sink;
 use description::Description;
 use devices::{OutputFiles, report_line, report_text};
-use explained_jobs::{UnitLimits, write_air};
+use explained_jobs::{UnitLimits, stream_limits, write_air};
 use held_input::HeldInput;
 use on_air::{AirRefusal, Ending, Heard, OnAir, OutputFault};
 use std::alloc::{AllocError, Global};
 
-/// What a run is asked for, and what its streams declare.
+/// What a run is asked for.
 #[derive(Clone, Copy)]
 pub struct Asked<'a> {
     pub options: AirOptions,
-    pub streams: &'a [UnitLimits],
     /// The name of the file that has the versions of the texts in force.
     pub state: Option<&'a str>,
 }
@@ -81,11 +82,12 @@ fn report_numbers<E: Sink>(faults: &mut E, index: u64, cause: AirRefusal)
         }
         AirRefusal::Ahead(_) => report_line(faults, "unit", &[index, 11]),
         AirRefusal::Texts(_) => report_line(faults, "switch refused", &[index]),
+        AirRefusal::LineUp(_) => report_line(faults, "switch refused", &[index]),
     }
 }
 
 /// Reports that a record is refused, or that the run follows it; by its numbers alone if there is no memory for words.
-fn report_refused<E: Sink>(
+fn report_words<E: Sink>(
     alloc: Global,
     streams: &[UnitLimits],
     faults: &mut E,
@@ -97,6 +99,23 @@ fn report_refused<E: Sink>(
     match refused_line(alloc, streams, index, cause) {
         Ok(line) => report_text(faults, line.as_str()),
         Err(_) => report_numbers(faults, index, cause),
+    }
+}
+
+/// Reports that a record is refused, or that the run follows it, by what the streams declare if that is known.
+fn report_refused<E: Sink>(
+    alloc: Global,
+    limits: &Option<Vec<UnitLimits>>,
+    faults: &mut E,
+    index: u64,
+    cause: AirRefusal,
+)
+    ensures { (d : Described) → AreLimits (option_map (λ l. l.items) limits.now) d →
+        ReportsRefusal (limits_in d) (index, cause) (writes E.Sink faults.old faults.new) }
+{
+    match limits {
+        Some(streams) => report_words(alloc, streams, faults, index, cause),
+        None => report_numbers(faults, index, cause),
     }
 }
 
@@ -123,32 +142,49 @@ fn report_more<E: Sink>(faults: &mut E, repeats: Repeats)
 /// that, how many have none.
 fn report_unlike<E: Sink>(
     alloc: Global,
-    streams: &[UnitLimits],
+    limits: &Option<Vec<UnitLimits>>,
     faults: &mut E,
     repeats: Repeats,
     index: u64,
     cause: AirRefusal,
 )
     ensures none { is_repeat repeats cause ≡ true → IsUntouched (writes E.Sink faults.old faults.new) }
-    ensures lines { is_repeat repeats cause ≡ false →
-        ReportsBoth streams.now repeats (index, cause) (writes E.Sink faults.old faults.new) }
+    ensures lines { (d : Described) → AreLimits (option_map (λ l. l.items) limits.now) d → is_repeat repeats cause ≡ false →
+        ReportsBoth (limits_in d) repeats (index, cause) (writes E.Sink faults.old faults.new) }
 {
     if repeats.has(cause) {
         return;
     }
     report_more(faults, repeats);
-    report_refused(alloc, streams, faults, index, cause);
+    report_refused(alloc, limits, faults, index, cause);
 }
 
-/// Reports from which slot on the texts of a record are in force.
+/// Returns what the streams of these texts declare, if there is memory for it.
+fn limits_now(alloc: Global, texts: &Description) -> Option<Vec<UnitLimits>>
+    ensures { AreLimits (option_map (λ l. l.items) result) texts.now }
+{
+    match stream_limits(alloc, texts.streams()) {
+        Ok(limits) => Some(limits),
+        Err(_) => None,
+    }
+}
+
+/// Returns whether one of the two holds.
+fn either(one: bool, other: bool) -> bool
+    ensures { result ≡ (one || other) }
+{
+    one || other
+}
+
+/// Reports from which slot on the texts of a record, or its line-up, are in force.
 fn report_slot<E: Sink>(faults: &mut E, index: u64, slot: u64)
     ensures { Reports (writes E.Sink faults.old faults.new) (change_line index slot) }
 {
     report_line(faults, "switch", &[u128::from(index), u128::from(slot)]);
 }
 
-/// Reports from which slot on the texts of a record are in force, and writes their versions to the file of this name, if a
-/// name is given. Returns whether the versions are lost.
+/// Reports from which slot on the texts of a record, or its line-up, are in force, and writes the versions of the texts to
+/// the file of this name, if a name is given. Returns whether the versions are lost.
 fn report_change<F: OutputFiles, E: Sink>(
     alloc: Global,
     files: &F,
@@ -166,10 +202,10 @@ fn report_change<F: OutputFiles, E: Sink>(
 }
 
 /// Takes all records of a run, and reports the refused records before the next is read, and before the slots up to one
-/// are written if the run follows it, by what its streams declare: those in a row that are alike once in a second, with
-/// their number at the next line or at the end; and each change of the texts. Before the first record and after each
-/// change it writes the versions of the texts in force to the file that is asked for. If `--stop` is, the first refused
-/// record ends the run, after those slots.
+/// are written if the run follows it, by what the streams declare that are on air: those in a row that are alike once in
+/// a second, with their number at the next line or at the end; and each change of the texts or of the line-up. Before the
+/// first record and after each change it writes the versions of the texts in force to the file that is asked for. If
+/// `--stop` is, the first refused record ends the run, after those slots.
 pub fn hear_all<F: OutputFiles, R: HeldInput, W: Sink, E: Sink>(
     alloc: Global,
     asked: Asked<'_>,
@@ -179,7 +215,7 @@ pub fn hear_all<F: OutputFiles, R: HeldInput, W: Sink, E: Sink>(
     output: &mut W,
     faults: &mut E,
 ) -> Result<RecordsEnd, OutputFault>
-    ensures { (run : Run) (start : Option (List ℕ)) → asked.entry.streams.now ≡ limits_in run →
+    ensures { (run : Run) (start : Option (List ℕ)) →
         IsOnAir run silence start (W.contents output.old) on_air.old →
         HearsAll (saving_of (F.creates files.now) (F.keeps files.now) (option_map (λ s. s.now) asked.entry.state)) run
         asked.entry.options.stop start (reads R.Source input.old input.new) (writes W.Sink output.old output.new)
@@ -187,11 +223,13 @@ pub fn hear_all<F: OutputFiles, R: HeldInput, W: Sink, E: Sink>(
 {
     let mut has_refused = false;
     let mut repeats = Repeats::none();
-    let mut has_lost = save_state(alloc, files, asked.state, on_air.texts(), faults);
+    let first = on_air.texts();
+    let mut has_lost = save_state(alloc, files, asked.state, first, faults);
+    let mut limits = limits_now(alloc, first);
     'records: loop {
         match on_air.hear_on(alloc, input, output) {
             Ok(Heard::Refused { index, cause }) => {
-                report_unlike(alloc, asked.streams, faults, repeats, index, cause);
+                report_unlike(alloc, &limits, faults, repeats, index, cause);
                 repeats = repeats.with(cause);
                 has_refused = true;
                 match on_air.follow(cause, output) {
@@ -211,7 +249,14 @@ pub fn hear_all<F: OutputFiles, R: HeldInput, W: Sink, E: Sink>(
             Ok(Heard::Changed { index, slot }) => {
                 let texts = on_air.texts();
                 let is_lost = report_change(alloc, files, asked.state, texts, faults, index, slot);
-                has_lost = is_lost || has_lost;
+                has_lost = either(is_lost, has_lost);
+                limits = limits_now(alloc, texts);
+            }
+            Ok(Heard::LinedUp { index, slot }) => {
+                let begun = on_air.texts();
+                let is_gone = report_change(alloc, files, asked.state, begun, faults, index, slot);
+                has_lost = either(is_gone, has_lost);
+                limits = limits_now(alloc, begun);
             }
             Ok(Heard::Ended(why)) => {
                 report_more(faults, repeats);

@@ -22,10 +22,8 @@ ghost use Rattle.mux_core.specs.NewMux.{Judges};
 ghost use Rattle.on_air.specs.Airing.{Run, silence};
 ghost use Rattle.on_air.specs.AirStates.{IsOnAir, begin_refusal};
 ghost use Rattle.checked_jobs.specs.JobFaults.{plans_view};
-ghost use Rattle.explained_jobs.specs.UnitWords.{limits_of};
 ghost use Rattle.tsair_cli.specs.AirRuns as spec;
 ghost use Rattle.tsair_cli.specs.Arguments.{asked};
-ghost use Rattle.tsair_cli.specs.HeardRecords.{limits_in};
 ghost use Rattle.tsair_cli.specs.Options.{known_words, usage_text};
 ghost use Rattle.tsair_cli.specs.States.{saving_of};
 ghost use Rattle.word_faults.specs.SortedWords.{value_given};
@@ -41,10 +39,9 @@ use crate::pass_frames;
 use checked_jobs::{JobPlans, report_refusal};
 use counted_io::Sink;
 use devices::{Halt, OutputFiles, report_halt, report_text};
-use explained_jobs::{UnitLimits, description_of, stream_limits};
 use held_input::HeldInput;
 use on_air::{NewError, OnAir};
-use std::alloc::{AllocError, Global};
+use std::alloc::Global;
 use word_faults::{answer_words, value_given};
 
 /// Writes the usage, and returns the status.
@@ -85,13 +82,6 @@ fn report_begin<E: Sink>(faults: &mut E, cause: NewError) -> u8
     }
 }
 
-/// Returns what the streams of a job declare of their units.
-fn declared_limits(alloc: Global, plans: &JobPlans) -> Result<Vec<UnitLimits>, AllocError>
-    ensures { IfOk result (λ limits. limits.items ≡ map limits_of (plans_view plans.now []).description.streams) }
-{
-    stream_limits(alloc, description_of(plans).streams())
-}
-
 /// Takes the records of a run, writes all its slots, and returns the status.
 fn air<F: OutputFiles, R: HeldInput, W: Sink, E: Sink>(
     alloc: Global,
@@ -102,8 +92,7 @@ fn air<F: OutputFiles, R: HeldInput, W: Sink, E: Sink>(
     output: &mut W,
     faults: &mut E,
 ) -> u8
-    ensures { (run : Run) → asked.entry.streams.now ≡ limits_in run →
-        IsOnAir run silence (W.contents output.old) (W.contents output.old) on_air.old →
+    ensures { (run : Run) → IsOnAir run silence (W.contents output.old) (W.contents output.old) on_air.old →
         spec.AirsRecords (saving_of (F.creates files.now) (F.keeps files.now) (option_map (λ s. s.now) asked.entry.state))
         asked.entry.options run (reads R.Source input.old input.new) (writes W.Sink output.old output.new)
         (writes E.Sink faults.old faults.new) result }
@@ -136,20 +125,11 @@ fn air_job<F: OutputFiles, R: HeldInput, W: Sink, E: Sink>(
         Ok(plans) => plans,
         Err(error) => return report_front(faults, error),
     };
-    let Ok(limits) = declared_limits(alloc, &plans) else {
-        // By a call: at the end of a function the drop of each part would be a step of its proof.
-        drop(plans);
-        return report_halt(faults, Halt::Memory);
-    };
     let mut on_air = match begin(alloc, options, plans) {
         Ok(on_air) => on_air,
         Err(cause) => return report_begin(faults, cause),
     };
-    let asked = Asked {
-        options,
-        streams: &limits,
-        state,
-    };
+    let asked = Asked { options, state };
     let status = air(alloc, asked, files, &mut on_air, input, output, faults);
     // By a call: at the end of a function the drop of each part would be a step of its proof.
     drop(on_air);

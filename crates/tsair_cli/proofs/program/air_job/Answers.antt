@@ -1,10 +1,10 @@
-use Rattle.std.proofs.Common.{[], inl, refl, ◌∙◌}
+use Rattle.std.proofs.Common.{[], inl, refl}
 use Rattle.std.specs.Prelude.{option_map}
 use Rattle.devices.specs.Devices.{Port, between}
 use Rattle.tsair_cli.specs.States.{saving_of}
 use Rattle.checked_jobs.specs.JobFaults.{plans_view}
 use Rattle.tsair_cli.specs.AirRuns.{run_of}
-use Rattle.tsair_cli.proofs.AirRuns.{begun, limits_of_plans, no_limits, not_begun}
+use Rattle.tsair_cli.proofs.AirRuns.{begun, not_begun}
 use Rattle.tsair_cli.proofs.program.air_job.Goals as goal
 
 pub returns : goal.returns
@@ -17,20 +17,8 @@ returns g c =
       begins = begun c.args.options before left c.in-Ok.plans c.is_some.result c.is_some.ensures c.in-Ok.ensures;
       promises = (c.in-Ok-begin.ensures.begun (g.W.Write.contents c.args.output.now)).promises;
       records = c.air-status.ensures (run_of c.args.options (plans_view c.in-Ok.plans []))
-          (limits_of_plans c.args.options c.in-Ok.plans c.deref.result.now (c.deref.ensures.value ∙ c.in-Ok-declared_limits.ensures))
           (c.in-Ok-begin.ensures.begun (g.W.Write.contents c.args.output.now));
     })
-
-pub returns-in_default : goal.returns-in_default
-returns-in_default g c =
-    let before : Port = record { bytes = g.R.Read.remaining c.args.input.now; failed = g.R.Source.fault_count c.args.input.now } in
-    let left : Port = record { bytes = g.R.Read.remaining c.read_front.new.input; failed = g.R.Source.fault_count c.read_front.new.input } in
-    let out : Port = record { bytes = g.W.Write.contents c.args.output.now; failed = g.W.Sink.fault_count c.args.output.now } in
-    let so_far : Port = record { bytes = g.E.Write.contents c.args.faults.now; failed = g.E.Sink.fault_count c.args.faults.now } in
-    let after : Port = record { bytes = g.E.Write.contents c.report_halt.new.faults; failed = g.E.Sink.fault_count c.report_halt.new.faults } in
-    no_limits (saving_of (g.F.OutputFiles.creates c.args.files.now) (g.F.OutputFiles.keeps c.args.files.now) (option_map (λ s. s.now) c.args.state))
-    c.args.options (between before left) (between out out) (between so_far after) _ c.in-Ok.plans c.is_some.result c.in-Ok.ensures refl
-    c.report_halt.ensures.reports c.report_halt.ensures.status
 
 pub returns-in-Err-begin : goal.returns-in-Err-begin
 returns-in-Err-begin g c =
