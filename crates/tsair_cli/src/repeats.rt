@@ -46,7 +46,11 @@ fn coded(cause: AirRefusal) -> Option<CodedRecord>
 fn distance(one: u64, other: u64) -> u64
     ensures { result ≡ spec.distance one other }
 {
-    if one < other { other - one } else { one - other }
+    if one < other {
+        other - one
+    } else {
+        one - other
+    }
 }
 
 /// Returns whether two refused records are alike: they have one code, and are due within less than a second.
