@@ -21,7 +21,7 @@ SOURCES = {
     "devices": ["halt", "host", "meter", "saving"],
     "diagnosis": ["equal_keys", "explaining", "fault_lines", "key_places", "key_tables", "unknown_words"],
     "es_feed": ["fed_records", "stream_lines"],
-    "explained_jobs": ["explaining", "fault_lines", "fault_words", "line_up_words", "text_answers", "text_words", "unit_words"],
+    "explained_jobs": ["explaining", "fault_lines", "fault_words", "line_up_words", "next_fronts", "text_answers", "text_words", "unit_words"],
     "job_lines": None,
     "job_run": ["gap_lines", "left_out_count", "reason_output", "recoding_lines", "stream_files"],
     "plan_diagnosis": None,

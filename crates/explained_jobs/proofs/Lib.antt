@@ -1,2 +1,3 @@
 mod Explained
 pub mod TextRecords
+pub mod NextFronts

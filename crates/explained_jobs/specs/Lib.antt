@@ -4,4 +4,5 @@ pub mod FaultLines
 pub mod TextWords
 pub mod TextAnswers
 pub mod TextRecords
+pub mod NextFronts
 pub mod LineUpWords

@@ -1,5 +1,5 @@
 -- The record that puts new texts on air.
-use Rattle.std.specs.Prelude.{◌≡◌, ◌≤◌, ◌+◌, ◌-◌, ◌*◌, ℕ, List, length, min, Ok}
+use Rattle.std.specs.Prelude.{◌≡◌, ◌≤◌, ◌+◌, ◌-◌, ◌*◌, ℕ, Bool, true, false, List, [], ◌++◌, length, min, Ok}
 use Rattle.clock27.specs.Release.{release}
 use Rattle.pes_packet.specs.AccessUnits.{AccessUnit}
 use Rattle.pes_packet.specs.Marks.{no_marks}
@@ -18,12 +18,17 @@ due_at d at wait = 90000 * (at - d.start) + greatest_lead d.streams + wait
 abbrev pub texts_unit : ℕ → List ℕ → AccessUnit
 texts_unit due texts = record { dts = due; pts = due; marks = no_marks; bytes = texts }
 
--- the record of these texts, for a job with this description
-pub record IsTextsRecord (job texts : List ℕ) (at wait : ℕ) (bytes : List ℕ) : Type 0 where
+-- a front has a tick before it, by which the slots before the moment are written
+abbrev pub tick_before : Bool → ℕ → List ℕ
+tick_before false due = []
+tick_before true due = record_bytes 255 (texts_unit due [])
+
+-- the record of these texts, or of this front, for a job with this description
+pub record IsTextsRecord (is_front : Bool) (job texts : List ℕ) (at wait : ℕ) (bytes : List ℕ) : Type 0 where
   pub frame : Described
   pub read : Ok frame ≡ description_in (description_part job (parts_of job))
   pub size : length texts ≤ 4000000
-  pub is : bytes ≡ record_bytes 254 (texts_unit (due_at frame at wait) texts)
+  pub is : bytes ≡ tick_before is_front (due_at frame at wait) ++ record_bytes 254 (texts_unit (due_at frame at wait) texts)
 
 -- the slots before a run puts them on air are those that begin before the moment
 abbrev pub TextsBegin : Type 0

@@ -13,9 +13,13 @@ use description_keys::{DescError, DescFault};
 use on_air::TextsRefusal;
 use std::alloc::{AllocError, Global};
 
-// Returns why a description is refused, after these words.
+/// Returns why a description is refused, after these words.
 #[tactic(auto, unfolding(crate::specs::TextAnswers::refused_words))]
-fn refused_text(alloc: Global, front: &str, fault: DescFault) -> Result<String, AllocError>
+pub(crate) fn refused_text(
+    alloc: Global,
+    front: &str,
+    fault: DescFault,
+) -> Result<String, AllocError>
     ensures { IfOk result (λ text. string_bytes text ≡ spec.refused_words front.now (DescError.Refused fault)) }
 {
     let mut text = String::new(alloc);

@@ -14,7 +14,7 @@ use Rattle.tsjob_cli.specs.Command.{output_file, words_but_output}
 use Rattle.tsjob_cli.specs.Explaining.{ExplainsFiles}
 use Rattle.tsjob_cli.specs.FileWords.{file_words, option_words}
 use Rattle.tsjob_cli.specs.MadeJobs.{MakesJob}
-use Rattle.tsjob_cli.specs.NextTexts.{AnswersNext, record_asked}
+use Rattle.tsjob_cli.specs.NextTexts.{AnswersNext, next_asked}
 use Rattle.tsjob_cli.specs.Options.{usage_text}
 
 both : (b : Bool) → b ≡ true → b ≡ false → ⊥
@@ -69,7 +69,8 @@ not_explained outputs words files input output faults status other isnt p =
     }
 
 pub next_answered : (outputs : Outputs) (words : List Text) (files : Files) (input output faults : Device) (status : ℕ) → is_next words ≡ true →
-    IsUntouched input → AnswersNext files outputs.creates outputs.keeps (record_asked (option_words words)) (file_words words) output faults status →
+    IsUntouched input →
+    AnswersNext files outputs.creates outputs.keeps (next_asked (option_words words) (output_file words)) (file_words words) output faults status →
     Answers outputs words files input output faults status
 next_answered outputs words files input output faults status is unread a = record {
   next = λ yes. (a, unread);

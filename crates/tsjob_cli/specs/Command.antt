@@ -15,7 +15,7 @@ use Rattle.word_faults.specs.SortedWords.{are_taken, value_given, words_without}
 use Rattle.word_faults.specs.UsageReport.{AnswersWords}
 use Rattle.tsjob_cli.specs.Explaining.{ExplainsFiles}
 use Rattle.tsjob_cli.specs.FileWords.{file_words, marked_names, option_words}
-use Rattle.tsjob_cli.specs.NextTexts.{AnswersNext, record_asked}
+use Rattle.tsjob_cli.specs.NextTexts.{AnswersNext, next_asked}
 use Rattle.tsjob_cli.specs.MadeJobs.{MakesJob, RunsJob, is_kept}
 use Rattle.tsjob_cli.specs.Options.{explain_words, known_for, next_words, sorting_words, usage_text}
 use Rattle.tsjob_cli.specs.declared.command.TheConstants.{SHORT_NAMES}
@@ -161,7 +161,8 @@ explains_files words = is_explained words && not (length (file_words words) == 0
 
 pub record Answers (outputs : Outputs) (words : List Text) (files : Files) (input output faults : Device) (status : ℕ) : Type 0 where
   pub next : is_next words ≡ true →
-      AnswersNext files outputs.creates outputs.keeps (record_asked (option_words words)) (file_words words) output faults status × IsUntouched input
+      AnswersNext files outputs.creates outputs.keeps (next_asked (option_words words) (output_file words)) (file_words words) output faults status
+      × IsUntouched input
   pub explains : is_next words ≡ false → explains_files words ≡ true → ExplainsFiles files (file_words words) output faults status × IsUntouched input
   pub performs : is_next words ≡ false → explains_files words ≡ false → PerformsWords outputs words files input output faults status
 

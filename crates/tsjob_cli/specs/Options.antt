@@ -65,7 +65,7 @@ abbrev pub usage_front : Text
 usage_front =
     codes "usage: tsjob [describe|units|why] [OPTIONS] [FILE..|-] [-o OUT]\n"
     ++ (codes "       tsjob units --stream DESCRIPTION < PACKETS > RECORDS\n"
-    ++ (codes "       tsjob explain [DESCRIPTION [PLAN [RECORDS]]]\n" ++ codes "       tsjob next JOB TEXTS [--at YYYY-MM-DDThh:mm:ss --to RECORD [--wait T]]\n"))
+    ++ (codes "       tsjob explain [DESCRIPTION [PLAN [RECORDS]]]\n" ++ codes "       tsjob next JOB NEW [--plan [-o FRONT]] [--at YYYY-MM-DDThh:mm:ss --to RECORD [--wait T]]\n"))
 
 -- the usage, with a line for each option
 abbrev pub usage_text : List ℕ

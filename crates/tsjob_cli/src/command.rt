@@ -270,7 +270,16 @@ fn answer<F: NamedFiles + OutputFiles, R: Source, W: Sink, E: Sink>(
 {
     let names = file_words(words);
     if is_next(words) {
-        answer_next(alloc, files, option_words(words), names, output, faults)
+        let name = output_file(words);
+        answer_next(
+            alloc,
+            files,
+            option_words(words),
+            name,
+            names,
+            output,
+            faults,
+        )
     } else if is_explained(words) && !names.is_empty() {
         explain_files(alloc, files, names, output, faults)
     } else {

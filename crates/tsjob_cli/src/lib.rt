@@ -7,6 +7,7 @@
 //! writes in memory. `command` is `run_command`, for words as people type them (`specs/Command`). `rows` has the rows
 //! of options that `tsremux` shares.
 //!
+//! `next_texts` answers questions about new texts, with a front or a record, as `next_asked` reads the options.
 //! `reading` returns the bytes of files that a command line names, one after another (`specs/ReadFiles`).
 #![tactic(auto)]
 
@@ -16,6 +17,7 @@ mod explained_input;
 mod file_mark;
 mod file_words;
 mod made_job;
+mod next_asked;
 mod next_texts;
 mod options;
 mod program;

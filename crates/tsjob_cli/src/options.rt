@@ -69,15 +69,24 @@ pub(crate) const OPTIONS: [OptionRow; 28] = [
 /// The options beside the word `explain`.
 pub(crate) const EXPLAIN_OPTIONS: [OptionRow; 2] = [VERSION, HELP];
 
-/// The options beside the word `next`: for a record of the texts.
-pub(crate) const NEXT_OPTIONS: [OptionRow; 5] = [
+/// The options beside the word `next`: for a front, and for a record of it or of the texts.
+pub(crate) const NEXT_OPTIONS: [OptionRow; 7] = [
+    OptionRow {
+        name: "plan",
+        value: ValueKind::Flag,
+        form: "",
+        unit: "",
+        apart: "",
+        help: "NEW is written with a plan in which what stays keeps its slots",
+    },
+    OUTPUT,
     OptionRow {
         name: "at",
         value: ValueKind::Moment,
         form: "YYYY-MM-DDThh:mm:ss",
         unit: "UTC, in the years 1970 to 2037",
         apart: "",
-        help: "the moment from which the texts are in force",
+        help: "the moment from which NEW is in force",
     },
     OptionRow {
         name: "to",
@@ -85,7 +94,7 @@ pub(crate) const NEXT_OPTIONS: [OptionRow; 5] = [
         form: "RECORD",
         unit: "",
         apart: "",
-        help: "the file that the record of the texts is written to",
+        help: "the file that the record of NEW is written to",
     },
     OptionRow {
         name: "wait",
@@ -109,7 +118,7 @@ pub(crate) const NEXT_OPTIONS: [OptionRow; 5] = [
 const USAGE: &str = "usage: tsjob [describe|units|why] [OPTIONS] [FILE..|-] [-o OUT]
        tsjob units --stream DESCRIPTION < PACKETS > RECORDS
        tsjob explain [DESCRIPTION [PLAN [RECORDS]]]
-       tsjob next JOB TEXTS [--at YYYY-MM-DDThh:mm:ss --to RECORD [--wait T]]
+       tsjob next JOB NEW [--plan [-o FRONT]] [--at YYYY-MM-DDThh:mm:ss --to RECORD [--wait T]]
   --rate 100000..100000000       bits a second; else the first tried rate with a plan
   --program N,..                 the programs that are taken
   --without PID,..               PIDs that are left out
