@@ -1,7 +1,7 @@
 //! Whether a description with its plan may take the place of others on air.
 //!
-//! - [`line_up_fault`]: why it may not. What stays keeps its own slots, over all time, so each promise about what stays is
-//!   a promise of the new plan alone.
+//! - [`line_up_fault`]: why it may not. What stays keeps its own slots, over all time, so each promise about what stays
+//!   is a promise of the new plan alone.
 //! - [`slot_in`]: what the other description has on the PID of a slot.
 //! - [`follow_versions`]: the new description with the versions that follow those that were sent.
 #![tactic(auto)]
