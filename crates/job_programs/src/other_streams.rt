@@ -2,67 +2,23 @@
 
 ghost use Rattle.std.specs.Prelude.{◌≡◌, IfOk, OnOk, [], map, option_map};
 ghost use Rattle.std.specs.List.{list_all, list_any};
-ghost use Rattle.pid_findings.specs.Shown.{finding_view, what_view};
-ghost use Rattle.dvb_tables.specs.NetworkInformation.{nit_at, nit_view};
+ghost use Rattle.pid_findings.specs.Shown.{finding_view};
+ghost use Rattle.dvb_tables.specs.NetworkInformation.{nit_view};
 ghost use Rattle.dvb_tables.specs.TransportStreams.{transport_stream_view, transport_streams_of};
-ghost use Rattle.psi_tables.specs.Views.{section_view};
-ghost use Rattle.ts_services.specs.NetworkInformation.{found_network_view, is_network_section, nit_found, nit_in, nit_in_force};
+ghost use Rattle.ts_services.specs.NetworkInformation.{found_network_view};
 ghost use Rattle.job_programs.specs.OtherStreams as spec;
 
 use crate::given_loops::can_be_kept;
-use dvb_tables::{NIT_TABLE_ID, Nit, TransportStream, TransportStreams};
+use dvb_tables::{Nit, TransportStream, TransportStreams};
 use job_text::NetworkStreamPart;
-use pid_findings::{Finding, What};
-use program_tables::section_on;
-use psi_tables::Section;
+use pid_findings::Finding;
 use std::alloc::{AllocError, Global};
-use ts_services::{FoundNetwork, stream_network};
-
-/// The PID of network information sections.
-const NIT_PID: u16 = 0x10;
+use ts_services::{FoundNetwork, is_network_section, nit_found, stream_network};
 
 /// The most transport streams that a description has beside its own, and the most bytes of descriptors of each.
 const MOST_STREAMS: usize = 64;
 
 const MOST_BYTES: usize = 700;
-
-// Returns a table that is in force now.
-#[tactic(auto, unfolding(ts_services::specs::NetworkInformation::nit_in_force))]
-fn nit_of_section<'f>(section: &Section<'f>) -> Option<Nit<'f>>
-    ensures { option_map nit_view result ≡ nit_in_force (nit_at (section_view section.now)) }
-{
-    match Nit::read(section) {
-        Err(_) => None,
-        Ok(nit) => {
-            if nit.header.current_next {
-                Some(nit)
-            } else {
-                None
-            }
-        }
-    }
-}
-
-#[tactic(auto, unfolding(ts_services::specs::NetworkInformation::nit_in, ts_services::specs::NetworkInformation::nit_of_section))]
-fn nit_in(bytes: &[u8]) -> Option<Nit<'_>>
-    ensures { option_map nit_view result ≡ nit_in bytes.now }
-{
-    match Section::read(bytes) {
-        Err(_) => None,
-        Ok((section, _)) => nit_of_section(&section),
-    }
-}
-
-// Returns the table that a finding has.
-#[tactic(auto, unfolding(ts_services::specs::NetworkInformation::nit_found))]
-fn nit_found<'f>(finding: &'f Finding<'_>) -> Option<Nit<'f>>
-    ensures { option_map nit_view result ≡ nit_found (finding_view finding.now) }
-{
-    match section_on(NIT_PID, finding) {
-        None => None,
-        Some(bytes) => nit_in(bytes),
-    }
-}
 
 // Returns whether a transport stream has these ids.
 fn has_ids(id: u16, original: u16, entry: &TransportStream<'_>) -> bool
@@ -294,21 +250,7 @@ fn is_said(
     }
 }
 
-// Returns whether a finding is a section with the table_id of a network information section of an actual network.
-#[tactic(auto, unfolding(ts_services::specs::NetworkInformation::is_network_section))]
-fn is_network_section(what: &What<'_>) -> bool
-    ensures { result ≡ is_network_section (what_view what.now) }
-{
-    match what {
-        What::Section(part) => match part.bytes() {
-            [table_id, ..] => *table_id == NIT_TABLE_ID,
-            [] => false,
-        },
-        _ => false,
-    }
-}
-
-// Returns whether a finding is such a section with anything that a description has not.
+// Returns whether a finding is a network information section of an actual network with anything that a description has not.
 #[tactic(auto, unfolding(crate::specs::OtherStreams::is_surplus))]
 fn is_surplus(
     id: u16,

@@ -1,8 +1,7 @@
 -- The network of a stream, by its network information table (EN 300 468, 5.2.1 and 6.2.27).
-use Rattle.std.specs.Prelude.{ℕ, ◌==◌, ◌&&◌, nat_le, not, Bool, true, false, if◌then◌else◌, List, [], ◌∷◌, length, Option, Some, None, option_map}
+use Rattle.std.specs.Prelude.{ℕ, ◌==◌, ◌&&◌, nat_le, Bool, true, false, if◌then◌else◌, List, [], ◌∷◌, length, Option, Some, None, option_map}
 use Rattle.std.specs.Prelude.{option_and_then, Result, Ok, Err}
 use Rattle.std.specs.Option.{option_or}
-use Rattle.std.specs.Str.{bytes_eq}
 use Rattle.psi_tables.specs.Views.{SectionView}
 use Rattle.psi_tables.specs.Reading.{section_at}
 use Rattle.psi_tables.specs.declared.error.SectionError.{SectionError}
@@ -102,43 +101,8 @@ known_stream id findings = record { transport_stream_id = id; original_network_i
 unfoldable pub stream_network : ℕ → List FindingView → Option FoundNetworkView
 stream_network id findings = first_network (known_stream id findings) findings
 
--- 3. What else they say
-
-unfoldable pub is_same : FoundNetworkView → Option FoundNetworkView → Bool
-is_same n None = false
-is_same n (Some m) =
-    (n.id == m.id && n.original == m.original) && (bytes_eq n.network_descriptors m.network_descriptors && bytes_eq n.descriptors m.descriptors)
-
-unfoldable pub is_one : List TransportStreamView → Bool
-is_one [] = false
-is_one (t ∷ []) = true
-is_one (t ∷ u ∷ ts) = false
-
--- a description can have the descriptors of the network, and there is no other transport stream
-unfoldable pub says_no_more : NitView → Bool
-says_no_more nit = can_be_said nit.network_descriptors && is_one nit.transport_streams
-
-unfoldable pub says_only : KnownStream → Option FoundNetworkView → NitView → Bool
-says_only s None nit = false
-says_only s (Some n) nit = is_same n (network_in s nit) && says_no_more nit
-
-unfoldable pub is_said : KnownStream → Option FoundNetworkView → Option NitView → Bool
-is_said s n None = false
-is_said s n (Some nit) = says_only s n nit
-
 -- a section with the table_id of a network information section
 unfoldable pub is_network_section : WhatView → Bool
 is_network_section (IsSection []) = false
 is_network_section (IsSection (table_id ∷ bytes)) = table_id == 0x40
 is_network_section _ = false
-
-unfoldable pub is_surplus : KnownStream → Option FoundNetworkView → FindingView → Bool
-is_surplus s n finding = is_network_section finding.what && not (is_said s n (nit_found finding))
-
--- the packet where the first such section ends that is not of this network, or says anything else
-unfoldable pub surplus_from : KnownStream → Option FoundNetworkView → List FindingView → Option ℕ
-surplus_from s n [] = None
-surplus_from s n (finding ∷ findings) = if is_surplus s n finding then Some finding.packet else surplus_from s n findings
-
-unfoldable pub network_surplus : ℕ → List FindingView → Option ℕ
-network_surplus id findings = surplus_from (known_stream id findings) (stream_network id findings) findings

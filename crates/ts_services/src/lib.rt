@@ -11,7 +11,7 @@ mod service_description;
 mod service_index;
 mod services;
 
-pub use network_information::{FoundNetwork, network_surplus, stream_network};
+pub use network_information::{FoundNetwork, is_network_section, nit_found, stream_network};
 pub use networks::original_network;
 pub use service_index::{FoundServices, found_services};
 pub use services::{FoundService, last_service, length_prefixed};

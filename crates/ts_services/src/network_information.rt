@@ -73,9 +73,9 @@ fn nit_in(bytes: &[u8]) -> Option<Nit<'_>>
     }
 }
 
-// Returns the table that a finding has.
+/// Returns the network information table that a finding has, if it is in force.
 #[tactic(auto, unfolding(crate::specs::NetworkInformation::nit_found))]
-fn nit_found<'f, A: Allocator>(finding: &'f Finding<'_, A>) -> Option<Nit<'f>>
+pub fn nit_found<'f, A: Allocator>(finding: &'f Finding<'_, A>) -> Option<Nit<'f>>
     ensures { option_map nit_view result ≡ spec.nit_found (finding_view finding.now) }
 {
     match section_on(NIT_PID, finding) {
@@ -222,67 +222,9 @@ pub fn stream_network<'f, A: Allocator>(
     first_network(known_stream(transport_stream_id, findings), findings)
 }
 
-#[tactic(auto, unfolding(crate::specs::NetworkInformation::is_same))]
-fn is_same(one: FoundNetwork<'_>, other: Option<FoundNetwork<'_>>) -> bool
-    ensures { result ≡ spec.is_same (spec.found_network_view one.entry)
-        (option_map spec.found_network_view other.entry) }
-{
-    match other {
-        None => false,
-        Some(other) => {
-            (one.id == other.id && one.original == other.original)
-                && (one.network_descriptors == other.network_descriptors
-                    && one.descriptors == other.descriptors)
-        }
-    }
-}
-
-// Returns whether there is one transport stream.
-#[tactic(auto, unfolding(crate::specs::NetworkInformation::is_one))]
-fn is_one(entries: TransportStreams<'_>) -> bool
-    ensures { result ≡ spec.is_one (transport_streams_of entries.entry) }
-{
-    let mut left = entries;
-    if left.next().is_none() {
-        return false;
-    }
-    left.next().is_none()
-}
-
-// Returns whether a description can have the descriptors of a network, and its table has one transport stream.
-#[tactic(auto, unfolding(crate::specs::NetworkInformation::says_no_more))]
-fn says_no_more(nit: Nit<'_>) -> bool
-    ensures { result ≡ spec.says_no_more (nit_view nit.entry) }
-{
-    can_be_said(nit.network_descriptors) && is_one(nit.transport_streams)
-}
-
-// Returns whether a table has this network and nothing more.
-#[tactic(auto, unfolding(crate::specs::NetworkInformation::says_only))]
-fn says_only(stream: KnownStream, network: Option<FoundNetwork<'_>>, nit: Nit<'_>) -> bool
-    ensures { result ≡ spec.says_only stream (option_map spec.found_network_view network.entry) (nit_view nit.entry) }
-{
-    match network {
-        None => false,
-        Some(network) => is_same(network, network_in(stream, nit)) && says_no_more(nit),
-    }
-}
-
-// Returns whether there is a table, and it has this network and nothing more.
-#[tactic(auto, unfolding(crate::specs::NetworkInformation::is_said))]
-fn is_said(stream: KnownStream, network: Option<FoundNetwork<'_>>, nit: Option<Nit<'_>>) -> bool
-    ensures { result ≡ spec.is_said stream (option_map spec.found_network_view network.entry)
-        (option_map nit_view nit.entry) }
-{
-    match nit {
-        None => false,
-        Some(nit) => says_only(stream, network, nit),
-    }
-}
-
-// Returns whether a finding is a section with the table_id of a network information section.
+/// Returns whether a finding is a section with the table_id of a network information section of the actual network.
 #[tactic(auto, unfolding(crate::specs::NetworkInformation::is_network_section))]
-fn is_network_section<A: Allocator>(what: &What<'_, A>) -> bool
+pub fn is_network_section<A: Allocator>(what: &What<'_, A>) -> bool
     ensures { result ≡ spec.is_network_section (what_view what.now) }
 {
     match what {
@@ -292,52 +234,4 @@ fn is_network_section<A: Allocator>(what: &What<'_, A>) -> bool
         },
         _ => false,
     }
-}
-
-// Returns whether a finding is a network information section (actual network) with anything but this network.
-#[tactic(auto, unfolding(crate::specs::NetworkInformation::is_surplus))]
-fn is_surplus<A: Allocator>(
-    stream: KnownStream,
-    network: Option<FoundNetwork<'_>>,
-    finding: &Finding<'_, A>,
-) -> bool
-    ensures { result ≡ spec.is_surplus stream (option_map spec.found_network_view network.entry)
-        (finding_view finding.now) }
-{
-    is_network_section(&finding.what) && !is_said(stream, network, nit_found(finding))
-}
-
-// Returns the packet where the first section ends that is of another network or not carried unchanged.
-fn surplus_from<A: Allocator>(
-    stream: KnownStream,
-    network: Option<FoundNetwork<'_>>,
-    findings: &[Finding<'_, A>],
-) -> Option<u64>
-    ensures { result ≡ spec.surplus_from stream (option_map spec.found_network_view network.entry)
-        (map finding_view findings.now) }
-{
-    for finding in findings {
-        if is_surplus(stream, network, finding) {
-            return Some(finding.packet);
-        }
-    }
-    None
-}
-
-/// Returns the packet where the first network information section of the actual network ends that `stream_network` does
-/// not say: a section that is not in force or can't be read, on another PID, of another network, or with other or more
-/// descriptors or transport streams.
-#[tactic(auto, unfolding(crate::specs::NetworkInformation::network_surplus))]
-pub fn network_surplus<A: Allocator>(
-    transport_stream_id: u16,
-    findings: &[Finding<'_, A>],
-) -> Option<u64>
-    ensures { result ≡ spec.network_surplus transport_stream_id (map finding_view findings.now) }
-{
-    let network = stream_network(transport_stream_id, findings);
-    surplus_from(
-        known_stream(transport_stream_id, findings),
-        network,
-        findings,
-    )
 }
