@@ -17,7 +17,7 @@ use Rattle.table_rounds.proofs.CarouselSteps.{last_is}
 use Rattle.mux_core.specs.Scheduled.{Scheduled}
 use Rattle.mux_core.specs.Histories.{Change, TextsSoFar, FirstTexts, NextTexts, table_over}
 use Rattle.mux_core.specs.TextChanges.{ChangesFit, events_table, events_moment}
-use Rattle.mux_core.specs.TextLaws.{SectionBegins, MomentsRise, moment_in, HaveEvents, EventVersionLaw}
+use Rattle.mux_core.specs.TextLaws.{SectionBegins, MomentsRise, round_moment, HaveEvents, EventVersionLaw}
 use Rattle.mux_core.proofs.TextChanges.{round_within, moment_stays}
 use Rattle.mux_core.proofs.PlacedTables.{AllPlaced}
 use Rattle.mux_core.proofs.SentVersions.{MovesOn, UpTo, up_to, one_section}
@@ -28,7 +28,7 @@ events_placed d (NextTexts change earlier) p have = (inr have.0, events_placed d
 
 -- The moment of a section that begins before a change
 moment_earlier : (d : Scheduled) (change : Change) (earlier : TextsSoFar) (t s : ℕ) → s < change.from →
-    moment_in d (NextTexts change earlier) t s ≡ moment_in d earlier t s
+    round_moment d (NextTexts change earlier) t s ≡ round_moment d earlier t s
 moment_earlier d change earlier t s lt =
     let within = round_within (table_over d earlier t).own (round_places (table_over d earlier t).lengths) s in
     moment_stays d change earlier t (suc s) (omega (arith, within, lt))
@@ -47,7 +47,7 @@ some_kind d None j x is = absurd (cc)
 some_kind d (Some k) j x is = (k, refl)
 
 events_at : (d : Scheduled) (changes : TextsSoFar) (t j s b : ℕ) (x : SubTable) → t ≡ events_table d.description → sub_table_of d.description t j ≡ Some x →
-    SectionBegins d t j s → s ≤ b → events_moment d changes (suc b) ≡ moment_in d changes t b
+    SectionBegins d t j s → s ≤ b → events_moment d changes (suc b) ≡ round_moment d changes t b
 events_at d changes t j s b x table of begins le =
     let kind = some_kind d.description (table_kind d.description t) j x of in
     let own : owned d.schedule (TableItem t) s ≡ true = ap (is_own (TableItem t)) begins.table ∙ eq-eqb t t refl in
@@ -61,7 +61,7 @@ events_at d changes t j s b x table of begins le =
 
 moves_to : (d : Scheduled) (changes : TextsSoFar) (slot t j s b last to : ℕ) (x : SubTable) → t ≡ events_table d.description →
     sub_table_of d.description t j ≡ Some x → SectionBegins d t j s → s ≤ b → ChangesFit d.description slot changes → UpTo changes (suc b) → UpTo changes last →
-    MomentsRise d changes t s b → moment_in d changes t b ≤ to → MovesOn d changes s last (moment_in d changes t s) to
+    MomentsRise d changes t s b → round_moment d changes t b ≤ to → MovesOn d changes s last (round_moment d changes t s) to
 moves_to d (FirstTexts past) slot t j s b last to x table of begins le fit up within rise end =
     let first = rise s b (omega arith) le (omega arith) in omega (arith, first, end)
 moves_to d (NextTexts change earlier) slot t j s b last to x table of begins le fit up within rise end = elim (cases_lt s change.from) [
@@ -70,7 +70,7 @@ moves_to d (NextTexts change earlier) slot t j s b last to x table of begins le 
       let next : change.from ≡ suc c = omega (arith, lt) in
       let before : c < change.from = omega (arith, lt) in
       let since : s ≤ c = omega (arith, lt) in
-      let at : events_moment d earlier change.from ≡ moment_in d earlier t c =
+      let at : events_moment d earlier change.from ≡ round_moment d earlier t c =
       ap (events_moment d earlier) next ∙ events_at d earlier t j s c x table of begins since in
       let rest = moves_to d earlier change.from t j s c last (events_moment d earlier change.from) x table of begins since fit.1
       (up_to d.description change.from (suc c) earlier fit.1 (omega (arith, next))) (up_to d.description change.from last earlier fit.1 within)
@@ -90,7 +90,7 @@ moves_to d (NextTexts change earlier) slot t j s b last to x table of begins le 
 
 moves : (d : Scheduled) (changes : TextsSoFar) (slot t j s last : ℕ) (x : SubTable) → t ≡ events_table d.description →
     sub_table_of d.description t j ≡ Some x → SectionBegins d t j s → s ≤ last → ChangesFit d.description slot changes → MomentsRise d changes t s last →
-    MovesOn d changes s last (moment_in d changes t s) (moment_in d changes t last)
+    MovesOn d changes s last (round_moment d changes t s) (round_moment d changes t last)
 moves d (FirstTexts past) slot t j s last x table of begins le fit rise = rise s last (omega arith) le (omega arith)
 moves d (NextTexts change earlier) slot t j s last x table of begins le fit rise = elim (cases_lt last change.from) [
   | inl before ↦
@@ -99,10 +99,10 @@ moves d (NextTexts change earlier) slot t j s last x table of begins le fit rise
       let end = moment_earlier d change earlier t last before in
       inl (
         before,
-        subst (λ (m : ℕ). MovesOn d earlier s last m (moment_in d (NextTexts change earlier) t last)) (sym first)
-            (subst (MovesOn d earlier s last (moment_in d earlier t s)) (sym end) rest),
+        subst (λ (m : ℕ). MovesOn d earlier s last m (round_moment d (NextTexts change earlier) t last)) (sym first)
+            (subst (MovesOn d earlier s last (round_moment d earlier t s)) (sym end) rest),
       )
-  | inr on ↦ moves_to d (NextTexts change earlier) slot t j s last last (moment_in d (NextTexts change earlier) t last) x table of begins le fit
+  | inr on ↦ moves_to d (NextTexts change earlier) slot t j s last last (round_moment d (NextTexts change earlier) t last) x table of begins le fit
       (omega (arith, on)) on rise (omega arith)
 ]
 

@@ -23,7 +23,7 @@ use Rattle.mux_core.specs.Scheduled.{Scheduled}
 use Rattle.mux_core.specs.Histories.{Change, TextsSoFar, FirstTexts, NextTexts, past_of, until_of, text_at, last_texts}
 use Rattle.mux_core.specs.TextChanges.{ChangesFit, IsMade, AreMade, changed_history, since_of}
 use Rattle.mux_core.specs.TextChanges.{began_since, sent_of, events_moment}
-use Rattle.mux_core.specs.TextLaws.{is_timeless, SectionBegins, section_at, moment_in, changes_between, edges_of, edges_between, VersionLaw}
+use Rattle.mux_core.specs.TextLaws.{is_timeless, SectionBegins, section_at, round_moment, changes_between, edges_of, edges_between, VersionLaw}
 use Rattle.mux_core.proofs.TextChanges.{text_before, bytes_now, since_within}
 use Rattle.mux_core.proofs.PlacedTables.{Placed, step_of, like_of, text_from, like_at, like_last, AllPlaced, placed_frame, placed_last, placed_at}
 use Rattle.mux_core.proofs.PlacedTables.{there, begins_there, began_there}
@@ -284,8 +284,8 @@ one_version d (NextTexts change earlier) slot t j s last x from to ranges fit ma
 pub one_section : (d : Scheduled) (changes : TextsSoFar) (slots t j first last : ℕ) (x : SubTable) → IsInRange d.description →
     ChangesFit d.description slots changes → AreMade d changes → AllPlaced d.description changes x → j < section_count d.description t →
     sub_table_of d.description t j ≡ Some x → SectionBegins d t j first → until_of (past_of changes) ≤ first → first ≤ last →
-    Goes d changes x first last (moment_in d changes t first) (moment_in d changes t last) →
-    changes_between changes first last + edges_between d changes x first (moment_in d changes t first) last (moment_in d changes t last) < 32 →
+    Goes d changes x first last (round_moment d changes t first) (round_moment d changes t last) →
+    changes_between changes first last + edges_between d changes x first (round_moment d changes t first) last (round_moment d changes t last) < 32 →
     0 < length (section_at d changes t j first) → 0 < length (section_at d changes t j last) →
     shown_version (section_at d changes t j first) ≡ shown_version (section_at d changes t j last) →
     section_at d changes t j first ≡ section_at d changes t j last
@@ -293,8 +293,8 @@ one_section d changes slots t j first last x ranges fit made placed within of be
     let f = d.description in
     let a = text_at f changes first in
     let b = text_at f changes last in
-    let at_a = moment_in d changes t first in
-    let at_b = moment_in d changes t last in
+    let at_a = round_moment d changes t first in
+    let at_b = round_moment d changes t last in
     let like_a = like_at f slots first changes ranges fit in
     let like_b = like_at f slots last changes ranges fit in
     let frame = placed_frame f changes x placed in
@@ -337,6 +337,6 @@ no_edges d (NextTexts change earlier) x s from last to still =
 
 pub version_law : VersionLaw
 version_law d changes slots t j first last x ranges fit made within of still begins over le few =
-    let none = no_edges d changes x first (moment_in d changes t first) last (moment_in d changes t last) still in
+    let none = no_edges d changes x first (round_moment d changes t first) last (round_moment d changes t last) still in
     one_section d changes slots t j first last x ranges fit made (all_still d.description changes x still) within of begins over le (inl still)
     (omega (arith, few, none))

@@ -81,12 +81,12 @@ VersionLaw = (d : Scheduled) (changes : TextsSoFar) (slots t j first last : ℕ)
 -- ---- versions of events
 
 -- the moment of a section that begins in a slot
-abbrev pub moment_in : Scheduled → TextsSoFar → ℕ → ℕ → ℕ
-moment_in d changes t slot = moment_before (table_over d changes t) (suc slot)
+abbrev pub round_moment : Scheduled → TextsSoFar → ℕ → ℕ → ℕ
+round_moment d changes t slot = moment_before (table_over d changes t) (suc slot)
 
 -- no round that is under way in these slots has an earlier moment than one before
 abbrev pub MomentsRise : Scheduled → TextsSoFar → ℕ → ℕ → ℕ → Type 0
-MomentsRise d changes t first last = (a b : ℕ) → first ≤ a → a ≤ b → b ≤ last → moment_in d changes t a ≤ moment_in d changes t b
+MomentsRise d changes t first last = (a b : ℕ) → first ≤ a → a ≤ b → b ≤ last → round_moment d changes t a ≤ round_moment d changes t b
 
 -- the description, and the texts so far, have the events of each program
 abbrev pub HaveEvents : Described → TextsSoFar → Type 0
@@ -114,7 +114,7 @@ EventVersionLaw = (d : Scheduled) (changes : TextsSoFar) (slots t j first last p
     AreMade d changes → HaveEvents d.description changes → t ≡ events_table d.description → j < section_count d.description t →
     sub_table_of d.description t j ≡ Some (Events p) → SectionBegins d t j first → until_of (past_of changes) ≤ first → first ≤ last →
     MomentsRise d changes t first last →
-    changes_between changes first last + edges_between d changes (Events p) first (moment_in d changes t first) last (moment_in d changes t last) < 32 →
+    changes_between changes first last + edges_between d changes (Events p) first (round_moment d changes t first) last (round_moment d changes t last) < 32 →
     0 < length (section_at d changes t j first) → 0 < length (section_at d changes t j last) →
     shown_version (section_at d changes t j first) ≡ shown_version (section_at d changes t j last) →
     section_at d changes t j first ≡ section_at d changes t j last
