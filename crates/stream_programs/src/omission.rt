@@ -4,7 +4,7 @@ ghost use Rattle.std.specs.Prelude.{◌≡◌};
 ghost use Rattle.stream_programs.specs.Omissions.{is_loss};
 
 /// A part of a stream's tables that is left out.
-#[derive(Clone, Copy, PartialEq, Eq)]
+#[derive(Clone, Copy)]
 pub enum TableOmission {
     /// The program has no program map table.
     NoMap {

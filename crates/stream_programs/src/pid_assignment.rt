@@ -12,7 +12,7 @@ use crate::streams::{FoundStream, is_reserved};
 use std::alloc::{AllocError, Allocator};
 
 /// The PIDs of a program that no stream and no other program has, 32 to 8,190.
-#[derive(Clone, Copy, PartialEq, Eq)]
+#[derive(Clone, Copy)]
 pub struct ProgramPids {
     /// Of its program map table.
     pub map_pid: u16,
