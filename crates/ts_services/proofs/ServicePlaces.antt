@@ -48,7 +48,7 @@ either at (Some found) (Some other) before = refl
 by_entry : (number at : ℕ) (es : List (ℕ × ℕ)) (s : ServiceView) →
     lookup (nat_eq number) (with_entry es at s) ≡ placed at (of_entry number s) (lookup (nat_eq number) es)
 unfolding of_entry
-by_entry number at es s = by_said number s.service_id at es (service_by s.descriptors) (s.service_id == number) refl
+by_entry number at es s = by_said number s.service_id at es (service_by s) (s.service_id == number) refl
 
 by_entries : (number at : ℕ) (es : List (ℕ × ℕ)) (ss : List ServiceView) →
     lookup (nat_eq number) (with_entries es at ss) ≡ placed at (in_entries number ss) (lookup (nat_eq number) es)

@@ -16,7 +16,7 @@ with_said es number at (Some found) = insert_entry nat_eq es number at
 
 -- after an entry of the table that the finding at a place has
 abbrev pub with_entry : List (ℕ × ℕ) → ℕ → ServiceView → List (ℕ × ℕ)
-with_entry es at s = with_said es s.service_id at (service_by s.descriptors)
+with_entry es at s = with_said es s.service_id at (service_by s)
 
 unfoldable pub with_entries : List (ℕ × ℕ) → ℕ → List ServiceView → List (ℕ × ℕ)
 with_entries es at [] = es

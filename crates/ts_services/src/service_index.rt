@@ -51,7 +51,7 @@ fn note_entry<A: Allocator + Copy>(
 ) -> Result<(), AllocError>
     ensures { OnOk result (places.new.entries ≡ spec.with_entry places.old.entries at (service_view entry.entry)) }
 {
-    if service_by(entry.descriptors).is_some() {
+    if service_by(entry).is_some() {
         places.insert(entry.service_id, at)?;
     }
     Ok(())

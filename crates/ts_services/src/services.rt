@@ -8,7 +8,7 @@ ghost use Rattle.ts_services.specs.Services as spec;
 
 use crate::service_description::{SDT_PID, sdt_found};
 use descriptor_loops::{Descriptor, Descriptors};
-use dvb_tables::{Service, Services};
+use dvb_tables::{RunningStatus, Service, Services};
 use pid_findings::Finding;
 use program_tables::sections::is_on;
 use std::alloc::Allocator;
@@ -16,9 +16,11 @@ use std::alloc::Allocator;
 // The tag of a service descriptor.
 const SERVICE: u8 = 0x48;
 
-/// What a service descriptor says, and the descriptors of its service. The texts are still coded (EN 300 468, annex A).
+/// What a service descriptor says, and the status and the descriptors of its service. The texts are still coded
+/// (EN 300 468, annex A).
 #[derive(Clone, Copy)]
 pub struct FoundService<'f> {
+    pub running_status: RunningStatus,
     pub service_type: u8,
     pub provider: &'f [u8],
     pub name: &'f [u8],
@@ -42,53 +44,54 @@ pub fn length_prefixed(bytes: &[u8]) -> Option<(&[u8], &[u8])>
     }
 }
 
-// Returns the service of a service descriptor with this service_type.
+// Returns the service of an entry with a service descriptor of this service_type.
 #[tactic(auto, unfolding(crate::specs::Services::with_provider))]
-fn named<'f>(descriptors: &'f [u8], service_type: u8, rest: &'f [u8]) -> Option<FoundService<'f>>
-    ensures { option_map spec.found_service_view result ≡ spec.with_provider descriptors.now service_type
+fn named<'f>(entry: Service<'f>, service_type: u8, rest: &'f [u8]) -> Option<FoundService<'f>>
+    ensures { option_map spec.found_service_view result ≡ spec.with_provider (service_view entry.entry) service_type
         (spec.length_prefixed rest.now) }
 {
     let (provider, after) = length_prefixed(rest)?;
     let (name, _) = length_prefixed(after)?;
     Some(FoundService {
+        running_status: entry.running_status,
         service_type,
         provider,
         name,
-        descriptors,
+        descriptors: entry.descriptors,
     })
 }
 
-// Returns what the body of a service descriptor says, with all descriptors of the service.
+// Returns what an entry and the body of its service descriptor say.
 #[tactic(auto, unfolding(crate::specs::Services::service_in))]
-fn service_in<'f>(descriptors: &'f [u8], body: &'f [u8]) -> Option<FoundService<'f>>
-    ensures { option_map spec.found_service_view result ≡ spec.service_in descriptors.now body.now }
+fn service_in<'f>(entry: Service<'f>, body: &'f [u8]) -> Option<FoundService<'f>>
+    ensures { option_map spec.found_service_view result ≡ spec.service_in (service_view entry.entry) body.now }
 {
     match body {
-        [service_type, rest @ ..] => named(descriptors, *service_type, rest),
+        [service_type, rest @ ..] => named(entry, *service_type, rest),
         _ => None,
     }
 }
 
-// Returns what a descriptor says of a service.
+// Returns what an entry and a descriptor of it say of a service.
 #[tactic(auto, unfolding(crate::specs::Services::of_descriptor))]
-fn of_descriptor<'f>(descriptors: &'f [u8], descriptor: Descriptor<'f>) -> Option<FoundService<'f>>
+fn of_descriptor<'f>(entry: Service<'f>, descriptor: Descriptor<'f>) -> Option<FoundService<'f>>
     ensures { option_map spec.found_service_view result
-        ≡ spec.of_descriptor descriptors.now (descriptor_view descriptor.entry) }
+        ≡ spec.of_descriptor (service_view entry.entry) (descriptor_view descriptor.entry) }
 {
     if descriptor.tag == SERVICE {
-        service_in(descriptors, descriptor.body)
+        service_in(entry, descriptor.body)
     } else {
         None
     }
 }
 
-/// Returns what the first service descriptor among these says.
+/// Returns what an entry and its first service descriptor say.
 #[tactic(auto, unfolding(crate::specs::Services::in_descriptors))]
-pub(crate) fn service_by(descriptors: &[u8]) -> Option<FoundService<'_>>
-    ensures { option_map spec.found_service_view result ≡ spec.service_by descriptors.now }
+pub(crate) fn service_by(entry: Service<'_>) -> Option<FoundService<'_>>
+    ensures { option_map spec.found_service_view result ≡ spec.service_by (service_view entry.entry) }
 {
-    for descriptor in Descriptors::of(descriptors) {
-        if let Some(service) = of_descriptor(descriptors, descriptor) {
+    for descriptor in Descriptors::of(entry.descriptors) {
+        if let Some(service) = of_descriptor(entry, descriptor) {
             return Some(service);
         }
     }
@@ -100,7 +103,7 @@ fn of_entry<'f>(number: u16, entry: Service<'f>) -> Option<FoundService<'f>>
     ensures { option_map spec.found_service_view result ≡ spec.of_entry number (service_view entry.entry) }
 {
     if entry.service_id == number {
-        service_by(entry.descriptors)
+        service_by(entry)
     } else {
         None
     }
