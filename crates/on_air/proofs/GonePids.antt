@@ -39,18 +39,19 @@ listed : (d : Described) (pid : ℕ) → has_pid d (Some pid) ≡ true → list_
 listed d pid some = listed_some (slot_pids d) pid (position (is_pid pid) (slot_pids d)) refl some
 
 -- No PID of a description has gone if none returns.
-none_among : (gone : List ℕ) (pids : List (Option ℕ)) (pid : ℕ) → option_and_then (λ p. p) (find (is_among gone) pids) ≡ None →
+none_among : (gone : List ℕ) (pids : List (Option ℕ)) (pid : ℕ) → option_and_then (λ (p : Option ℕ). p) (find (is_among gone) pids) ≡ None →
     list_any (is_pid pid) pids ≡ true → is_among gone (Some pid) ≡ false
 none_among gone [] pid none some = absurd (false≢true some)
 none_among gone (None ∷ pids) pid none some = none_among gone pids pid none some
-none_among gone (Some q ∷ pids) pid none some = by (is_among gone (Some q)) refl none
+none_among gone (Some q ∷ pids) pid none some = by (is_among gone (Some q)) refl none (λ e there. none_among gone pids pid e there)
   where
-    by : (b : Bool) → is_among gone (Some q) ≡ b → option_and_then (λ p. p) (cond b (Some (Some q)) (find (is_among gone) pids)) ≡ None →
+    by : (b : Bool) → is_among gone (Some q) ≡ b → option_and_then (λ (p : Option ℕ). p) (cond b (Some (Some q)) (find (is_among gone) pids)) ≡ None →
+        (option_and_then (λ (p : Option ℕ). p) (find (is_among gone) pids) ≡ None → list_any (is_pid pid) pids ≡ true → is_among gone (Some pid) ≡ false) →
         is_among gone (Some pid) ≡ false
-    by true is e = absurd cc
-    by false is e = elim (or_cases (is_pid pid (Some q)) (list_any (is_pid pid) pids) some) [
+    by true is e later = absurd cc
+    by false is e later = elim (or_cases (is_pid pid (Some q)) (list_any (is_pid pid) pids) some) [
       | inl here ↦ ap (is_among gone) (sym (pid_is pid (Some q) here)) ∙ is
-      | inr there ↦ none_among gone pids pid e there
+      | inr there ↦ later e there
     ]
 
 -- A PID of the old description that the new one does not have has gone.
