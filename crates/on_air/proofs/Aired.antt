@@ -11,7 +11,7 @@ use Rattle.mux_core.specs.Buffer.{waiting_of, Buffered, IsOutput, Took}
 use Rattle.mux_core.proofs.Written.{holds_none}
 use Rattle.mux_core.specs.Scheduled.{Scheduled}
 use Rattle.mux_core.specs.Headline.{HeadlineOver, UnitsKept}
-use Rattle.mux_core.specs.Histories.{History, bytes_of, empty_history, with_change}
+use Rattle.mux_core.specs.Histories.{History, bytes_of, empty_history}
 use Rattle.mux_core.specs.MuxStates.{MuxState}
 use Rattle.mux_core.specs.WholeJobs.{run_output}
 use Rattle.mux_core.proofs.Accepted.{units_kept}

@@ -26,7 +26,7 @@ use Rattle.mux_core.specs.declared.multiplexing.MuxError.{MuxError}
 use Rattle.mux_core.proofs.FedUnits.{accepted_on_air}
 use Rattle.on_air.specs.declared.refusals.AirRefusal.{AirRefusal}
 use Rattle.on_air.specs.Airing.{Run, Air, Before, silence, air_output, lead_of, nothing, settled_at, limit_of, last_by, last_at, on_to, is_tick, air_cause, accepted_by}
-use Rattle.on_air.specs.Airing.{brings_texts, caught_up, changed, changes_run, ended, judged_by, output_with, slots_followed, taken}
+use Rattle.on_air.specs.Airing.{caught_up, changed, changes_run, ended, judged_by, output_with, slots_followed, taken}
 use Rattle.on_air.specs.Courses.{Course, heard, with_record}
 use Rattle.on_air.specs.Laws.{with_entry, records_of, greatest_of, AiredAsMultiplexed}
 use Rattle.on_air.proofs.Aired.{no_texts}

@@ -1,7 +1,7 @@
 -- The course of a run after a record
 use Rattle.std.proofs.Common.{◌≡◌, ℕ, Bool, true, false, cond, List, Option, Some, None, Result, Ok, refl, sym, ap, ◌∙◌, subst}
 use Rattle.std.specs.Prelude.{◌&&◌, is_none, not}
-use Rattle.std.proofs.lemmas.Bool.{and_parts, and_right}
+use Rattle.std.proofs.lemmas.Bool.{and_right}
 use Rattle.pes_packet.specs.AccessUnits.{AccessUnit}
 use Rattle.plan_checker.specs.Served.{Served}
 use Rattle.on_air.specs.declared.refusals.AirRefusal.{AirRefusal}
@@ -10,7 +10,6 @@ use Rattle.on_air.specs.LineUps.{has_plan, line_up_in}
 use Rattle.on_air.specs.Airing.{Air, Before, Run, accepted_by, air_cause, aired, brings_line_up, brings_texts, caught_up, changed, changes_run, judged, judged_by}
 use Rattle.on_air.specs.Airing.{slots_followed, taken}
 use Rattle.on_air.specs.Courses.{Course, course_after, course_with, lined_up, takes_over}
-use Rattle.on_air.specs.AirStates.{AirState, IsOnAir}
 use Rattle.on_air.specs.Hearing.{Fails, FailsIn}
 use Rattle.on_air.proofs.Aired.{no_line_up}
 

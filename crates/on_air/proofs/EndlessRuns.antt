@@ -15,8 +15,8 @@ use Rattle.mux_core.proofs.KnownRanges.{parameters_known}
 use Rattle.mux_core.proofs.Whole.{headline_over}
 use Rattle.on_air.specs.declared.refusals.AirRefusal.{AirRefusal}
 use Rattle.on_air.specs.declared.refusals.AirRefusal.TheVariants.{Feed, Ahead, Followed, LineUp, Texts}
-use Rattle.on_air.specs.Airing.{Run, Air, Before, history_by, job_of, nothing, air_output, brings_line_up, brings_texts, changes_run, is_tick, air_cause, accepted_by}
-use Rattle.on_air.specs.Airing.{caught_up, changed, judged_by, output_with, slots_followed, aired, taken, with_count, ended, settled_at, last_at, on_to}
+use Rattle.on_air.specs.Airing.{Run, Air, Before, history_by, job_of, air_output, brings_line_up, brings_texts, changes_run, is_tick, air_cause, accepted_by}
+use Rattle.on_air.specs.Airing.{caught_up, changed, judged_by, output_with, slots_followed, taken, with_count, settled_at, last_at, on_to}
 use Rattle.on_air.specs.Courses.{Course, IsFirst, all_accepted, at_begin, course_after, course_ended, heard, lined_up, output_at, taken_over, takes_over, with_line_up}
 use Rattle.on_air.specs.Courses.{with_record}
 use Rattle.on_air.specs.AirStates.{KeepsHeadline, Promises}

@@ -14,7 +14,7 @@ use Rattle.mux_core.proofs.FedUnits.{content_kept}
 use Rattle.mux_core.proofs.JobFeeding.{history_more}
 use Rattle.mux_core.proofs.MuxStates.{feed_laws}
 use Rattle.on_air.specs.declared.refusals.AirRefusal.TheVariants.{Feed}
-use Rattle.on_air.specs.Airing.{Run, Air, history_by, job_of, output_with, air_output, brings_line_up, brings_texts, is_tick, is_far_from, unit_refusal, fed_refusal}
+use Rattle.on_air.specs.Airing.{Run, Air, history_by, job_of, output_with, air_output, is_tick, is_far_from, unit_refusal, fed_refusal}
 use Rattle.on_air.specs.Airing.{accepted_by, air_cause, changes_run, refused_unit}
 use Rattle.on_air.specs.AirStates.{Carries, Admits}
 use Rattle.on_air.proofs.Contents.{output_same}

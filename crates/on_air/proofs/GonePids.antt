@@ -1,5 +1,5 @@
 -- PIDs that have gone stay known
-use Rattle.std.proofs.Common.{◌≡◌, ◌≢◌, ◌⊎◌, ℕ, ◌<◌, ◌==◌, ◌||◌, Bool, true, false, cond, List, [], ◌∷◌, ◌++◌, length, get_or, Option, Some, None, refl, sym, ap, ◌∙◌, subst}
+use Rattle.std.proofs.Common.{◌≡◌, ◌⊎◌, ℕ, ◌==◌, ◌||◌, Bool, true, false, cond, List, [], ◌∷◌, Option, Some, None, refl, sym, ap, ◌∙◌}
 use Rattle.std.proofs.Common.{inl, inr, position, eq-eqb, if◌then◌else◌}
 use Rattle.std.specs.Prelude.{find, is_some, option_and_then}
 use Rattle.std.specs.List.{cons_option, filter_map, list_any}
@@ -13,12 +13,11 @@ use Rattle.slot_plan.specs.SlotPids.{slot_pid}
 use Rattle.plan_checker.specs.Served.{Served}
 use Rattle.line_ups.specs.Kept.{has_listed, has_pid, is_pid, number_with, numbered_slot, slot_pids, slot_with}
 use Rattle.line_ups.proofs.Numbers.{is_pid_of, number_found, number_missed, pid_is, slot_numbered}
-use Rattle.turns.specs.Turns.{AreOff, IsOff}
 use Rattle.turns.specs.TakenOver.{AreNew}
 use Rattle.on_air.specs.LineUps.{is_among, pids_gone, returned_pid, unless_listed}
 use Rattle.on_air.specs.Airing.{Air, Run}
 use Rattle.on_air.specs.AirStates.{KnowsGone}
-use Rattle.on_air.specs.Courses.{taken_over, turn_of, with_line_up}
+use Rattle.on_air.specs.Courses.{taken_over, with_line_up}
 
 or_cases : (a b : Bool) → (a || b) ≡ true → (a ≡ true) ⊎ (b ≡ true)
 or_cases true b e = inl refl

@@ -1,9 +1,9 @@
 -- Units in order, with ticks among them, are all accepted.
-use Rattle.std.proofs.Common.{◌≡◌, ℕ, zero, suc, ◌+◌, ◌-◌, ◌*◌, ◌<◌, ◌≤◌, ◌==◌, min, max, Bool, true, false, List, [], ◌∷◌, ◌++◌, length, map, Option, Some}
+use Rattle.std.proofs.Common.{◌≡◌, ℕ, zero, suc, ◌-◌, ◌*◌, ◌<◌, ◌≤◌, ◌==◌, max, Bool, true, false, List, [], ◌∷◌, ◌++◌, length, map, Option, Some}
 use Rattle.std.proofs.Common.{None, Result, Ok, Err, refl, sym, ap, ◌∙◌, subst, cond, arith, All, inl, inr, append_assoc, append-nil}
 use Rattle.std.specs.Prelude.{slice_get, fold, not}
 use Rattle.std.specs.Int.{div_ceil}
-use Rattle.std.proofs.lemmas.Bool.{le-ltb, lt-leb, cases_eq, cases_lt}
+use Rattle.std.proofs.lemmas.Bool.{le-ltb, lt-leb, cases_eq}
 use Rattle.std.proofs.lemmas.List.Elements.{All-nil, All-cons, All-get_or, All-map, All-filter, filter-append}
 use Rattle.std.proofs.lemmas.Option.{get_or_from_slice_get, slice_get_within}
 use Rattle.std.specs.List.{filter}
@@ -39,7 +39,7 @@ use Rattle.mux_core.proofs.UnitCounts.{own_units, other_units, units_append}
 use Rattle.on_air.specs.declared.refusals.AirRefusal.{AirRefusal}
 use Rattle.on_air.specs.Airing.{Run, Air, Before, history_by, nothing, silence, greatest_lead, HasRoom, lead_of, settled_at, on_to, is_tick, is_far_from, unit_refusal}
 use Rattle.on_air.specs.Airing.{air_cause, accepted_by, aired, caught_up, changed, changes_run, judged_by, slots_followed, taken}
-use Rattle.on_air.specs.Courses.{Course, course_after, heard, with_record}
+use Rattle.on_air.specs.Courses.{Course, heard, with_record}
 use Rattle.on_air.specs.AirStates.{Promises}
 use Rattle.on_air.specs.Laws.{with_entry, records_of, without_ticks, greatest_of, IsJobInOrder, AiredInOrder}
 use Rattle.on_air.proofs.Aired.{no_texts}

@@ -1,12 +1,11 @@
 -- A line-up takes the place of the one in force
-use Rattle.std.proofs.Common.{◌≡◌, ◌⊎◌, ◌+◌, ◌<◌, ◌&&◌, ℕ, Bool, true, false, List, [], ◌∷◌, ◌++◌, Option, Some, None, Result, Ok, Err, refl, sym, ap, ◌∙◌, subst}
+use Rattle.std.proofs.Common.{◌≡◌, ◌⊎◌, ◌+◌, ◌&&◌, ℕ, Bool, true, false, List, [], ◌++◌, Option, Some, None, Result, Ok, Err, refl, sym, ap, ◌∙◌, subst}
 use Rattle.std.proofs.Common.{inl, inr, arith, append-nil}
 use Rattle.std.specs.Prelude.{cond, is_none, not, option_map, slice_get}
 use Rattle.std.proofs.Math.Path.{fun_ext}
 use Rattle.std.proofs.lemmas.Bool.{and_parts}
 use Rattle.description_parts.specs.Described.{Described}
 use Rattle.pes_packet.specs.AccessUnits.{AccessUnit}
-use Rattle.slot_contents.specs.Contents.{Content}
 use Rattle.plan_checker.specs.Served.{Served}
 use Rattle.mux_core.specs.Buffer.{Buffered, IsOutput}
 use Rattle.mux_core.specs.Scheduled.{Scheduled}
@@ -26,8 +25,8 @@ use Rattle.on_air.specs.declared.refusals.AirRefusal.TheVariants.{LineUp, Texts}
 use Rattle.on_air.specs.declared.refusals.LineUpRefusal.{LineUpRefusal}
 use Rattle.on_air.specs.LineUps.{ReadsLineUp, has_plan, line_up_cause, line_up_in, over_cause, over_error, pids_gone, returned_pid}
 use Rattle.on_air.specs.Airing.{Air, Run, air_cause, air_output, brings_line_up, brings_texts, changes_run, content_with, greatest_by, greatest_lead, history_by}
-use Rattle.on_air.specs.Airing.{far_cause, fed_refusal, texts_refusal, unit_refusal, is_far_from, is_tick, job_of, judged, judged_by, leap_left, line_up_refusal, settled_at, taken}
-use Rattle.on_air.specs.Courses.{course_after, lined_up, taken_over, takes_over, turn_of, with_line_up}
+use Rattle.on_air.specs.Airing.{far_cause, fed_refusal, texts_refusal, unit_refusal, is_far_from, is_tick, job_of, judged, judged_by, leap_left, line_up_refusal, taken}
+use Rattle.on_air.specs.Courses.{course_after, taken_over, takes_over, turn_of, with_line_up}
 use Rattle.on_air.specs.AirStates.{AirState, Carries, IsOnAir, Promises}
 use Rattle.on_air.specs.Hearing.{Fails, FailsIn, IsNearLineUp, IsOn, RefusesLineUp, TakesOverFrom}
 use Rattle.on_air.proofs.Aired.{Moves, flushed, keeps, refused_by}

@@ -1,5 +1,5 @@
 -- A line-up read from the bytes of a record, and the causes of its refusal
-use Rattle.std.proofs.Common.{◌≡◌, ◌⊎◌, ℕ, List, Option, Some, None, Result, Ok, Err, refl, sym, ap, ◌∙◌, subst, inl, inr}
+use Rattle.std.proofs.Common.{◌≡◌, ◌⊎◌, ℕ, List, Option, Some, None, Result, Ok, Err, refl, sym, ap, ◌∙◌, inl, inr}
 use Rattle.std.specs.Prelude.{option_and_then, option_map}
 use Rattle.std.specs.Option.{option_or}
 use Rattle.description_parts.specs.Described.{Described}
@@ -7,7 +7,6 @@ use Rattle.description_keys.specs.declared.fault.DescFault.{DescFault}
 use Rattle.description_keys.specs.declared.fault.DescError.{DescError}
 use Rattle.description_keys.specs.declared.fault.DescError.TheVariants as unread
 use Rattle.changed_texts.specs.Reading.{description_in}
-use Rattle.slot_plan.specs.Entries.{Entry}
 use Rattle.slot_plan.specs.Planned.{Planned}
 use Rattle.plan_checker.specs.Served.{Served}
 use Rattle.plan_checker.specs.Refusals.{entry_of}

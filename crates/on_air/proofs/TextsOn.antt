@@ -1,5 +1,5 @@
 -- A record that brings texts
-use Rattle.std.proofs.Common.{◌≡◌, ◌⊎◌, ◌+◌, ◌<◌, ◌==◌, ◌&&◌, ℕ, zero, suc, max, Bool, true, false, List, ◌∷◌, ◌++◌, length, Option, Some, None, refl, sym, ap, ◌∙◌, subst}
+use Rattle.std.proofs.Common.{◌≡◌, ◌⊎◌, ◌+◌, ◌==◌, ◌&&◌, ℕ, max, Bool, true, false, List, length, Option, Some, None, refl, sym, ap, ◌∙◌, subst}
 use Rattle.std.proofs.Common.{Result, Ok, Err, inl, inr, arith, cond}
 use Rattle.std.specs.Prelude.{is_none, not, option_map, slice_get, if◌then◌else◌}
 use Rattle.std.proofs.lemmas.Bool.{and_parts, and_right, eqb-true, ne_eqb}
@@ -25,7 +25,7 @@ use Rattle.on_air.specs.declared.refusals.TextsRefusal.{TextsRefusal}
 use Rattle.on_air.specs.declared.refusals.TextsRefusal.TheVariants.{Unread, Fault}
 use Rattle.on_air.specs.Leaps.{no_leap}
 use Rattle.on_air.specs.Airing.{Run, Air, job_of, air_output, air_cause, brings_texts, changes_with, far_cause, fed_refusal, greatest_by, is_far_from, is_tick}
-use Rattle.on_air.specs.Airing.{judged, judged_by, leap_left, unit_refusal, on_to, settled_at, taken, texts_cause, texts_now, texts_refusal, with_count}
+use Rattle.on_air.specs.Airing.{judged, judged_by, leap_left, unit_refusal, taken, texts_cause, texts_now, texts_refusal}
 use Rattle.on_air.specs.Airing.{brings_line_up, changes_run, line_up_refusal, with_read, with_texts}
 use Rattle.on_air.specs.Courses.{course_after}
 use Rattle.on_air.specs.LineUps.{has_plan}

@@ -1,5 +1,5 @@
 -- The turns of a run fit, whatever records come
-use Rattle.std.proofs.Common.{◌≡◌, ℕ, ◌<◌, ◌≤◌, ◌+◌, Bool, List, refl, sym, ap, ◌∙◌, subst, arith}
+use Rattle.std.proofs.Common.{◌≡◌, ℕ, ◌<◌, ◌≤◌, Bool, List, refl, sym, ap, ◌∙◌, subst, arith}
 use Rattle.pes_packet.specs.AccessUnits.{AccessUnit}
 use Rattle.description_parts.specs.Ranges.{IsInRange}
 use Rattle.mux_core.specs.Scheduled.{Scheduled}

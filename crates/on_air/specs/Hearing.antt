@@ -25,7 +25,6 @@ use Rattle.on_air.specs.declared.answers.Verdict.{Verdict}
 use Rattle.on_air.specs.declared.answers.Verdict.TheVariants.{Accepted, TextsFrom, LineUpFrom, RefusedFor, NoMemory}
 use Rattle.on_air.specs.declared.line_up.LineUpError.{LineUpError}
 use Rattle.on_air.specs.declared.line_up.LineUpError.TheVariants as line_up_error
-use Rattle.on_air.specs.declared.refusals.AirRefusal.TheVariants.{LineUp}
 use Rattle.on_air.specs.Airing.{Run, Air, air_cause, brings_line_up, brings_texts, changes_run, is_far_from, is_tick, texts_cause, texts_now, judged, caught_up}
 use Rattle.on_air.specs.Airing.{air_output, limit_of, line_up_refusal}
 use Rattle.on_air.specs.Courses.{Course, before_next, course_after, heard, takes_over, taken_over, with_line_up}
