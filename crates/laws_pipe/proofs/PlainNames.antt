@@ -34,8 +34,7 @@ use Rattle.tsjob_cli.specs.Options.{options}
 use Rattle.tsjob_cli.specs.Subcommands.{subcommand_of}
 use Rattle.description_values.specs.Moments.{moment_of}
 use Rattle.word_faults.specs.JobValues.{base_of, clock_sharing_of, declare_by_of, is_moment, is_of_time, start_of}
-use Rattle.word_faults.specs.Lists.{all_of, colon_parts, number_in}
-use Rattle.given_buffers.specs.GivenBuffers.{buffer_list}
+use Rattle.word_faults.specs.Lists.{all_of, buffer_list, colon_parts, number_in}
 use Rattle.word_faults.specs.NameLists.{are_printable, is_printable, name_list, name_of, network_if_given, network_in, network_of as network_named}
 use Rattle.word_faults.specs.NameLists.{network_with}
 use Rattle.laws_pipe.proofs.PlainTexts.{decimal_flat}

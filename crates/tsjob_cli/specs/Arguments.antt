@@ -13,8 +13,7 @@ use Rattle.job_run.specs.declared.job_arguments.Subcommand.{Subcommand}
 use Rattle.job_run.specs.declared.job_arguments.Subcommand.TheVariants.{Whole, Describe, Units, Why}
 use Rattle.job_run.specs.JobArguments.{JobArgumentsView}
 use Rattle.word_faults.specs.JobValues.{base_of, clock_sharing_of, declare_by_of, start_of}
-use Rattle.given_buffers.specs.GivenBuffers.{buffer_list}
-use Rattle.word_faults.specs.Lists.{given}
+use Rattle.word_faults.specs.Lists.{buffer_list, given}
 use Rattle.word_faults.specs.NameLists.{name_list, network_if_given}
 use Rattle.word_faults.specs.GivenOptions.{given_options, number_if, number_of, numbers_of}
 use Rattle.tsjob_cli.specs.FileMark.{has_mark}

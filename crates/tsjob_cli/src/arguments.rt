@@ -11,14 +11,13 @@ use crate::file_mark::has_mark;
 use crate::options::OPTIONS;
 use clap::ArgMatches;
 use devices::{is_given, text_of};
-use given_buffers::buffer_list;
 use given_values::NetworkName;
 use job_lines::Reporting;
 use job_run::{JobArguments, Subcommand};
 use std::alloc::{AllocError, Global};
 use word_faults::{
-    base_of, clock_sharing_of, declare_by_of, given_options, name_list, network_in, number_if,
-    number_of, numbers_of, start_of,
+    base_of, buffer_list, clock_sharing_of, declare_by_of, given_options, name_list, network_in,
+    number_if, number_of, numbers_of, start_of,
 };
 
 // Returns the subcommand of this name; without a name, the whole job.

@@ -7,7 +7,7 @@ use Rattle.devices.specs.Options.{is_given}
 use Rattle.arrival.specs.declared.arrival.Arrival.{Arrival}
 use Rattle.arrival.specs.declared.arrival.Arrival.TheVariants.{Unknown, AtRate, OnLines}
 use Rattle.event_lines.specs.declared.event_lines.LineForm.{LineForm}
-use Rattle.given_buffers.specs.GivenBuffers.{buffer_list}
+use Rattle.word_faults.specs.Lists.{buffer_list}
 use Rattle.es_buffers.specs.declared.buffers.PidBuffers.{PidBuffers}
 use Rattle.es_events.specs.declared.view_options.ViewOptions.{ViewOptions}
 use Rattle.ts_watch.specs.declared.view_request.ViewSpan.{ViewSpan}

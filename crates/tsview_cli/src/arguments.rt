@@ -11,10 +11,9 @@ use clap::ArgMatches;
 use clock27::Rate;
 use devices::{is_given, text_of};
 use event_lines::LineForm;
-use given_buffers::buffer_list;
 use std::alloc::{AllocError, Global};
 use ts_report::{ViewChoice, ViewOptions, ViewRequest, ViewSpan};
-use word_faults::{given_options, number_if, number_of, numbers_of};
+use word_faults::{buffer_list, given_options, number_if, number_of, numbers_of};
 
 // Returns how packets arrive: at this rate, or without a rate by clock references.
 #[tactic(auto, unfolding(crate::specs::Arguments::arrival_of))]

@@ -2,7 +2,7 @@
 use Rattle.std.specs.Prelude.{ℕ, ◌==◌, List, [], ◌∷◌, Option, Some, None, map, option_and_then, option_map}
 use Rattle.std.specs.List.{slice_split}
 use Rattle.clap.specs.Words.{Text}
-use Rattle.word_faults.specs.declared.lists.BufferSizes.{BufferSizes}
+use Rattle.es_buffers.specs.declared.buffers.PidBuffers.{PidBuffers}
 use Rattle.devices.specs.Options.{decimal, within}
 
 -- the parts of a text between commas, and between colons
@@ -35,19 +35,19 @@ unfoldable pub number_list : ℕ → Option Text → Option (List ℕ)
 number_list most None = Some []
 number_list most (Some text) = numbers_of most (comma_parts text)
 
--- PID:RX:MAIN, each in its range
-unfoldable pub sizes_of : List Text → Option BufferSizes
-sizes_of (pid ∷ rx ∷ main ∷ []) =
+-- the buffers of PID:RX:MAIN, each number in its range
+unfoldable pub buffers_of : List Text → Option PidBuffers
+buffers_of (pid ∷ rx ∷ main ∷ []) =
     given (number_in 0 8191 pid) (λ p.
     given (number_in 64000 200000000 rx) (λ r.
     given (number_in 1 10000000 main) (λ m.
-    Some (record { pid = p; rx = r; main = m }))))
-sizes_of parts = None
+    Some (record { pid = p; buffers = record { rx = r; main = m } }))))
+buffers_of parts = None
 
-abbrev pub all_sizes : List Text → Option (List BufferSizes)
-all_sizes texts = all_of (map (λ text. sizes_of (colon_parts text)) texts)
+abbrev pub all_buffers : List Text → Option (List PidBuffers)
+all_buffers texts = all_of (map (λ text. buffers_of (colon_parts text)) texts)
 
--- PID:RX:MAIN,..: no sizes if the option is not given
-unfoldable pub buffer_sizes : Option Text → Option (List BufferSizes)
-buffer_sizes None = Some []
-buffer_sizes (Some text) = all_sizes (comma_parts text)
+-- PID:RX:MAIN,..: no buffers if the option is not given
+unfoldable pub buffer_list : Option Text → Option (List PidBuffers)
+buffer_list None = Some []
+buffer_list (Some text) = all_buffers (comma_parts text)

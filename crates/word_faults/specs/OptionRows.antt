@@ -6,7 +6,7 @@ use Rattle.std.specs.List.{starts_with}
 use Rattle.std.specs.Str.{bytes_eq}
 use Rattle.devices.specs.Options.{decimal, within}
 use Rattle.word_faults.specs.JobValues.{base_of, clock_sharing_of, declare_by_of, start_of}
-use Rattle.word_faults.specs.Lists.{buffer_sizes, number_list}
+use Rattle.word_faults.specs.Lists.{buffer_list, number_list}
 use Rattle.word_faults.specs.NameLists.{name_list, network_in}
 use Rattle.word_faults.specs.Scaled.{scaled_in}
 use Rattle.pes_packet.specs.StreamIds.{is_unit_id}
@@ -81,7 +81,7 @@ is_value Word text = false
 is_value (Number least greatest default) text = is_some (option_and_then (within least greatest) (decimal text))
 is_value (Scaled scale least greatest default) text = is_some (scaled_in scale least greatest text)
 is_value (Numbers greatest) text = is_some (number_list greatest (Some text))
-is_value Buffers text = is_some (buffer_sizes (Some text))
+is_value Buffers text = is_some (buffer_list (Some text))
 is_value StreamId text = is_id text
 is_value Moment text = is_some (start_of (Some text))
 is_value Declare text = is_some (declare_by_of (Some text))

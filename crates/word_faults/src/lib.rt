@@ -5,7 +5,7 @@
 //! (`KnownWords`), and the usage text (`specs/GivenOptions`, `specs/OptionRows`, `specs/KnownWords`,
 //! `specs/OptionUsage`, `specs/CommandLine`). Values that are no plain numbers: `lists` have commas between their parts
 //! (`specs/Lists`), `name_lists` name services and the network, `job_values` are moments and words, `scaled` numbers
-//! have a unit after them. Their types are plain numbers and texts, and those of `given_values`.
+//! have a unit after them. Their types are plain numbers and texts, those of `given_values`, and buffers.
 //!
 //! `first_fault` finds the first word that is unknown, is given twice, lacks its value, has a wrong value, or must be
 //! given alone and is not; `word_beside` the word beside the options (`specs/WordFaults`). `answer_other_words` reports
@@ -38,7 +38,7 @@ pub use hints::nearest;
 pub use job_values::{base_of, clock_sharing_of, declare_by_of, start_of};
 pub use known_words::KnownWords;
 pub use laws::{faults_name_words, hints_are_nearest};
-pub use lists::{BufferSizes, buffer_sizes};
+pub use lists::buffer_list;
 pub use name_lists::{name_list, network_in};
 pub use option_row::{OptionRow, Row, ValueKind};
 pub use option_values::{given_options, number_if, number_of, numbers_of, subcommand};

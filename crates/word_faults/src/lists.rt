@@ -4,17 +4,8 @@ ghost use Rattle.std.specs.Prelude.{◌≡◌, IfOk, [], ◌∷◌, map, option_
 ghost use Rattle.word_faults.specs.Lists as spec;
 
 use devices::number_in;
+use es_buffers::{Buffers, PidBuffers};
 use std::alloc::{AllocError, Global};
-
-/// The sizes that a user gives to the buffers of a PID.
-#[derive(Clone, Copy)]
-pub struct BufferSizes {
-    pub pid: u16,
-    /// The rate out of the transport buffer, in bits a second.
-    pub rx: u32,
-    /// The main buffer, in bytes.
-    pub main: u32,
-}
 
 /// Returns the parts of a text between commas.
 pub fn comma_parts<'a>(alloc: Global, text: &'a str) -> Result<Vec<&'a str>, AllocError>
@@ -62,25 +53,25 @@ pub fn number_list(
     }
 }
 
-// Returns the sizes of these three numbers, each in its range.
-#[tactic(auto, unfolding(crate::specs::Lists::sizes_of))]
-fn ranged(pid: &str, rx: &str, main: &str) -> Option<BufferSizes>
-    ensures { result ≡ spec.sizes_of (pid.now ∷ rx.now ∷ main.now ∷ []) }
+// Returns the buffers of these three numbers, each in its range.
+#[tactic(auto, unfolding(crate::specs::Lists::buffers_of))]
+fn ranged(pid: &str, rx: &str, main: &str) -> Option<PidBuffers>
+    ensures { result ≡ spec.buffers_of (pid.now ∷ rx.now ∷ main.now ∷ []) }
 {
     let pid = number_in(pid, 0, 8191)?;
     let rx = number_in(rx, 64_000, 200_000_000)?;
     let main = number_in(main, 1, 10_000_000)?;
-    Some(BufferSizes {
+    let (rx, main) = (rx as u32, main as u32);
+    Some(PidBuffers {
         pid: pid as u16,
-        rx: rx as u32,
-        main: main as u32,
+        buffers: Buffers { rx, main },
     })
 }
 
-// Returns the sizes of a part `PID:RX:MAIN`.
-#[tactic(auto, unfolding(crate::specs::Lists::sizes_of))]
-fn sizes_in(alloc: Global, part: &str) -> Result<Option<BufferSizes>, AllocError>
-    ensures { IfOk result (λ r. r ≡ spec.sizes_of (spec.colon_parts part.now)) }
+// Returns the buffers of a part `PID:RX:MAIN`.
+#[tactic(auto, unfolding(crate::specs::Lists::buffers_of))]
+fn buffers_in(alloc: Global, part: &str) -> Result<Option<PidBuffers>, AllocError>
+    ensures { IfOk result (λ r. r ≡ spec.buffers_of (spec.colon_parts part.now)) }
 {
     match colon_parts(alloc, part)?.as_slice() {
         [pid, rx, main] => Ok(ranged(pid, rx, main)),
@@ -88,32 +79,29 @@ fn sizes_in(alloc: Global, part: &str) -> Result<Option<BufferSizes>, AllocError
     }
 }
 
-// Returns the sizes of all parts; none if a part is bad.
-fn all_sizes(alloc: Global, parts: &[&str]) -> Result<Option<Vec<BufferSizes>>, AllocError>
+// Returns the buffers of all parts; none if a part is bad.
+fn all_buffers(alloc: Global, parts: &[&str]) -> Result<Option<Vec<PidBuffers>>, AllocError>
     ensures { IfOk result
-        (λ r. option_map (λ sizes. sizes.items) r ≡ spec.all_sizes (map (λ s. s.now) parts.now)) }
+        (λ r. option_map (λ buffers. buffers.items) r ≡ spec.all_buffers (map (λ s. s.now) parts.now)) }
 {
     let mut all = Vec::new(alloc);
     for part in parts {
-        match sizes_in(alloc, part)? {
-            Some(sizes) => all.push(sizes)?,
+        match buffers_in(alloc, part)? {
+            Some(buffers) => all.push(buffers)?,
             None => return Ok(None),
         }
     }
     Ok(Some(all))
 }
 
-/// Returns the sizes of a list `PID:RX:MAIN,..`: an empty list if it is not given, none if a part is out of range.
-#[tactic(auto, unfolding(crate::specs::Lists::buffer_sizes))]
-pub fn buffer_sizes(
-    alloc: Global,
-    text: Option<&str>,
-) -> Result<Option<Vec<BufferSizes>>, AllocError>
-    ensures { IfOk result (λ r. option_map (λ sizes. sizes.items) r
-        ≡ spec.buffer_sizes (option_map (λ s. s.now) text.entry)) }
+/// Returns the buffers of a list `PID:RX:MAIN,..`: an empty list if it is not given, none if a part is out of range.
+#[tactic(auto, unfolding(crate::specs::Lists::buffer_list))]
+pub fn buffer_list(alloc: Global, text: Option<&str>) -> Result<Option<Vec<PidBuffers>>, AllocError>
+    ensures { IfOk result (λ r. option_map (λ buffers. buffers.items) r
+        ≡ spec.buffer_list (option_map (λ s. s.now) text.entry)) }
 {
     match text {
         None => Ok(Some(Vec::new(alloc))),
-        Some(text) => all_sizes(alloc, &comma_parts(alloc, text)?),
+        Some(text) => all_buffers(alloc, &comma_parts(alloc, text)?),
     }
 }

@@ -4,7 +4,7 @@ ghost use Rattle.std.specs.Str.{bytes_eq};
 ghost use Rattle.word_faults.specs.OptionRows as spec;
 
 use crate::job_values::{base_of, clock_sharing_of, declare_by_of, start_of};
-use crate::lists::{buffer_sizes, number_list};
+use crate::lists::{buffer_list, number_list};
 use crate::name_lists::{name_list, network_in};
 use crate::scaled::{Scale, scaled_in};
 use devices::number_in;
@@ -163,7 +163,7 @@ pub(crate) fn is_value(alloc: Global, kind: ValueKind, text: &str) -> Result<boo
             ..
         } => Ok(scaled_in(text, scale, least, greatest).is_some()),
         ValueKind::Numbers { greatest } => Ok(number_list(alloc, greatest, Some(text))?.is_some()),
-        ValueKind::Buffers => Ok(buffer_sizes(alloc, Some(text))?.is_some()),
+        ValueKind::Buffers => Ok(buffer_list(alloc, Some(text))?.is_some()),
         ValueKind::StreamId => Ok(is_id(text)),
         ValueKind::Moment => Ok(start_of(Some(text)).is_some()),
         ValueKind::Declare => Ok(declare_by_of(Some(text)).is_some()),

@@ -1,6 +1,6 @@
 //! Numbers with a unit after them.
 
-ghost use Rattle.std.specs.Prelude.{◌≡◌, ◌≤◌, [], IfSome, codes, option_map};
+ghost use Rattle.std.specs.Prelude.{◌≡◌, ◌<◌, ◌≤◌, IfSome, option_map};
 ghost use Rattle.word_faults.specs.Scaled as spec;
 
 use devices::number_in;
@@ -16,42 +16,13 @@ pub enum Scale {
     Millis,
 }
 
-// Returns the text before a `k` at its end.
-fn before_thousands(text: &str) -> Option<&str>
-    ensures { option_map (λ s. s.now) result ≡ spec.before_unit 107 [] text.now }
+// Returns the text before a unit at its end: the unit by its first character, of ASCII, and its further characters.
+fn before_unit<'a>(text: &'a str, first: char, rest: &str) -> Option<&'a str>
+    requires { first < 128 }
+    ensures { option_map (λ s. s.now) result ≡ spec.before_unit first rest.now text.entry.now }
 {
-    match text.split_once('k') {
-        Some((front, rest)) if rest == "" => Some(front),
-        _ => None,
-    }
-}
-
-// Returns the text before an `M` at its end.
-fn before_millions(text: &str) -> Option<&str>
-    ensures { option_map (λ s. s.now) result ≡ spec.before_unit 77 [] text.now }
-{
-    match text.split_once('M') {
-        Some((front, rest)) if rest == "" => Some(front),
-        _ => None,
-    }
-}
-
-// Returns the text before an `ms` at its end.
-fn before_milliseconds(text: &str) -> Option<&str>
-    ensures { option_map (λ s. s.now) result ≡ spec.before_unit 109 (codes "s") text.now }
-{
-    match text.split_once('m') {
-        Some((front, rest)) if rest == "s" => Some(front),
-        _ => None,
-    }
-}
-
-// Returns the text before an `s` at its end.
-fn before_seconds(text: &str) -> Option<&str>
-    ensures { option_map (λ s. s.now) result ≡ spec.before_unit 115 [] text.now }
-{
-    match text.split_once('s') {
-        Some((front, rest)) if rest == "" => Some(front),
+    match text.split_once(first) {
+        Some((front, end)) if end == rest => Some(front),
         _ => None,
     }
 }
@@ -86,16 +57,16 @@ fn unit_value(scale: Scale, text: &str) -> Option<u64>
 {
     match scale {
         Scale::Bits => either(
-            times(before_thousands(text), 1_000),
-            times(before_millions(text), 1_000_000),
+            times(before_unit(text, 'k', ""), 1_000),
+            times(before_unit(text, 'M', ""), 1_000_000),
         ),
         Scale::Ticks => either(
-            times(before_milliseconds(text), 90),
-            times(before_seconds(text), 90_000),
+            times(before_unit(text, 'm', "s"), 90),
+            times(before_unit(text, 's', ""), 90_000),
         ),
         Scale::Millis => either(
-            times(before_milliseconds(text), 1),
-            times(before_seconds(text), 1_000),
+            times(before_unit(text, 'm', "s"), 1),
+            times(before_unit(text, 's', ""), 1_000),
         ),
     }
 }

@@ -1,8 +1,0 @@
-use Rattle.std.proofs.Common.{◌≡◌, ◌++◌, drop, map}
-use Rattle.std.specs.Prelude.{option_map}
-use Rattle.word_faults.specs.Lists.{all_sizes}
-use Rattle.word_faults.proofs.lists.all_sizes.Given as goal
-
-abbrev pub invariant-loop-part : goal.invariant-loop-part
-invariant-loop-part l =
-    option_map (λ rest. l.all.items ++ rest) (all_sizes (map (λ s. s.now) (drop l.part-index l.parts))) ≡ all_sizes (map (λ s. s.now) l.parts)
