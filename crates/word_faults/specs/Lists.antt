@@ -5,12 +5,15 @@ use Rattle.clap.specs.Words.{Text}
 use Rattle.es_buffers.specs.declared.buffers.PidBuffers.{PidBuffers}
 use Rattle.devices.specs.Options.{decimal, within}
 
--- the parts of a text between commas, and between colons
+-- the parts of a text between bytes `at`: between commas, and between colons
+abbrev pub parts : ℕ → Text → List Text
+parts at text = slice_split (λ b. b == at) text
+
 abbrev pub comma_parts : Text → List Text
-comma_parts text = slice_split (λ b. b == 44) text
+comma_parts text = parts 44 text
 
 abbrev pub colon_parts : Text → List Text
-colon_parts text = slice_split (λ b. b == 58) text
+colon_parts text = parts 58 text
 
 -- a function of a value, if there is one
 abbrev pub given : {A B : Type 0} → Option A → (A → Option B) → Option B

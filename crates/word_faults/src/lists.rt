@@ -1,24 +1,18 @@
 //! Options that are lists: their parts have commas between them.
 
-ghost use Rattle.std.specs.Prelude.{◌≡◌, IfOk, [], ◌∷◌, map, option_map};
+ghost use Rattle.std.specs.Prelude.{◌≡◌, ◌<◌, IfOk, [], ◌∷◌, map, option_map};
 ghost use Rattle.word_faults.specs.Lists as spec;
 
 use devices::number_in;
 use es_buffers::{Buffers, PidBuffers};
 use std::alloc::{AllocError, Global};
 
-/// Returns the parts of a text between commas.
-pub fn comma_parts<'a>(alloc: Global, text: &'a str) -> Result<Vec<&'a str>, AllocError>
-    ensures { IfOk result (λ parts. map (λ s. s.now) parts.items ≡ spec.comma_parts text.entry.now) }
+/// Returns the parts of a text between characters `at`, of ASCII.
+pub(crate) fn parts<'a>(alloc: Global, text: &'a str, at: char) -> Result<Vec<&'a str>, AllocError>
+    requires { at < 128 }
+    ensures { IfOk result (λ parts. map (λ s. s.now) parts.items ≡ spec.parts at text.entry.now) }
 {
-    text.split(',').collect(alloc)
-}
-
-/// Returns the parts of a text between colons.
-pub fn colon_parts<'a>(alloc: Global, text: &'a str) -> Result<Vec<&'a str>, AllocError>
-    ensures { IfOk result (λ parts. map (λ s. s.now) parts.items ≡ spec.colon_parts text.entry.now) }
-{
-    text.split(':').collect(alloc)
+    text.split(at).collect(alloc)
 }
 
 // Returns the numbers in texts, each up to `most`; none if a text is no such number.
@@ -49,7 +43,7 @@ pub fn number_list(
 {
     match text {
         None => Ok(Some(Vec::new(alloc))),
-        Some(text) => numbers_of(alloc, most, &comma_parts(alloc, text)?),
+        Some(text) => numbers_of(alloc, most, &parts(alloc, text, ',')?),
     }
 }
 
@@ -73,7 +67,7 @@ fn ranged(pid: &str, rx: &str, main: &str) -> Option<PidBuffers>
 fn buffers_in(alloc: Global, part: &str) -> Result<Option<PidBuffers>, AllocError>
     ensures { IfOk result (λ r. r ≡ spec.buffers_of (spec.colon_parts part.now)) }
 {
-    match colon_parts(alloc, part)?.as_slice() {
+    match parts(alloc, part, ':')?.as_slice() {
         [pid, rx, main] => Ok(ranged(pid, rx, main)),
         _ => Ok(None),
     }
@@ -102,6 +96,6 @@ pub fn buffer_list(alloc: Global, text: Option<&str>) -> Result<Option<Vec<PidBu
 {
     match text {
         None => Ok(Some(Vec::new(alloc))),
-        Some(text) => all_buffers(alloc, &comma_parts(alloc, text)?),
+        Some(text) => all_buffers(alloc, &parts(alloc, text, ',')?),
     }
 }

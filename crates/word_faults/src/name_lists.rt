@@ -5,7 +5,7 @@ ghost use Rattle.word_faults.specs.Lists.{colon_parts};
 ghost use Rattle.word_faults.specs.NameLists as spec;
 ghost use Rattle.given_values.specs.GivenNames.{network_name_view};
 
-use crate::lists::{colon_parts, comma_parts};
+use crate::lists::parts;
 use devices::number_in;
 use given_values::{NetworkName, ServiceName};
 use std::alloc::{AllocError, Global};
@@ -29,7 +29,7 @@ fn are_printable(text: &str) -> bool
 fn name_in<'a>(alloc: Global, part: &'a str) -> Result<Option<ServiceName<'a>>, AllocError>
     ensures { IfOk result (λ r. r ≡ spec.name_of (colon_parts part.entry.now)) }
 {
-    let parts = colon_parts(alloc, part)?;
+    let parts = parts(alloc, part, ':')?;
     let (number, name, provider) = match parts.as_slice() {
         [number, name] => (*number, *name, None),
         [number, name, provider] => (*number, *name, Some(*provider)),
@@ -78,7 +78,7 @@ pub fn name_list<'a>(
     if !are_printable(text) {
         return Ok(None);
     }
-    all_names(alloc, &comma_parts(alloc, text)?)
+    all_names(alloc, &parts(alloc, text, ',')?)
 }
 
 // Returns a network with these numbers, each in its range.
@@ -110,7 +110,7 @@ pub fn network_in<'a>(alloc: Global, text: &'a str) -> Result<Option<NetworkName
     if !are_printable(text) {
         return Ok(None);
     }
-    match colon_parts(alloc, text)?.as_slice() {
+    match parts(alloc, text, ':')?.as_slice() {
         [id, name] => Ok(ranged_network(id, name, None)),
         [id, name, original] => Ok(ranged_network(id, name, Some(*original))),
         _ => Ok(None),
