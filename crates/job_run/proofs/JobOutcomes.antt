@@ -32,7 +32,7 @@ use Rattle.job_run.specs.declared.job_arguments.Subcommand.TheVariants.{Whole, D
 use Rattle.job_run.specs.JobArguments.{JobArgumentsView}
 use Rattle.packet_sync.specs.NoStreams.{searched, no_stream}
 use Rattle.packet_sync.specs.declared.file_form.FileForm.{FileForm}
-use Rattle.job_lines.specs.SlipLines.{no_stream_line}
+use Rattle.job_run.specs.SlipLines.{no_stream_line}
 use Rattle.job_run.specs.Outcomes.{BytesLead, FindingsLead, Gives, GivesJob, GivesReasons, GivesUnits, IsFound, IsReasonOutput, IsWritten, Leads, InputLeads}
 use Rattle.job_run.specs.Outcomes.{LeadsWhole, PerformsJob, ReportsRefusal, ReportsWhy, Withholds, found_line}
 use Rattle.std.specs.Int.{bytes_high_first}

@@ -1,3 +1,4 @@
+pub mod WarningLines
 pub mod Carrying
 pub mod JobFindings
 pub mod JobOutcomes

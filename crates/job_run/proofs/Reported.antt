@@ -10,10 +10,10 @@ use Rattle.packet_sync.specs.declared.left_out.FieldLeftOut.{FieldLeftOut}
 use Rattle.job_inputs.specs.JobInput.{carries_table}
 use Rattle.job_programs.specs.Warnings.{is_damage}
 use Rattle.job_programs.specs.declared.warning.Warning.{Warning}
-use Rattle.job_lines.specs.FieldLines as fields
+use Rattle.job_run.specs.FieldLines as fields
 use Rattle.job_run.specs.GapLines.{any_gap}
 use Rattle.job_run.specs.Laws.{StatusStays}
-use Rattle.job_lines.specs.WarningLines.{is_note, is_open_ended, is_reported}
+use Rattle.job_run.specs.WarningLines.{is_note, is_open_ended, is_reported}
 
 -- One element, and the kept elements after it
 one_kept : {A : Type 0} (lost : A → Bool) (keep all is_lost : Bool) (x : A) (more kept : List A) → lost x ≡ is_lost → list_any lost more ≡ list_any lost kept →

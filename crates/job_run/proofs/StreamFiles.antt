@@ -23,9 +23,9 @@ use Rattle.devices.specs.declared.halt.Halt.TheVariants as Halted
 use Rattle.devices.proofs.NamedReaders.{is_unread}
 use Rattle.packet_sync.specs.NoStreams.{searched, no_stream}
 use Rattle.packet_sync.specs.declared.file_form.FileForm.{FileForm}
-use Rattle.job_lines.specs.InputLines.{are_lost, input_line, name_of, note_lines}
-use Rattle.job_lines.specs.RefusalLine.{refusal_in}
-use Rattle.job_lines.specs.SlipLines.{no_stream_line}
+use Rattle.job_run.specs.InputLines.{are_lost, input_line, name_of, note_lines}
+use Rattle.job_run.specs.RefusalLine.{refusal_in}
+use Rattle.job_run.specs.SlipLines.{no_stream_line}
 use Rattle.job_programs.specs.Answers.{Answers, Refuses}
 use Rattle.stamp_repair.specs.References.{references_in}
 use Rattle.packet_pcr.specs.declared.pcr_reading.FoundPcr.{FoundPcr}

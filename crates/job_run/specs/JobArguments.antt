@@ -1,7 +1,7 @@
 -- What a call of `tsjob` asks for.
 use Rattle.std.specs.Prelude.{ℕ, List, Option}
 use Rattle.job_programs.specs.JobOptions.{JobOptionsView}
-use Rattle.job_lines.specs.declared.reporting.Reporting.{Reporting}
+use Rattle.job_run.specs.declared.reporting.Reporting.{Reporting}
 use Rattle.job_run.specs.declared.job_arguments.Subcommand.{Subcommand}
 
 -- what to write, the file of a description for units of a running stream, which lines to report, and the options of the job

@@ -1,3 +1,10 @@
+pub mod SlipLines
+pub mod FieldLines
+pub mod TableLines
+pub mod InformationLines
+pub mod RefusalLine
+pub mod WarningLines
+pub mod InputLines
 pub mod JobArguments
 pub mod FramePackets
 pub mod Streams

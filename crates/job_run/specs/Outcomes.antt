@@ -36,20 +36,20 @@ use Rattle.devices.specs.Outcomes.{halt_line, Outcome, reported}
 use Rattle.devices.specs.Lines.{Reports, Stopped}
 use Rattle.devices.specs.Runs.{Performs}
 use Rattle.devices.specs.declared.halt.Halt.TheVariants.{Write}
-use Rattle.job_lines.specs.declared.reporting.Reporting.{Reporting}
+use Rattle.job_run.specs.declared.reporting.Reporting.{Reporting}
 use Rattle.job_run.specs.declared.job_arguments.Subcommand.{Subcommand}
 use Rattle.job_run.specs.declared.job_arguments.Subcommand.TheVariants.{Whole, Describe, Units, Why}
 use Rattle.job_run.specs.JobArguments.{JobArgumentsView}
-use Rattle.job_lines.specs.FieldLines.{field_lines, reported_fields}
+use Rattle.job_run.specs.FieldLines.{field_lines, reported_fields}
 use Rattle.es_feed.specs.Records.{records_of, written}
-use Rattle.job_lines.specs.RefusalLine.{refusal_in, refusal_line}
-use Rattle.job_lines.specs.SlipLines.{slip_lines, no_stream_line}
+use Rattle.job_run.specs.RefusalLine.{refusal_in, refusal_line}
+use Rattle.job_run.specs.SlipLines.{slip_lines, no_stream_line}
 use Rattle.job_run.specs.GapLines.{any_gap, gap_lines}
 use Rattle.job_run.specs.LeftOutCount.{count_line}
 use Rattle.job_run.specs.RecodingLines.{recodings_text}
 use Rattle.job_run.specs.Streams.{HasPackets, PacketNotesView, findings_for, in_step, notes_for}
-use Rattle.job_lines.specs.TableLines.{other_table_lines, reported_tables}
-use Rattle.job_lines.specs.WarningLines.{reported_warnings, warning_lines}
+use Rattle.job_run.specs.TableLines.{other_table_lines, reported_tables}
+use Rattle.job_run.specs.WarningLines.{reported_warnings, warning_lines}
 
 -- 1. The output
 

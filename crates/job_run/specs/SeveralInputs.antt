@@ -18,9 +18,9 @@ use Rattle.job_programs.specs.declared.refusal.JobError.TheVariants.{Refused}
 use Rattle.job_programs.specs.declared.refusal.JobRefusal.{JobRefusal}
 use Rattle.job_programs.specs.declared.refusal.JobRefusal.TheVariants.{NoStream}
 use Rattle.devices.specs.Outcomes.{Outcome, reported}
-use Rattle.job_lines.specs.InputLines.{are_lost, input_line, note_lines}
-use Rattle.job_lines.specs.RefusalLine.{refusal_in, refusal_line}
-use Rattle.job_lines.specs.SlipLines.{no_stream_line}
+use Rattle.job_run.specs.InputLines.{are_lost, input_line, note_lines}
+use Rattle.job_run.specs.RefusalLine.{refusal_in, refusal_line}
+use Rattle.job_run.specs.SlipLines.{no_stream_line}
 use Rattle.es_feed.specs.Records.{written}
 use Rattle.job_run.specs.declared.job_arguments.Subcommand.{Subcommand}
 use Rattle.job_run.specs.declared.job_arguments.Subcommand.TheVariants.{Whole, Describe, Units, Why}

@@ -11,8 +11,8 @@ use Rattle.devices.specs.declared.halt.Halt.TheVariants.{Memory}
 use Rattle.job_inputs.specs.JobInput.{JobInputView, job_input, AreStreams}
 use Rattle.job_inputs.specs.JoinedInputs.{AreStreamsIn, JoinedInputsView}
 use Rattle.job_programs.specs.declared.refusal.JobRefusal.{JobRefusal}
-use Rattle.job_lines.specs.InputLines.{are_lost, input_line, name_of, note_lines}
-use Rattle.job_lines.specs.RefusalLine.{refusal_in, refusal_line}
+use Rattle.job_run.specs.InputLines.{are_lost, input_line, name_of, note_lines}
+use Rattle.job_run.specs.RefusalLine.{refusal_in, refusal_line}
 use Rattle.job_run.specs.JobArguments.{JobArgumentsView}
 use Rattle.job_run.specs.Outcomes.{IsWritten, reports_loss, status_of, reported_lines, unless_quiet}
 use Rattle.job_run.specs.SeveralInputs.{GivesIn, IsRefusedIn, NamedStream, StreamsLead, all_joined, is_stream_lossy, stream_input, stream_inputs, stream_lines}

@@ -5,7 +5,7 @@ ghost use Rattle.std.specs.List.{list_any};
 ghost use Rattle.pid_findings.specs.Views.{FindingView};
 ghost use Rattle.devices.specs.Devices.{writes};
 ghost use Rattle.devices.specs.Files.{files_of};
-ghost use Rattle.job_lines.specs.InputLines.{are_lost, name_of, note_lines};
+ghost use Rattle.job_run.specs.InputLines.{are_lost, name_of, note_lines};
 ghost use Rattle.job_programs.specs.Answers.{Answers};
 ghost use Rattle.job_inputs.specs.JoinedInputs.{AreStreamsIn};
 ghost use Rattle.job_run.specs.Outcomes.{Withholds, status_of, unless_quiet};
@@ -13,6 +13,7 @@ ghost use Rattle.job_run.specs.SeveralInputs.{GivesIn, all_joined, under};
 ghost use Rattle.job_run.specs.StreamFiles as spec;
 ghost use Rattle.job_run.specs.StreamFiles.{TakenView};
 
+use crate::input_lines::{are_lost, write_input, write_notes};
 use crate::job_arguments::JobArguments;
 use crate::outcome::{JobOutcome, output_for, refused_outcome, status_of};
 use crate::stream_files::{TakenStream, TakenStreams, named_inputs};
@@ -20,7 +21,6 @@ use crate::written::write_outcome;
 use counted_io::Sink;
 use devices::{Halt, NamedFiles, report_halt};
 use job_inputs::{InputNote, JobInput, JoinedInputs, join_inputs};
-use job_lines::{are_lost, write_input, write_notes};
 use job_programs::{JobError, JobRefusal};
 use std::alloc::{AllocError, Global};
 

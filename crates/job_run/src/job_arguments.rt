@@ -2,9 +2,9 @@
 
 ghost use Rattle.std.specs.Prelude.{◌≡◌, option_map};
 
+use crate::reporting::Reporting;
 use es_buffers::PidBuffers;
 use given_values::{ClockBase, ClockSharing, DeclareBy, NetworkName, ServiceName};
-use job_lines::Reporting;
 use job_programs::JobOptions;
 use std::marker::Model;
 

@@ -19,23 +19,24 @@ ghost use Rattle.job_run.specs.RecodingLines.{recodings_text};
 ghost use Rattle.job_run.specs.SeveralInputs.{GivesIn, GivesJobIn};
 ghost use Rattle.job_run.specs.Streams.{IsRead};
 ghost use Rattle.devices.specs.Outcomes.{reported};
-ghost use Rattle.job_lines.specs.SlipLines.{no_stream_line};
+ghost use Rattle.job_run.specs.SlipLines.{no_stream_line};
 ghost use Rattle.job_inputs.specs.JobInput.{AreStreams};
 
 use crate::carried_stream::{PacketNotes, ReadStream};
+use crate::field_lines::{are_needed, reported_fields, write_fields};
 use crate::gap_lines::{any_gap, push_gaps};
 use crate::job_arguments::{JobArguments, Subcommand};
 use crate::left_out_count::push_count;
 use crate::reading::StreamReading;
 use crate::reason_output::reason_output;
 use crate::recoding_lines::push_recodings;
+use crate::refusal_line::{write_refusal, write_refusal_in};
+use crate::reporting::Reporting;
+use crate::slip_lines::{write_no_stream, write_slips};
+use crate::table_lines::{are_missed, reported_tables, write_other_tables};
 use crate::timed_text::job_findings;
+use crate::warning_lines::{is_damaged, reported_warnings, write_warnings};
 use job_inputs::{JobInput, job_input, mark_as_asked};
-use job_lines::{
-    Reporting, are_missed, are_needed, is_damaged, reported_fields, reported_tables,
-    reported_warnings, write_fields, write_no_stream, write_other_tables, write_refusal,
-    write_refusal_in, write_slips, write_warnings,
-};
 use job_programs::{JobError, JobOptions, Warning};
 use other_tables::{OtherTable, other_tables};
 use packet_sync::{FieldLeftOut, FileForm, Slip};

@@ -11,13 +11,13 @@ ghost use Rattle.job_run.specs.StreamFiles as spec;
 ghost use Rattle.job_run.specs.Streams.{IsRead};
 
 use crate::carried_stream::{PacketNotes, ReadStream};
+use crate::input_lines::write_input;
 use crate::job_arguments::JobArguments;
 use crate::outcome::{JobOutcome, no_stream_outcome, only_text, refused_stream, reported_of};
 use crate::reading::{StreamReading, read_stream};
 use crate::timed_text::job_findings;
 use devices::{Halt, NamedFiles};
 use job_inputs::{JobInput, job_input, mark_as_asked};
-use job_lines::write_input;
 use other_tables::{OtherTable, other_tables};
 use pid_findings::Finding;
 use std::alloc::{AllocError, Global};

@@ -8,7 +8,7 @@ use Rattle.given_values.specs.declared.clock_sharing.ClockSharing.{ClockSharing}
 use Rattle.given_values.specs.declared.declare_by.DeclareBy.{DeclareBy}
 use Rattle.es_buffers.specs.declared.buffers.PidBuffers.{PidBuffers}
 use Rattle.devices.specs.Options.{is_given}
-use Rattle.job_lines.specs.declared.reporting.Reporting.{Reporting}
+use Rattle.job_run.specs.declared.reporting.Reporting.{Reporting}
 use Rattle.job_run.specs.declared.job_arguments.Subcommand.{Subcommand}
 use Rattle.job_run.specs.declared.job_arguments.Subcommand.TheVariants.{Whole, Describe, Units, Why}
 use Rattle.job_run.specs.JobArguments.{JobArgumentsView}

@@ -12,8 +12,7 @@ use crate::options::OPTIONS;
 use clap::ArgMatches;
 use devices::{is_given, text_of};
 use given_values::NetworkName;
-use job_lines::Reporting;
-use job_run::{JobArguments, Subcommand};
+use job_run::{JobArguments, Reporting, Subcommand};
 use std::alloc::{AllocError, Global};
 use word_faults::{
     base_of, buffer_list, clock_sharing_of, declare_by_of, given_options, name_list, network_in,

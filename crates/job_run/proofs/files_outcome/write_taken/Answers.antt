@@ -1,5 +1,5 @@
 use Rattle.std.proofs.Common.{◌∙◌, ◌++◌, List, ℕ, ap, map, string_bytes}
-use Rattle.job_lines.specs.InputLines.{name_of}
+use Rattle.job_run.specs.InputLines.{name_of}
 use Rattle.job_run.specs.SeveralInputs.{under}
 use Rattle.job_run.specs.StreamFiles.{TakenView, taken_lines}
 use Rattle.job_run.proofs.StreamFiles.{taken_more, taken_whole}

@@ -1,7 +1,0 @@
-use Rattle.std.proofs.Common.{append_assoc}
-use Rattle.job_lines.specs.RefusalLine.{greater_text}
-use Rattle.job_lines.proofs.refusal_line.write_greater.Goals as goal
-
-pub returns : goal.returns
-unfolding greater_text
-returns c = simp append_assoc c.write.ensures.bytes

@@ -1,7 +1,0 @@
-use Rattle.std.proofs.Common.{◌≡◌, ◌++◌, drop, string_bytes}
-use Rattle.job_lines.specs.TableLines.{other_table_lines}
-use Rattle.job_lines.proofs.table_lines.write_other_tables.Given as goal
-
-abbrev pub invariant-loop-table : goal.invariant-loop-table
-invariant-loop-table l =
-    string_bytes l.text ++ other_table_lines (drop l.table-index l.tables) ≡ string_bytes l.fn.text ++ other_table_lines l.tables
