@@ -1,7 +1,7 @@
 //! What the system clock shows as a run begins.
 
 /// What the system clock shows as the run begins.
-#[derive(Clone, Copy, Debug, PartialEq, Eq)]
+#[derive(Clone, Copy)]
 pub enum ClockBase {
     /// What the first program's shows, if that does not pass the end of its 33 bits within 12 hours; else 0.
     Lasting,

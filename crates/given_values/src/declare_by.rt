@@ -1,7 +1,7 @@
 //! By what the packets of units are declared.
 
 /// By what the packets of a stream's units are declared.
-#[derive(Clone, Copy, Debug, PartialEq, Eq)]
+#[derive(Clone, Copy)]
 pub enum DeclareBy {
     /// By groups where that asks for at most a 64th more of the multiplex than by pace, else by pace.
     Either,
