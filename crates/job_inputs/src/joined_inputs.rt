@@ -38,7 +38,7 @@ pub struct Origin {
 }
 
 /// A note about an input after the first.
-#[derive(Clone, Copy, PartialEq, Eq)]
+#[derive(Clone, Copy)]
 pub enum NoteCause {
     /// A program has a new number.
     Program(NewNumber),
@@ -53,7 +53,7 @@ pub enum NoteCause {
 }
 
 /// A note, and the number of its input, from 0 on.
-#[derive(Clone, Copy, PartialEq, Eq)]
+#[derive(Clone, Copy)]
 pub struct InputNote {
     pub input: usize,
     pub cause: NoteCause,

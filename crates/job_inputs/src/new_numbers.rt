@@ -8,7 +8,7 @@ use std::alloc::{AllocError, Global};
 use stream_programs::free_pid;
 
 /// A number of a program or a PID of an input, and what it is in the job.
-#[derive(Clone, Copy, PartialEq, Eq)]
+#[derive(Clone, Copy)]
 pub struct NewNumber {
     pub from: u16,
     pub to: u16,
