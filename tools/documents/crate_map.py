@@ -4,14 +4,15 @@ A layer is a comment of crates.txt with the crates below it; the first words of 
 has the highest layer first, and a line down from a layer to each one that it uses; a line that others imply is left out. The table has, by
 layer, each crate and the first sentence of its src/lib.rt (or main.rt).
 
---write puts both between the markers of docs/ARCHITECTURE.md, and --check asks whether they are there as they would be written; it
-prints how many of the two passed.
+--write puts the picture and the names of the crates, by layer, between the markers of docs/ARCHITECTURE.md, and --check asks whether they are there
+as they would be written; it prints how many of the two passed.
 
 --above says what a change of a crate costs: how many crates have it below them, and the minutes of processor time that its own proof and tests
 and theirs take by docs/GATE.md; of each crate, the dearest first, or of those that are named."""
 
 import re
 import sys
+import textwrap
 
 from documents.sources import ROOT, Crates, seconds_of, title
 
@@ -94,8 +95,17 @@ def table(crates):
     return "\n\n".join(parts)
 
 
+def names(crates):
+    """By layer the names of the crates."""
+    parts = []
+    for layer in crates.layers:
+        line = f"- {title(layer)}: " + ", ".join(f"`{name}`" for name in crates.crates[layer])
+        parts.append(textwrap.fill(line, 145, subsequent_indent="  ", break_on_hyphens=False))
+    return "\n".join(parts)
+
+
 def places(crates):
-    return {"picture": "```\n" + picture(crates) + "\n```", "table": table(crates)}
+    return {"picture": "```\n" + picture(crates) + "\n```", "names": names(crates)}
 
 
 def marked(name):

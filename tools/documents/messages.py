@@ -42,7 +42,7 @@ APART = {"/dev/stdin", "--state", "--unframe", "tsmux", "tsjob", "tsremux", "sta
 KEYS = {"unknown_words"}
 # By crate, the files with the words of reports, and the pages that have these words between backquotes or in blocks of code.
 REPORTS = {
-    "event_lines": (["event_lines", "fault_lines", "figure_lines", "input_lines", "mark_lines", "packet_lines", "rule_lines", "summary_lines", "video_lines", "window_line"], ["docs/VIEW.md", "docs/VIEW_LINES.md", "docs/VIEW_TOTALS.md"]),
+    "event_lines": (["event_lines", "fault_lines", "figure_lines", "input_lines", "mark_lines", "packet_lines", "rule_lines", "summary_lines", "video_lines", "window_line"], ["docs/VIEW.md", "docs/VIEW_LINES.md"]),
     "tsmux_cli": (["finding_lines"], ["docs/MONITOR.md"]),
     "monitor": (["report_lines"], ["docs/MONITOR.md"]),
     "diagnosis": (["key_words"], ["docs/DESCRIPTION.md"]),

@@ -69,7 +69,7 @@ EXAMPLES = {
 }
 STATUS = [("0", "success"), ("1", "the input was refused, or a fault was found"), ("2", "a usage error"), ("3", "a device failed, memory ran out, or a limit was reached")]
 # By document, the program of each of its tables of options, in their order.
-TABLES = {"docs/MANUAL.md": ["tsmux", "tsview"], "docs/TSJOB.md": ["tsjob"], "docs/TSREMUX.md": ["tsremux"], "docs/ON_AIR.md": ["tsair"]}
+TABLES = {"docs/MANUAL.md": ["tsmux", "tsview"], "docs/TSJOB.md": ["tsjob", "tsremux"], "docs/ON_AIR.md": ["tsair"]}
 
 
 class Option:
