@@ -7,7 +7,7 @@ standard library have 1.0 and 0.3.
 
 Each text has the same limits, and is a test of this tool. So are the verbs, with which the doc comments of public functions have to begin
 ("Returns", "Writes"; 4 in 1,000 may begin otherwise), and the lengths, in words as `wc -w` counts them: README at most 90 lines; a page for users at
-most 1,500 words, except messages, keys and bytes (LONG has them, and the pages for developers); README and docs/ together at most 48,000 words. What makes a test of the sources fail is printed with
+most 1,500 words, except messages, keys and bytes (LONG has them, and the pages for developers); README and docs/ together at most 49,000 words. What makes a test of the sources fail is printed with
 file and line, and at last how many tests passed. With --list each place in the documents is printed, and with --files the counts of each."""
 
 import re
@@ -24,7 +24,7 @@ ODD = (
     r"\b(stands?|stood|told|tells?|so many|goes on|comes? (?:of|to|in|out|with)|holds? of|counts? for|is said|anew|wanting|want of"
     r"|cut down|under way|is none of|counts as|else (?:the|a)|hears?|heard)\b"
 )
-LINES, PAGE, WHOLE, VERBLESS = 90, 1500, 48_000, 4.0
+LINES, PAGE, WHOLE, VERBLESS = 90, 1500, 49_000, 4.0
 LONG = {"MESSAGES.md", "DESCRIPTION.md", "REFUSALS.md", "FORMATS.md", "VIEW_LINES.md", "PROVED.md", "DECISIONS.md", "TIMING.md", "ARCHITECTURE.md", "CONTRIBUTING.md"}
 FORMS = {"pointing back": (BACK, 3.0), "odd verbs": (ODD, 2.0)}
 # Words that end in "s" and begin a comment as nouns.
