@@ -1,4 +1,4 @@
--- The lines of the bytes in a buffer near its greatest excess (docs/VIEW_TOTALS.md).
+-- The lines of the bytes in a buffer near its greatest excess (docs/VIEW_LINES.md).
 use Rattle.std.specs.Prelude.{ℕ, Bool, if◌then◌else◌, List, [], ◌∷◌, ◌++◌, codes, flat_map, Option, Some, None}
 use Rattle.events.specs.declared.rule_event.TracePoint.{TracePoint}
 use Rattle.events.specs.BufferKinds.{word_of}
