@@ -24,7 +24,7 @@ use Rattle.job_text.specs.Fields.{program_numbers, burst_numbers, rest_numbers, 
 use Rattle.job_text.specs.Fields.{leak_numbers, drain_numbers, last_numbers}
 use Rattle.job_text.specs.Documents.{document, elements_of, with_table, with_tables, event_members, event_table, program_coded}
 use Rattle.job_text.specs.Documents.{network_members, network_rest, network_stream_ids, network_stream_table, network_table}
-use Rattle.job_text.specs.Documents.{program_members, program_service, program_table, with_clock, stream_last, stream_drain}
+use Rattle.job_text.specs.Documents.{program_loop, program_members, program_service, program_table, program_type, with_clock, with_status, stream_last, stream_drain}
 use Rattle.job_text.specs.Documents.{stream_place, stream_middle, stream_rest, stream_members, stream_table, table_table}
 use Rattle.job_text.specs.Texts.{event_lines, event_text, framing_if_any, heading_text, network_names, network_own, network_stream_text, network_text}
 use Rattle.job_text.specs.Texts.{network_if_any, program_back, program_clock}
@@ -313,11 +313,23 @@ unfolding key_text
 clock_scalars p more h rest =
     (refl, small p.number h.number, (refl, small p.pcr_limit h.pcr_limit, any_scalars (codes "pcr_pid") p.pcr_pid more refl h.pcr_pid rest))
 
+status_scalars : (p : ProgramPartView) (more : Members) → FitsProgram p → AreScalars more → AreScalars (with_status p more)
+unfolding key_text
+status_scalars p more h rest = any_scalars (codes "running_status") p.running_status more refl h.running_status rest
+
 own_scalars : (o : Option (List ℕ)) (p : ProgramPartView) → FitsProgram p → AreScalars (program_members o p)
 unfolding key_text
-own_scalars None p h =
-    (refl, tt, clock_scalars p (program_service p) h (refl, small p.pmt_pid h.pmt_pid, (refl, tt, (refl, small p.service_type h.service_type, tt))))
-own_scalars (Some bytes) p h = clock_scalars p (program_coded bytes p) h (refl, small p.pmt_pid h.pmt_pid, (refl, tt, tt))
+own_scalars None p h = (
+  refl,
+  tt,
+  clock_scalars p (program_service p) h (
+    refl,
+    small p.pmt_pid h.pmt_pid,
+    (refl, tt, status_scalars p (program_type p) h (refl, small p.service_type h.service_type, tt)),
+  ),
+)
+own_scalars (Some bytes) p h =
+    clock_scalars p (program_coded bytes p) h (refl, small p.pmt_pid h.pmt_pid, status_scalars p (program_loop bytes) h (refl, tt, tt))
 
 program_scalars : (p : ProgramPartView) → FitsProgram p → AreScalars (program_table p)
 program_scalars p h = hex_scalars p.descriptors (program_members p.service_descriptors p) (own_scalars p.service_descriptors p h)
@@ -329,9 +341,24 @@ clock_sorted p more limit pid sorted = rw (
   any_sorted (codes "pcr_pid") p.pcr_pid more pid sorted,
 )
 
+-- A key before a service's status, and before the last key
+status_sorted : (key : List ℕ) (p : ProgramPartView) (more : Members) → is_lt (slice_cmp nat_cmp key (codes "running_status")) ≡ true →
+    is_before key more ≡ true → is_before (codes "running_status") more ≡ true → members_are_sorted more ≡ true →
+    (is_before key (with_status p more) ≡ true) × (members_are_sorted (with_status p more) ≡ true)
+status_sorted key p more first last after sorted = (
+  any_after key (codes "running_status") p.running_status more first last,
+  any_sorted (codes "running_status") p.running_status more after sorted,
+)
+
+service_sorted : (p : ProgramPartView) → members_are_sorted (program_service p) ≡ true
+service_sorted p = let s = status_sorted (codes "provider") p (program_type p) refl refl refl refl in rw (s.0, s.1)
+
+coded_sorted : (bytes : List ℕ) (p : ProgramPartView) → members_are_sorted (program_coded bytes p) ≡ true
+coded_sorted bytes p = let s = status_sorted (codes "pmt_pid") p (program_loop bytes) refl refl refl refl in rw (s.0, s.1)
+
 own_sorted : (o : Option (List ℕ)) (p : ProgramPartView) → members_are_sorted (program_members o p) ≡ true
-own_sorted None p = clock_sorted p (program_service p) refl refl refl
-own_sorted (Some bytes) p = clock_sorted p (program_coded bytes p) refl refl refl
+own_sorted None p = clock_sorted p (program_service p) refl refl (service_sorted p)
+own_sorted (Some bytes) p = clock_sorted p (program_coded bytes p) refl refl (coded_sorted bytes p)
 
 own_first : (o : Option (List ℕ)) (p : ProgramPartView) → is_before (codes "descriptors") (program_members o p) ≡ true
 own_first None p = refl
@@ -345,10 +372,14 @@ own_clock : (p : ProgramPartView) (more : Members) → noted_lines (codes "servi
     ≡ program_clock p ++ noted_lines (codes "service_descriptors") (name_note p.name) more
 own_clock p more = rw (own_any (codes "service_descriptors") (name_note p.name) (codes "pcr_pid") p.pcr_pid more refl) (simp (append_assoc, append-nil))
 
+own_status : (p : ProgramPartView) (more : Members) → noted_lines (codes "service_descriptors") (name_note p.name) (with_status p more)
+    ≡ number_lines (number_if_any (codes "running_status") p.running_status) ++ noted_lines (codes "service_descriptors") (name_note p.name) more
+own_status p more = own_any (codes "service_descriptors") (name_note p.name) (codes "running_status") p.running_status more refl
+
 lines_of_own : (o : Option (List ℕ)) (p : ProgramPartView) → noted_lines (codes "service_descriptors") (name_note p.name) (program_members o p)
     ≡ program_back o p
-lines_of_own None p = rw (own_clock p (program_service p)) (simp append-nil)
-lines_of_own (Some bytes) p = rw (own_clock p (program_coded bytes p)) (simp append-nil)
+lines_of_own None p = rw (own_clock p (program_service p), own_status p (program_type p)) (simp append-nil)
+lines_of_own (Some bytes) p = rw (own_clock p (program_coded bytes p), own_status p (program_loop bytes)) (simp append-nil)
 
 lines_of_program : (p : ProgramPartView) → header (codes "program") ++ noted_lines (codes "service_descriptors") (name_note p.name) (program_table p)
     ≡ program_text p

@@ -46,6 +46,7 @@ pub record ProgramPartView : Type 0 where
   pub pcr_pid : Option ℕ
   pub pcr_limit : ℕ
   pub descriptors : List ℕ
+  pub running_status : Option ℕ
   pub service_type : ℕ
   pub provider : List ℕ
   pub name : List ℕ
@@ -125,6 +126,7 @@ program_view p = record {
   pcr_pid = p.pcr_pid;
   pcr_limit = p.pcr_limit;
   descriptors = p.descriptors.now;
+  running_status = p.running_status;
   service_type = p.service_type;
   provider = p.provider.now;
   name = p.name.now;

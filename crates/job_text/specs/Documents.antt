@@ -66,17 +66,25 @@ network_members n more = with_hex (codes "descriptors") n.descriptors (network_r
 abbrev pub network_table : NetworkPartView → Members
 network_table n = network_members n (with_tables (codes "stream") (map network_stream_table n.streams) no_members)
 
--- for a program: the keys after its clock, with the keys of its service or with all descriptors of its service, and all keys
+-- for a program: its service's status before other keys, the keys after its clock, with the keys of its service or with all descriptors of
+-- its service, and all keys
+abbrev pub with_status : ProgramPartView → Members → Members
+with_status p more = with_numbers (number_if_any (codes "running_status") p.running_status) more
+
+abbrev pub program_type : ProgramPartView → Members
+program_type p = member (codes "service_type") (integer (pos p.service_type)) no_members
+
 abbrev pub program_service : ProgramPartView → Members
 program_service p =
     member (codes "pmt_pid") (integer (pos p.pmt_pid))
     (member (codes "provider") (string p.provider)
-    (member (codes "service_type") (integer (pos p.service_type)) no_members))
+    (with_status p (program_type p)))
+
+abbrev pub program_loop : List ℕ → Members
+program_loop bytes = member (codes "service_descriptors") (string (encode_lower bytes)) no_members
 
 abbrev pub program_coded : List ℕ → ProgramPartView → Members
-program_coded bytes p =
-    member (codes "pmt_pid") (integer (pos p.pmt_pid))
-    (member (codes "service_descriptors") (string (encode_lower bytes)) no_members)
+program_coded bytes p = member (codes "pmt_pid") (integer (pos p.pmt_pid)) (with_status p (program_loop bytes))
 
 abbrev pub with_clock : ProgramPartView → Members → Members
 with_clock p more = with_numbers (program_numbers p) (with_numbers (number_if_any (codes "pcr_pid") p.pcr_pid) more)

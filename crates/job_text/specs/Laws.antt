@@ -50,6 +50,7 @@ pub record FitsProgram (p : ProgramPartView) : Type 0 where
   pub pcr_limit : Fits p.pcr_limit
   pub pcr_pid : IfSome p.pcr_pid Fits
   pub pmt_pid : Fits p.pmt_pid
+  pub running_status : IfSome p.running_status Fits
   pub service_type : Fits p.service_type
 
 -- the numbers of a stream's groups or pace are TOML's

@@ -68,23 +68,26 @@ abbrev pub network_if_any : Option NetworkPartView → List ℕ
 network_if_any None = []
 network_if_any (Some n) = network_text n
 
--- for a program: its first lines, its clock, and the lines after its clock
+-- for a program: its first lines, its clock, its service's status, and the lines after its clock
 abbrev pub program_front : ProgramPartView → List ℕ
 program_front p = header (codes "program") ++ hex_line (codes "descriptors") p.descriptors
 
 abbrev pub program_clock : ProgramPartView → List ℕ
 program_clock p = number_lines (program_numbers p) ++ number_lines (number_if_any (codes "pcr_pid") p.pcr_pid)
 
+abbrev pub program_status : ProgramPartView → List ℕ
+program_status p = number_lines (number_if_any (codes "running_status") p.running_status)
+
 abbrev pub program_service : ProgramPartView → List ℕ
 program_service p =
     number_line (codes "pmt_pid", p.pmt_pid)
-    ++ (key_line (codes "provider") (string p.provider) ++ number_line (codes "service_type", p.service_type))
+    ++ (key_line (codes "provider") (string p.provider) ++ (program_status p ++ number_line (codes "service_type", p.service_type)))
 
 -- its lines with the keys of its service, or with all descriptors of its service
 abbrev pub program_back : Option (List ℕ) → ProgramPartView → List ℕ
 program_back None p = key_line (codes "name") (string p.name) ++ (program_clock p ++ program_service p)
 program_back (Some bytes) p =
-    program_clock p ++ (number_line (codes "pmt_pid", p.pmt_pid) ++ named_line (codes "service_descriptors") bytes p.name)
+    program_clock p ++ (number_line (codes "pmt_pid", p.pmt_pid) ++ (program_status p ++ named_line (codes "service_descriptors") bytes p.name))
 
 -- an element of the array `program`
 abbrev pub program_text : ProgramPartView → List ℕ

@@ -4,7 +4,7 @@ ghost use Rattle.std.specs.Prelude.{◌≡◌, ◌++◌, OnOk, string_bytes};
 ghost use Rattle.job_text.specs.DescriptionParts.{heading_view};
 ghost use Rattle.job_text.specs.Texts.{heading_back, heading_numbers, heading_text};
 
-use crate::key_line::{write_flag, write_number, write_pid, write_set, write_string};
+use crate::key_line::{write_flag, write_if_any, write_number, write_set, write_string};
 use std::alloc::{AllocError, Allocator};
 
 /// The heading of a description: the whole transport stream.
@@ -46,7 +46,7 @@ impl Heading<'_> {
             ++ heading_numbers (heading_view self.now)) }
     {
         write_number(text, "base0", self.base0)?;
-        write_pid(text, "clock_pid", self.clock_pid)?;
+        write_if_any(text, "clock_pid", self.clock_pid)?;
         write_number(text, "original_network_id", self.original_network_id as u64)?;
         write_number(text, "rate", self.rate as u64)
     }

@@ -85,17 +85,18 @@ pub(crate) fn write_numbers<A: Allocator>(
     Ok(())
 }
 
-/// Appends a key with its PID, and no line without a PID.
-pub(crate) fn write_pid<A: Allocator>(
+/// Appends a key with its number, and no line without a number.
+pub(crate) fn write_if_any<A: Allocator>(
     text: &mut String<A>,
     key: &str,
-    pid: Option<u16>,
+    number: Option<u16>,
 ) -> Result<(), AllocError>
-    ensures { OnOk result (string_bytes text.new ≡ string_bytes text.old ++ number_lines (number_if_any key.now pid)) }
+    ensures { OnOk result (string_bytes text.new ≡ string_bytes text.old
+        ++ number_lines (number_if_any key.now number)) }
 {
-    match pid {
+    match number {
         None => Ok(()),
-        Some(pid) => write_number(text, key, pid as u64),
+        Some(number) => write_number(text, key, number as u64),
     }
 }
 

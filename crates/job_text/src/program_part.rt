@@ -5,7 +5,7 @@ ghost use Rattle.job_text.specs.DescriptionParts.{program_view};
 ghost use Rattle.job_text.specs.Texts.{program_back, program_text, program_front, program_clock, program_service};
 
 use crate::key_line::{
-    write_header, write_hex, write_named, write_number, write_pid, write_string,
+    write_header, write_hex, write_if_any, write_named, write_number, write_string,
 };
 use std::alloc::{AllocError, Allocator};
 
@@ -22,6 +22,8 @@ pub struct ProgramPart<'a> {
     pub pcr_limit: u8,
     /// Whole descriptors of the program in its PMT.
     pub descriptors: &'a [u8],
+    /// running_status of its service, if it is not 4 (running).
+    pub running_status: Option<u16>,
     pub service_type: u8,
     pub provider: &'a str,
     pub name: &'a str,
@@ -30,9 +32,9 @@ pub struct ProgramPart<'a> {
 }
 
 impl ProgramPart<'_> {
-    /// Appends an empty line, `[[program]]`, and its lines: every key, but `descriptors` only if there are any, and
-    /// `pcr_pid` only if it has one, and either `service_type`, `provider` and `name`, or `service_descriptors` with the
-    /// name as a comment.
+    /// Appends an empty line, `[[program]]`, and its lines: every key, but `descriptors` only if there are any,
+    /// `pcr_pid` and `running_status` only if it has one, and either `service_type`, `provider` and `name`, or
+    /// `service_descriptors` with the name as a comment.
     pub fn write_text<A: Allocator + Clone>(&self, text: &mut String<A>) -> Result<(), AllocError>
         ensures { OnOk result (string_bytes text.new ≡ string_bytes text.old ++ program_text (program_view self.now)) }
     {
@@ -64,6 +66,7 @@ impl ProgramPart<'_> {
     {
         self.write_clock(text)?;
         write_number(text, "pmt_pid", self.pmt_pid as u64)?;
+        write_if_any(text, "running_status", self.running_status)?;
         write_named(text, "service_descriptors", descriptors, self.name)
     }
 
@@ -81,7 +84,7 @@ impl ProgramPart<'_> {
     {
         write_number(text, "number", self.number as u64)?;
         write_number(text, "pcr_limit", self.pcr_limit as u64)?;
-        write_pid(text, "pcr_pid", self.pcr_pid)
+        write_if_any(text, "pcr_pid", self.pcr_pid)
     }
 
     // Appends the lines after its clock.
@@ -91,6 +94,7 @@ impl ProgramPart<'_> {
     {
         write_number(text, "pmt_pid", self.pmt_pid as u64)?;
         write_string(text, "provider", self.provider)?;
+        write_if_any(text, "running_status", self.running_status)?;
         write_number(text, "service_type", self.service_type as u64)
     }
 }
