@@ -272,13 +272,13 @@ def program_maps(stream, number, pid):
 
 
 def service(stream, number):
-    """service_type, provider and name of the last description of a program, and all of its descriptors."""
+    """service_type, provider and name of the last description of a program, all of its descriptors, and its running_status."""
     last = None
     for _, s in stream.sections(0x11, 0x42):
         for head, inner in loops(s[11:-4], 5) or []:
             if head[0] << 8 | head[1] == number:
                 texts = [t for t in (texts_of(body) for tag, body in descriptors(inner) if tag == 0x48) if t]
-                last = (*texts[0], inner) if texts else last
+                last = (*texts[0], inner, head[3] >> 5) if texts else last
                 if texts:
                     break
     return last

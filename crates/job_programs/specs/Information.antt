@@ -4,6 +4,8 @@ use Rattle.std.specs.Option.{option_or}
 use Rattle.std.specs.List.{list_any}
 use Rattle.pid_findings.specs.Views.{FindingView}
 use Rattle.job_text.specs.DescriptionParts.{EventPartView, NetworkPartView}
+use Rattle.dvb_tables.specs.declared.running_status.RunningStatus.{RunningStatus}
+use Rattle.dvb_tables.specs.declared.running_status.RunningStatus.TheVariants.{Running}
 use Rattle.dvb_tables.specs.TransportStreams.{TransportStreamView}
 use Rattle.ts_services.specs.NetworkInformation.{FoundNetworkView, stream_network}
 use Rattle.ts_services.specs.Networks.{network}
@@ -18,8 +20,9 @@ use Rattle.job_programs.specs.JobOptions.{JobOptionsView}
 use Rattle.job_programs.specs.JobPrograms.{JobProgramView}
 use Rattle.job_programs.specs.OtherStreams.{other_streams}
 
--- a service: the texts that it has, and all of its descriptors if these do not give exactly these
+-- a service: its status, the texts that it has, and all of its descriptors if these do not give exactly these
 pub record NamedServiceView : Type 0 where
+  pub running_status : RunningStatus
   pub service_type : ℕ
   pub provider : List ℕ
   pub name : List ℕ
@@ -86,10 +89,11 @@ network_part options id findings = network_or options.network (stream_network id
 
 -- 3. The service of a program
 
--- the texts with at most 100 bytes each; without a service, a digital television service without a name (EN 300 468,
--- table 87)
+-- its status, and the texts with at most 100 bytes each; without a service, a running digital television service without a name
+-- (EN 300 468, tables 6 and 87)
 unfoldable pub service_by : FoundServiceView → List ℕ → List ℕ → NamedServiceView
 service_by s provider name = record {
+  running_status = s.running_status;
   service_type = s.service_type;
   provider = provider;
   name = name;
@@ -98,11 +102,17 @@ service_by s provider name = record {
 
 unfoldable pub named_service : Option FoundServiceView → NamedServiceView
 named_service (Some s) = service_by s (decode_text 100 s.provider) (decode_text 100 s.name)
-named_service None = record { service_type = 1; provider = []; name = []; descriptors = None }
+named_service None = record { running_status = Running; service_type = 1; provider = []; name = []; descriptors = None }
 
 -- with the name that is given to it, and the provider if that is given too: these texts give its descriptors
 unfoldable pub renamed : ServiceNameView → NamedServiceView → NamedServiceView
-renamed n s = record { service_type = s.service_type; provider = unwrap_or n.provider s.provider; name = n.name; descriptors = None }
+renamed n s = record {
+  running_status = s.running_status;
+  service_type = s.service_type;
+  provider = unwrap_or n.provider s.provider;
+  name = n.name;
+  descriptors = None;
+}
 
 unfoldable pub service_with : Option ServiceNameView → NamedServiceView → NamedServiceView
 service_with None s = s

@@ -9,6 +9,7 @@ ghost use Rattle.job_programs.specs.Information as spec;
 use crate::given_loops::{given_service, is_loop_of, kept_loop};
 use crate::given_names::name_given;
 use crate::job_programs::JobProgram;
+use dvb_tables::RunningStatus;
 use dvb_texts::decode_text;
 use given_values::ServiceName;
 use std::alloc::{AllocError, Global};
@@ -24,9 +25,10 @@ const MOST_BYTES: usize = 1_004;
 /// The type of a service without a service description: digital television (EN 300 468, table 87).
 const TELEVISION: u8 = 1;
 
-/// A service, its texts as characters, and all of its descriptors if these texts do not give exactly these.
+/// A service: its status, its texts as characters, and all of its descriptors if these texts do not give exactly these.
 #[derive(Drop)]
 pub struct NamedService {
+    pub running_status: RunningStatus,
     pub service_type: u8,
     pub provider: String,
     pub name: String,
@@ -41,6 +43,7 @@ impl Model for NamedService {
     ghost Value = { NamedServiceView };
 
     ghost view = { λ s. record {
+      running_status = s.running_status;
       service_type = s.service_type;
       provider = string_bytes s.provider;
       name = string_bytes s.name;
@@ -110,6 +113,7 @@ fn service_found(alloc: Global, service: FoundService<'_>) -> Result<NamedServic
     let name = decode_text(alloc, service.name, LONGEST_NAME)?;
     let given = given_service(service.service_type, &provider, &name);
     Ok(NamedService {
+        running_status: service.running_status,
         service_type: service.service_type,
         provider,
         name,
@@ -128,6 +132,7 @@ fn named_service(
     match service {
         Some(service) => service_found(alloc, service),
         None => Ok(NamedService {
+            running_status: RunningStatus::Running,
             service_type: TELEVISION,
             provider: String::new(alloc),
             name: String::new(alloc),
@@ -158,6 +163,7 @@ fn renamed(
     let name = copied(alloc, given.name)?;
     match provider {
         Some(provider) => Ok(NamedService {
+            running_status: service.running_status,
             service_type: service.service_type,
             provider: copied(alloc, provider)?,
             name,

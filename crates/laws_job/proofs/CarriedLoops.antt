@@ -22,7 +22,7 @@ use Rattle.job_programs.specs.Events.{event_by, event_loop, event_part, event_wi
 use Rattle.job_programs.specs.GivenLoops.{can_be_kept, given_event, given_network, given_service, is_loop, kept_loop}
 use Rattle.job_programs.specs.GivenNames.{name_given}
 use Rattle.job_programs.specs.Information.{JobInformationView, information_of, named_service, network_loop, network_or, network_with, service_by, service_for}
-use Rattle.job_programs.specs.Information.{service_loop, service_with}
+use Rattle.job_programs.specs.Information.{renamed, service_loop, service_with}
 use Rattle.job_programs.specs.JobPrograms.{JobProgramView}
 use Rattle.job_programs.specs.OtherStreams.{other_streams}
 use Rattle.job_inputs.proofs.MovedInputs.{moved_of}
@@ -50,6 +50,12 @@ service_carried : (names : List ServiceNameView) (findings : List FindingView) (
 unfolding service_with named_service service_by
 service_carried names findings q s unnamed is can =
     rw (unnamed, is) (kept_is 1004 (given_service s.service_type (decode_text 100 s.provider) (decode_text 100 s.name)) s.descriptors can)
+
+status_with : (given : Option ServiceNameView) (found : Option FoundServiceView) (s : FoundServiceView) → found ≡ Some s →
+    (service_with given (named_service found)).running_status ≡ s.running_status
+unfolding service_with renamed named_service service_by
+status_with None found s is = rw is refl
+status_with (Some n) found s is = rw is refl
 
 -- 3. Events: each that is found can be said
 
@@ -207,13 +213,17 @@ loops_carried options count findings input by d is agree =
     let loops = agree.loops in
     record {
       id = from.id;
-      services = λ k p q s here there unnamed found can. (
+      services = λ k p q s here there found. (
           let part = service_for options.names findings q in
           let at : slice_get input.information.services k ≡ Some part =
           ap (λ (x : JobInformationView). slice_get x.services k) from.information_is
           ∙ slice_get-map (service_for options.names findings) input.programs k ∙ ap (option_map (service_for options.names findings)) there in
-          some_same p.service_descriptors s.descriptors
-          (sym (loops.services k p part here at) ∙ service_carried options.names findings q s unnamed found can));
+          let same = loops.services k p part here at in
+          record {
+            status = same.status ∙ status_with (name_given q.number options.names) (service q.number findings) s found;
+            descriptors = λ unnamed can. some_same p.service_descriptors s.descriptors
+                (sym same.descriptors ∙ service_carried options.names findings q s unnamed found can);
+          });
       events = λ k p here. (
           let all = job_events findings input.programs in
           let same : map event_loop (events_of p.number (map event_part all)) ≡ map (λ e. Some e.descriptors) p.events =

@@ -3,9 +3,11 @@ use Rattle.std.specs.Prelude.{◌≡◌, ℕ, ◌==◌, true, List, map, filter,
 use Rattle.pid_findings.specs.Views.{FindingView}
 use Rattle.ts_services.specs.NetworkInformation.{FoundNetworkView, stream_network}
 use Rattle.ts_services.specs.Services.{FoundServiceView, service}
+use Rattle.dvb_tables.specs.RunningStates.{status_of}
 use Rattle.dvb_tables.specs.TransportStreams.{TransportStreamView}
 use Rattle.description_parts.specs.Described.{Described, DescribedNetwork, DescribedProgram, network_stream_view}
 use Rattle.given_values.specs.declared.clock_sharing.ClockSharing.{ClockSharing}
+use Rattle.given_values.specs.GivenNames.{ServiceNameView}
 use Rattle.job_programs.specs.Events.{job_events}
 use Rattle.job_programs.specs.GivenLoops.{can_be_kept}
 use Rattle.job_programs.specs.GivenNames.{name_given}
@@ -21,13 +23,17 @@ pub record NetworkCarried (a : DescribedNetwork) (n : FoundNetworkView) (others 
   pub stream : a.descriptors ≡ n.descriptors
   pub streams : map network_stream_view a.streams ≡ others
 
+-- the status of a service is that of its last description (EN 300 468, table 6), also if an option names it; it has the descriptors of that
+-- description, if no option names it, and a description can have them: whole, and at most 1,004 bytes
+pub record ServiceCarried (p : DescribedProgram) (s : FoundServiceView) (given : Option ServiceNameView) : Type 0 where
+  pub status : status_of p.running_status ≡ s.running_status
+  pub descriptors : given ≡ None → can_be_kept 1004 s.descriptors ≡ true → p.service_descriptors ≡ s.descriptors
+
 -- of a stream with this transport_stream_id and these programs
 pub record LoopsCarried (options : JobOptionsView) (findings : List FindingView) (programs : List JobProgramView) (d : Described) : Type 0 where
   pub id : ℕ
-  -- a service that no option names has the descriptors of its last description, if a description can have them: whole, and at most 1,004 bytes
   pub services : (k : ℕ) (p : DescribedProgram) (q : JobProgramView) (s : FoundServiceView) → slice_get d.programs k ≡ Some p →
-      slice_get programs k ≡ Some q → name_given q.number options.names ≡ None → service q.number findings ≡ Some s →
-      can_be_kept 1004 s.descriptors ≡ true → p.service_descriptors ≡ s.descriptors
+      slice_get programs k ≡ Some q → service q.number findings ≡ Some s → ServiceCarried p s (name_given q.number options.names)
   -- each program has its events that were found, in order, each with its descriptors
   pub events : (k : ℕ) (p : DescribedProgram) → slice_get d.programs k ≡ Some p →
       map (λ e. e.descriptors) p.events ≡ map (λ e. e.descriptors) (filter (λ e. e.program == p.number) (job_events findings programs))

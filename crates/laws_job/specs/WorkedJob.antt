@@ -1,5 +1,6 @@
 -- A small stream from which a job is made, and the input of this job: so the laws of jobs are of something.
 use Rattle.std.specs.Prelude.{◌≡◌, ℕ, false, true, List, [], ◌∷◌, ◌++◌, replicate, None, Some, Ok, codes}
+use Rattle.dvb_tables.specs.declared.running_status.RunningStatus.TheVariants.{Running}
 use Rattle.pes_packet.specs.AccessUnits.{AccessUnit}
 use Rattle.pes_packet.specs.Marks.{no_flags, no_marks}
 use Rattle.pes_packet.specs.declared.reading.PesHeader.{PesHeader}
@@ -90,7 +91,7 @@ worked_information = record {
   sdt = false;
   network = None;
   events = [];
-  services = record { service_type = 1; provider = []; name = []; descriptors = None } ∷ [];
+  services = record { running_status = Running; service_type = 1; provider = []; name = []; descriptors = None } ∷ [];
 }
 
 -- program 1, its map and its clock references on the PIDs that they have in the stream

@@ -58,8 +58,8 @@ pub fn found_again()
     slot_plan::timing_laws::accepted_plan();
 }
 
-/// States that a job's description has the descriptors that the input's SDT, EIT and NIT have of services, events and
-/// the network, loop for loop, and the other transport streams of that network.
+/// States that a job's description has the status of the input's services, the descriptors that its SDT, EIT and NIT
+/// have of services, events and the network, loop for loop, and the other transport streams of that network.
 pub fn loops()
     ensures { LoopsCarriedLaw }
 {}

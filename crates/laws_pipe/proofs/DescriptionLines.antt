@@ -20,7 +20,7 @@ use Rattle.job_text.specs.Notes.{is_named, is_shown, name_note, note_of, type_no
 use Rattle.job_text.proofs.NoteLines.{notes_are_shown}
 use Rattle.job_text.specs.Texts.{event_lines, event_names, event_numbers, event_place, event_text, framing_if_any, framing_text, heading_back, heading_numbers}
 use Rattle.job_text.specs.Texts.{heading_text, network_if_any, network_names, network_own, network_stream_front, network_stream_text}
-use Rattle.job_text.specs.Texts.{program_back, program_clock, program_front, program_service, program_text}
+use Rattle.job_text.specs.Texts.{program_back, program_clock, program_front, program_service, program_status, program_text}
 use Rattle.job_text.specs.Texts.{stream_end, stream_front, stream_place, stream_text, stream_times, table_back, table_front, table_text, type_line}
 use Rattle.ts_services.specs.NetworkInformation.{stream_network}
 use Rattle.ts_services.specs.Services.{service}
@@ -212,15 +212,21 @@ clock_passes p =
     both_pass (number_lines (program_numbers p)) (number_lines (number_if_any (codes "pcr_pid") p.pcr_pid)) numbers
     (any_passes (codes "pcr_pid") p.pcr_pid (λ rest. refl) refl)
 
+status_passes : (p : ProgramPartView) → Passes (program_status p)
+status_passes p = any_passes (codes "running_status") p.running_status (λ rest. refl) refl
+
 back_passes : (o : Option (List ℕ)) (p : ProgramPartView) → is_flat p.name ≡ true → is_flat p.provider ≡ true → Passes (program_back o p)
 back_passes (Some bytes) p name provider =
-    let last = both_pass (number_line (codes "pmt_pid", p.pmt_pid)) (named_line (codes "service_descriptors") bytes p.name)
-    (number_passes (codes "pmt_pid") p.pmt_pid (λ rest. refl) refl) (named_passes (codes "service_descriptors") bytes p.name (λ rest. refl) refl) in
+    let loop = both_pass (program_status p) (named_line (codes "service_descriptors") bytes p.name) (status_passes p)
+    (named_passes (codes "service_descriptors") bytes p.name (λ rest. refl) refl) in
+    let last = both_pass (number_line (codes "pmt_pid", p.pmt_pid)) (program_status p ++ named_line (codes "service_descriptors") bytes p.name)
+    (number_passes (codes "pmt_pid") p.pmt_pid (λ rest. refl) refl) loop in
     both_pass (program_clock p) _ (clock_passes p) last
 back_passes None p name provider =
-    let kind = number_passes (codes "service_type") p.service_type (λ rest. refl) refl in
+    let kind = both_pass (program_status p) (number_line (codes "service_type", p.service_type)) (status_passes p)
+    (number_passes (codes "service_type") p.service_type (λ rest. refl) refl) in
     let texts =
-    both_pass (key_line (codes "provider") (string p.provider)) (number_line (codes "service_type", p.service_type))
+    both_pass (key_line (codes "provider") (string p.provider)) (program_status p ++ number_line (codes "service_type", p.service_type))
     (text_passes (codes "provider") p.provider (λ rest. refl) refl provider) kind in
     let services = both_pass (number_line (codes "pmt_pid", p.pmt_pid)) _ (number_passes (codes "pmt_pid") p.pmt_pid (λ rest. refl) refl) texts in
     both_pass (key_line (codes "name") (string p.name)) (program_clock p ++ program_service p) (text_passes (codes "name") p.name (λ rest. refl) refl name)

@@ -2,7 +2,10 @@
 use Rattle.std.proofs.Common.{◌≡◌, ℕ, zero, suc, ◌==◌, true, false, Option, Some, None, List, [], ◌∷◌, length, map, slice_get, sym, refl, ap, ap₂, subst, ◌∙◌, inl, inr, arith}
 use Rattle.std.proofs.lemmas.Bool.{and_parts, cases_Bool, cond_both, eqb-true, false≢true}
 use Rattle.std.proofs.lemmas.Bool.Decides.{nat_tests}
+use Rattle.dvb_tables.proofs.Heads.{status_again}
+use Rattle.dvb_tables.specs.RunningStates.{status_code, status_of}
 use Rattle.dvb_tables.specs.TransportStreams.{TransportStreamView}
+use Rattle.dvb_tables.specs.declared.running_status.RunningStatus.{RunningStatus}
 use Rattle.description_parts.specs.Described.{Described, DescribedEvent, DescribedNetwork, DescribedProgram, network_stream_view}
 use Rattle.description_parts.specs.declared.network_stream.NetworkStream.{NetworkStream}
 use Rattle.job_text.specs.DescriptionParts.{EventPartView, NetworkPartView}
@@ -10,8 +13,8 @@ use Rattle.job_programs.specs.Events.{event_loop}
 use Rattle.job_programs.specs.GivenLoops.{is_loop}
 use Rattle.job_programs.specs.Information.{JobInformationView, NamedServiceView, network_loop, service_loop}
 use Rattle.job_programs.specs.OtherStreams.{is_same_stream}
-use Rattle.stream_jobs.specs.CarriedLoops.{HasLoops, NetworkIs, after_event, are_events, are_from, are_services, events_of, has_loops, have_events, is_event}
-use Rattle.stream_jobs.specs.CarriedLoops.{are_streams, is_network, past_event}
+use Rattle.stream_jobs.specs.CarriedLoops.{HasLoops, NetworkIs, ServiceIs, after_event, are_events, are_from, are_services, events_of, has_loops, have_events}
+use Rattle.stream_jobs.specs.CarriedLoops.{are_streams, is_event, is_network, is_service, past_event}
 use Rattle.stream_jobs.proofs.Agreement.{same_bytes, some_same}
 
 pub loop_is : (descriptors : List ℕ) (o : Option (List ℕ)) → is_loop descriptors o ≡ true → o ≡ Some descriptors
@@ -19,16 +22,27 @@ unfolding is_loop
 loop_is descriptors None e = absurd cc
 loop_is descriptors (Some given) e = ap Some (sym (same_bytes descriptors given e))
 
+same_status : (a b : RunningStatus) → status_code a ≡ status_code b → a ≡ b
+same_status a b is = sym (status_again a) ∙ ap status_of is ∙ status_again b
+
+service_is : (p : DescribedProgram) (s : NamedServiceView) → is_service p s ≡ true → ServiceIs p s
+unfolding is_service
+service_is p s h =
+    let all = and_parts _ _ h in
+    record {
+      status = same_status (status_of p.running_status) s.running_status (eqb-true _ _ all.0);
+      descriptors = loop_is p.service_descriptors (service_loop s) all.1;
+    }
+
 services_are : (ps : List DescribedProgram) (ss : List NamedServiceView) → are_services ps ss ≡ true →
-    (k : ℕ) (p : DescribedProgram) (s : NamedServiceView) → slice_get ps k ≡ Some p → slice_get ss k ≡ Some s → service_loop s ≡ Some p.service_descriptors
+    (k : ℕ) (p : DescribedProgram) (s : NamedServiceView) → slice_get ps k ≡ Some p → slice_get ss k ≡ Some s → ServiceIs p s
 unfolding are_services
 services_are [] ss e k p s here there = absurd cc
 services_are (x ∷ ps) [] e k p s here there = absurd cc
 services_are (x ∷ ps) (y ∷ ss) e zero p s here there =
-    rw (sym (some_same x p here), sym (some_same y s there))
-    (loop_is x.service_descriptors (service_loop y) (and_parts (is_loop x.service_descriptors (service_loop y)) (are_services ps ss) e).0)
+    rw (sym (some_same x p here), sym (some_same y s there)) (service_is x y (and_parts (is_service x y) (are_services ps ss) e).0)
 services_are (x ∷ ps) (y ∷ ss) e (suc k) p s here there =
-    services_are ps ss (and_parts (is_loop x.service_descriptors (service_loop y)) (are_services ps ss) e).1 k p s here there
+    services_are ps ss (and_parts (is_service x y) (are_services ps ss) e).1 k p s here there
 
 -- The loops of a program's events, and of the declared ones
 abbrev SameLoops : ℕ → List DescribedEvent → List EventPartView → Type 0

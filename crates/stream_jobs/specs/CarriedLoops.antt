@@ -1,6 +1,7 @@
--- Whether a description has the descriptors of services, events and the network that an input has.
+-- Whether a description has the status of services, and the descriptors of services, events and the network, that an input has.
 use Rattle.std.specs.Prelude.{◌≡◌, ℕ, ◌==◌, ◌&&◌, Bool, true, false, if◌then◌else◌, List, [], ◌∷◌, length, map, filter, slice_get, Option, Some, None}
 use Rattle.std.specs.Str.{bytes_eq}
+use Rattle.dvb_tables.specs.RunningStates.{status_code, status_of}
 use Rattle.dvb_tables.specs.TransportStreams.{TransportStreamView}
 use Rattle.description_parts.specs.Described.{Described, DescribedEvent, DescribedNetwork, DescribedProgram, network_stream_view}
 use Rattle.description_parts.specs.declared.network_stream.NetworkStream.{NetworkStream}
@@ -12,8 +13,11 @@ use Rattle.job_programs.specs.OtherStreams.{is_same_stream}
 
 -- 1. Services: of the programs, in their order
 
+unfoldable pub is_service : DescribedProgram → NamedServiceView → Bool
+is_service p s = status_code (status_of p.running_status) == status_code s.running_status && is_loop p.service_descriptors (service_loop s)
+
 unfoldable pub are_services : List DescribedProgram → List NamedServiceView → Bool
-are_services (p ∷ ps) (s ∷ ss) = is_loop p.service_descriptors (service_loop s) && are_services ps ss
+are_services (p ∷ ps) (s ∷ ss) = is_service p s && are_services ps ss
 are_services _ _ = true
 
 -- 2. Events: those of a program, in their order
@@ -76,8 +80,12 @@ pub record NetworkIs (d : DescribedNetwork) (n : NetworkPartView) : Type 0 where
   pub stream : d.descriptors ≡ n.descriptors
   pub others : map network_stream_view d.streams ≡ n.streams
 
+pub record ServiceIs (p : DescribedProgram) (s : NamedServiceView) : Type 0 where
+  pub status : status_of p.running_status ≡ s.running_status
+  pub descriptors : service_loop s ≡ Some p.service_descriptors
+
 pub record HasLoops (d : Described) (i : JobInformationView) : Type 0 where
   pub services : (k : ℕ) (p : DescribedProgram) (s : NamedServiceView) → slice_get d.programs k ≡ Some p → slice_get i.services k ≡ Some s →
-      service_loop s ≡ Some p.service_descriptors
+      ServiceIs p s
   pub events : (k : ℕ) (p : DescribedProgram) → slice_get d.programs k ≡ Some p → map event_loop (events_of p.number i.events) ≡ map (λ e. Some e.descriptors) p.events
   pub network : (a : DescribedNetwork) (n : NetworkPartView) → d.network ≡ Some a → i.network ≡ Some n → NetworkIs a n

@@ -1,5 +1,7 @@
 -- The description of a job as text.
-use Rattle.std.specs.Prelude.{ℕ, ◌-◌, ◌^◌, min, List, ◌++◌, flat_map, length, take, zip, option_map}
+use Rattle.std.specs.Prelude.{ℕ, ◌-◌, ◌^◌, ◌==◌, min, if◌then◌else◌, List, ◌++◌, flat_map, length, take, zip, Option, Some, None, option_map}
+use Rattle.dvb_tables.specs.RunningStates.{status_code}
+use Rattle.dvb_tables.specs.declared.running_status.RunningStatus.{RunningStatus}
 use Rattle.job_text.specs.DescriptionParts.{FramingPartView, HeadingView, ProgramPartView, StreamPartView}
 use Rattle.job_text.specs.Texts.{heading_text, network_if_any, program_text, stream_text}
 use Rattle.job_programs.specs.Information.{NamedServiceView}
@@ -31,7 +33,10 @@ heading_of pids input rate = record {
   clock_pid = shared_clock pids;
 }
 
--- 2. Programs, each with its service
+-- 2. Programs, each with its service; its status, if it is not 4 (running), which a description says without the key
+
+abbrev pub said_status : RunningStatus → Option ℕ
+said_status s = if status_code s == 4 then None else Some (status_code s)
 
 unfoldable pub program_with : ℕ → List ℕ → JobProgramView → NamedServiceView → ProgramPartView
 program_with pcr_limit pids p s = record {
@@ -40,6 +45,7 @@ program_with pcr_limit pids p s = record {
   pcr_pid = own_clock pids p;
   pcr_limit = pcr_limit;
   descriptors = p.descriptors;
+  running_status = said_status s.running_status;
   service_type = s.service_type;
   provider = s.provider;
   name = s.name;

@@ -23,6 +23,9 @@ use job_units::{StreamChoice, UnitCounts};
 use std::alloc::{AllocError, Global};
 use stream_choice::FrameCounts;
 
+/// running_status of a program without the key `running_status`: running (EN 300 468, table 6).
+const RUNNING: u8 = 4;
+
 /// All that the description of a job says but for its rate.
 #[derive(Clone, Copy)]
 pub(crate) struct DescriptionDraft<'a> {
@@ -85,6 +88,18 @@ impl<'a> DescriptionDraft<'a> {
     }
 }
 
+// Returns running_status of a service, if a description has to say it: if it is not 4.
+fn said_status(service: &NamedService) -> Option<u16>
+    ensures { result ≡ spec.said_status service.now.running_status }
+{
+    let code = service.running_status.code();
+    if code == RUNNING {
+        None
+    } else {
+        Some(code as u16)
+    }
+}
+
 // Appends the lines of a program and its service; `pids` are of programs that share a clock.
 #[tactic(auto, unfolding(crate::specs::Texts::program_with))]
 fn write_program(
@@ -103,6 +118,7 @@ fn write_program(
         pcr_pid: own_clock(pids, program),
         pcr_limit,
         descriptors: &program.descriptors,
+        running_status: said_status(service),
         service_type: service.service_type,
         provider: &service.provider,
         name: &service.name,

@@ -1,4 +1,4 @@
-//! Whether a description has the descriptors of services, events and the network that an input has.
+//! Whether a description has the services, and the descriptors of services, events and the network, that an input has.
 
 ghost use Rattle.std.specs.Prelude.{◌≡◌, IsTrue, option_map};
 ghost use Rattle.description_parts.specs.Described.{network_stream_view};
@@ -11,7 +11,16 @@ use description_parts::{EventDescription, Network, NetworkStream, ProgramDescrip
 use job_programs::{JobEvent, JobInformation, JobNetwork, NamedService};
 use job_text::NetworkStreamPart;
 
-// Returns whether the services of programs have the declared descriptors.
+// Returns whether a service has the declared status and descriptors.
+#[tactic(auto, unfolding(crate::specs::CarriedLoops::is_service))]
+fn is_service(declared: &ProgramDescription, service: &NamedService) -> bool
+    ensures { result ≡ spec.is_service declared.now service.now }
+{
+    declared.running_status().code() == service.running_status.code()
+        && service.has_loop(declared.service_descriptors())
+}
+
+// Returns whether the services of programs are the declared ones.
 #[tactic(auto, unfolding(crate::specs::CarriedLoops::are_services))]
 fn are_services(declared: &[ProgramDescription], services: &[NamedService]) -> bool
     ensures { result ≡ spec.are_services declared.now services.now }
@@ -22,7 +31,7 @@ fn are_services(declared: &[ProgramDescription], services: &[NamedService]) -> b
         let Some((service, later)) = rest.split_first() else {
             return true;
         };
-        if !service.has_loop(one.service_descriptors()) {
+        if !is_service(one, service) {
             return false;
         }
         ones = later_ones;
@@ -176,7 +185,8 @@ fn has_all(description: &Description, information: &JobInformation) -> bool
             && is_network(description.network(), &information.network))
 }
 
-/// Returns whether a description has the descriptors of services, events and the network that an input has.
+/// Returns whether a description has the status of services, and the descriptors of services, events and the network,
+/// that an input has.
 #[tactic(auto, using(crate::proofs::LoopAgreement::loops_are))]
 pub(crate) fn has_loops(description: &Description, information: &JobInformation) -> bool
     ensures value { result ≡ spec.has_loops description.now information.now }
