@@ -128,6 +128,8 @@ def options(program):
         found[None] = []
     if not any(one.name == "version" for one in found.get(None, [])):
         found[None].append(Option(("version", "Alone", "", "", "", "", "alone: the version, and the logic of its proof")))
+    if program == "tsmux":
+        found[None].append(Option(("help", "Alone", "", "", "", "", "or -h, alone: this text, on standard error, with status 2")))
     return found
 
 

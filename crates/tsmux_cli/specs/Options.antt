@@ -64,20 +64,34 @@ known_after (w ∷ words) = begun_with (named w)
 abbrev pub subcommand_names : List Text
 subcommand_names = codes "carry" ∷ codes "plan" ∷ codes "demux" ∷ codes "check" ∷ codes "mux" ∷ codes "monitor" ∷ []
 
+-- it asks for nothing that the program does
+abbrev pub alone_names : List Text
+alone_names = codes "-V" ∷ []
+
 -- the options of the subcommand, or nothing
 abbrev pub known_words : FirstWord → CommandLine
-known_words first = known_by (options_of first) subcommand_names [] (required_of first)
+known_words first = known_by (options_of first) subcommand_names alone_names (required_of first)
 
 -- 3. The usage
 
--- a line for each subcommand, with its options
+-- a line for each subcommand, with its options, and a line for what it does
 abbrev pub usage_text : List ℕ
 usage_text = concat
     (codes "usage: tsmux carry" ∷ inline_by None carry_options ∷ codes " < RECORDS > PACKETS\n"
+    ∷ codes "           packets of one PID, from the records of stream 0; --hex: as hexadecimal digits\n"
     ∷ codes "       tsmux plan < DESCRIPTION > PLAN\n"
+    ∷ codes "           a plan for a service description\n"
     ∷ codes "       tsmux demux < PACKETS > FINDINGS\n"
+    ∷ codes "           a line for each PES packet, section and fault\n"
     ∷ codes "       tsmux check" ∷ inline_by None check_options ∷ codes " < JOB\n"
+    ∷ codes "           whether the plan of a job keeps every condition; --switch: a second plan after it, too\n"
     ∷ codes "       tsmux mux" ∷ inline_by None mux_options ∷ codes " < JOB > PACKETS\n"
+    ∷ codes "           the packets of a job, or N of them; --switch: Q periods of the first plan, then the second\n"
     ∷ codes "       tsmux monitor" ∷ inline_by required_rate monitor_options ∷ codes " < PACKETS > REPORT\n"
+    ∷ codes "           a report by fifteen rules; --rate: in bits/s; --pcr: greatest time between PCRs, in ms; else 40\n"
     ∷ codes "       tsmux --version\n"
-    ∷ codes "with no words: tsmux carry --hex\n" ∷ [])
+    ∷ codes "       tsmux --help\n"
+    ∷ codes "with no words: tsmux carry --hex\n"
+    ∷ codes "a job is a description, its plan and records: cat DESCRIPTION PLAN RECORDS | tsmux mux > PACKETS\n"
+    ∷ codes "an example: tsjob --whole in.ts | tsmux mux > out.ts\n"
+    ∷ codes "tsjob makes jobs of any stream, tsremux is both in one step, tsair runs without end, tsview looks at buffers\n" ∷ [])

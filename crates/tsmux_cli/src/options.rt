@@ -112,16 +112,26 @@ pub(crate) const MONITOR: [OptionRow; 2] = [
     },
 ];
 
-/// The usage, written to the second writer on a usage error: the options of each table in the line of its subcommand.
+/// The usage, written to the second writer: the options of each table in the line of its subcommand, and what it does.
 const USAGE: &str =
     "usage: tsmux carry [--hex] [--pid 32..8190] [--id 189|192..239] < RECORDS > PACKETS
+           packets of one PID, from the records of stream 0; --hex: as hexadecimal digits
        tsmux plan < DESCRIPTION > PLAN
+           a plan for a service description
        tsmux demux < PACKETS > FINDINGS
+           a line for each PES packet, section and fault
        tsmux check [--switch] < JOB
+           whether the plan of a job keeps every condition; --switch: a second plan after it, too
        tsmux mux [--hex] [--slots N] [--switch Q] < JOB > PACKETS
+           the packets of a job, or N of them; --switch: Q periods of the first plan, then the second
        tsmux monitor --rate 100000..100000000 [--pcr 1..100] < PACKETS > REPORT
+           a report by fifteen rules; --rate: in bits/s; --pcr: greatest time between PCRs, in ms; else 40
        tsmux --version
+       tsmux --help
 with no words: tsmux carry --hex
+a job is a description, its plan and records: cat DESCRIPTION PLAN RECORDS | tsmux mux > PACKETS
+an example: tsjob --whole in.ts | tsmux mux > out.ts
+tsjob makes jobs of any stream, tsremux is both in one step, tsair runs without end, tsview looks at buffers
 ";
 
 /// Returns the usage.
@@ -201,7 +211,7 @@ fn known_words(first: FirstWord) -> KnownWords
         options: options_of(first),
         words: &["carry", "plan", "demux", "check", "mux", "monitor"],
         names: false,
-        alone: &[],
+        alone: &["-V"],
         required: required_of(first),
         barred: None,
     }

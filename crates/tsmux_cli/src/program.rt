@@ -12,7 +12,7 @@ ghost use Rattle.devices.specs.Lines.{Reports};
 ghost use Rattle.devices.specs.Usage.{ReportsUsage};
 ghost use Rattle.tsmux_cli.specs.Options.{known_after, known_words, usage_text};
 ghost use Rattle.tsmux_cli.specs.Request.{asked};
-ghost use Rattle.word_faults.specs.UsageReport.{Prints, is_version, usage_report, version_text};
+ghost use Rattle.word_faults.specs.UsageReport.{Prints, is_version, unreadable_text, usage_report, version_text};
 ghost use Rattle.tsmux_cli.specs.declared.request.CarryOptions.{CarryOptions};
 ghost use Rattle.tsmux_cli.specs.declared.request.MonitorOptions.{MonitorOptions};
 ghost use Rattle.checked_jobs.specs.declared.multiplexing.MuxOptions.{MuxOptions};
@@ -31,12 +31,12 @@ use devices::{Halt, report_halt, report_text};
 use std::alloc::Global;
 use word_faults::answer_other_words;
 
-/// Writes the usage, and returns the status.
+/// Writes that a word is not UTF-8 and how to ask for the usage, and returns the status.
 pub fn report_usage<E: Sink>(faults: &mut E) -> u8
-    ensures reports { Reports (writes E.Sink faults.old faults.new) usage_text }
+    ensures reports { Reports (writes E.Sink faults.old faults.new) (unreadable_text (codes "tsmux")) }
     ensures status { result ≡ 2 }
 {
-    report_text(faults, usage());
+    report_text(faults, "a word is not UTF-8\nusage: tsmux --help\n");
     2
 }
 
@@ -80,10 +80,10 @@ pub fn run<R: Source, W: Sink, E: Sink>(
     ensures version { asked words.now ≡ None → is_version (map (λ s. s.now) words.now) ≡ true →
         Prints (version_text (codes "tsmux")) (reads R.Source input.old input.new)
         (writes W.Sink output.old output.new) (writes E.Sink faults.old faults.new) result }
-    // Anything else: the first word that cannot be taken, and the usage.
+    // Anything else: the first word that cannot be taken, and how to ask for the usage, or the usage.
     ensures usage { asked words.now ≡ None → is_version (map (λ s. s.now) words.now) ≡ false →
-        ReportsUsage (usage_report (known_words (known_after (map (λ s. s.now) words.now))) (map (λ s. s.now) words.now)
-        usage_text) (reads R.Source input.old input.new) (writes W.Sink output.old output.new)
+        ReportsUsage (usage_report (codes "tsmux") (known_words (known_after (map (λ s. s.now) words.now)))
+        (map (λ s. s.now) words.now) usage_text) (reads R.Source input.old input.new) (writes W.Sink output.old output.new)
         (writes E.Sink faults.old faults.new) result
         ⊎ LacksMemory (reads R.Source input.old input.new) (writes W.Sink output.old output.new)
         (writes E.Sink faults.old faults.new) result }

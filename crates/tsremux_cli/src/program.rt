@@ -7,7 +7,7 @@ ghost use Rattle.tsjob_cli.specs.Command.{outputs_of};
 ghost use Rattle.tsremux_cli.specs.Options.{usage_text};
 ghost use Rattle.tsremux_cli.specs.Program as spec;
 ghost use Rattle.tsremux_cli.specs.Words.{are_taken, known_for, sorted_words};
-ghost use Rattle.word_faults.specs.UsageReport.{AnswersWords};
+ghost use Rattle.word_faults.specs.UsageReport.{AnswersWords, unreadable_text};
 
 use crate::options::usage;
 use crate::outputs::{remux_to_file, remux_to_output};
@@ -18,12 +18,12 @@ use std::alloc::Global;
 use tsjob_cli::output_file;
 use word_faults::answer_words;
 
-/// Writes the usage, and returns the status.
+/// Writes that a word is not UTF-8 and how to ask for the usage, and returns the status.
 pub fn report_usage<E: Sink>(faults: &mut E) -> u8
-    ensures reports { Reports (writes E.Sink faults.old faults.new) usage_text }
+    ensures reports { Reports (writes E.Sink faults.old faults.new) (unreadable_text (codes "tsremux")) }
     ensures status { result ≡ 2 }
 {
-    report_text(faults, usage());
+    report_text(faults, "a word is not UTF-8\nusage: tsremux --help\n");
     2
 }
 

@@ -14,7 +14,7 @@ ghost use Rattle.tsview_cli.specs.NamedStream.{OfFile};
 ghost use Rattle.tsview_cli.specs.Options.{known_words, usage_text};
 ghost use Rattle.tsview_cli.specs.PlanDrawing.{DrawsPlan, is_plan};
 ghost use Rattle.tsview_cli.specs.Viewing.{Concludes, Views};
-ghost use Rattle.word_faults.specs.UsageReport.{AnswersWords};
+ghost use Rattle.word_faults.specs.UsageReport.{AnswersWords, unreadable_text};
 
 use crate::arguments::read_arguments;
 use crate::drawing::draw_stream;
@@ -29,12 +29,12 @@ use std::alloc::Global;
 use ts_report::ViewRequest;
 use word_faults::answer_words;
 
-/// Writes the usage, and returns the status.
+/// Writes that a word is not UTF-8 and how to ask for the usage, and returns the status.
 pub fn report_usage<E: Sink>(faults: &mut E) -> u8
-    ensures reports { Reports (writes E.Sink faults.old faults.new) usage_text }
+    ensures reports { Reports (writes E.Sink faults.old faults.new) (unreadable_text (codes "tsview")) }
     ensures status { result ≡ 2 }
 {
-    report_text(faults, usage());
+    report_text(faults, "a word is not UTF-8\nusage: tsview --help\n");
     2
 }
 

@@ -4,21 +4,21 @@ use Rattle.devices.specs.Devices.{Device}
 use Rattle.devices.specs.Runs.{LacksMemory}
 use Rattle.devices.specs.Usage.{ReportsUsage}
 use Rattle.word_faults.specs.CommandLine.{CommandLine, Text}
-use Rattle.word_faults.specs.UsageReport.{AnswersWords, Prints, asks_version, fault_line, hint_line, is_help_fault, usage_report, version_text}
+use Rattle.word_faults.specs.UsageReport.{AnswersWords, Prints, asks_version, fault_line, hint_line, is_help_fault, more_text, usage_report, version_text}
 use Rattle.word_faults.specs.WordFaults.{first_fault}
 use Rattle.word_faults.specs.declared.word_fault.WordFault.{WordFault}
 
-pub of_usage : (c : CommandLine) (words : List Text) (usage text : Text) (input output faults : Device) (status : ℕ) → usage ≡ text →
-    ReportsUsage (usage_report c words usage) input output faults status ⊎ LacksMemory input output faults status →
-    ReportsUsage (usage_report c words text) input output faults status ⊎ LacksMemory input output faults status
-of_usage c words usage text input output faults status e t =
-    subst (λ (u : Text). ReportsUsage (usage_report c words u) input output faults status ⊎ LacksMemory input output faults status) e t
+pub of_usage : (program : Text) (c : CommandLine) (words : List Text) (usage text : Text) (input output faults : Device) (status : ℕ) → usage ≡ text →
+    ReportsUsage (usage_report program c words usage) input output faults status ⊎ LacksMemory input output faults status →
+    ReportsUsage (usage_report program c words text) input output faults status ⊎ LacksMemory input output faults status
+of_usage program c words usage text input output faults status e t =
+    subst (λ (u : Text). ReportsUsage (usage_report program c words u) input output faults status ⊎ LacksMemory input output faults status) e t
 
-pub of_known : (c d : CommandLine) (words : List Text) (usage : Text) (input output faults : Device) (status : ℕ) → c ≡ d →
-    ReportsUsage (usage_report c words usage) input output faults status ⊎ LacksMemory input output faults status →
-    ReportsUsage (usage_report d words usage) input output faults status ⊎ LacksMemory input output faults status
-of_known c d words usage input output faults status e t =
-    subst (λ (k : CommandLine). ReportsUsage (usage_report k words usage) input output faults status ⊎ LacksMemory input output faults status) e t
+pub of_known : (program : Text) (c d : CommandLine) (words : List Text) (usage : Text) (input output faults : Device) (status : ℕ) → c ≡ d →
+    ReportsUsage (usage_report program c words usage) input output faults status ⊎ LacksMemory input output faults status →
+    ReportsUsage (usage_report program d words usage) input output faults status ⊎ LacksMemory input output faults status
+of_known program c d words usage input output faults status e t =
+    subst (λ (k : CommandLine). ReportsUsage (usage_report program k words usage) input output faults status ⊎ LacksMemory input output faults status) e t
 
 -- The answers for a command line and a usage text are the answers for an equal command line and an equal text.
 pub of_words : (program : Text) (c d : CommandLine) (words : List Text) (usage text : Text) (input output faults : Device) (status : ℕ) → c ≡ d → usage ≡ text →
@@ -65,11 +65,11 @@ of_help program c words usage fault input output faults status same none is p = 
 
 pub of_fault : (program : Text) (c : CommandLine) (words : List Text) (usage : Text) (fault : Option WordFault) (input output faults : Device) (status : ℕ) →
     fault ≡ first_fault c words → asks_version words ≡ false → is_help_fault fault ≡ false →
-    ReportsUsage (fault_line c words fault ++ (hint_line c words fault ++ usage)) input output faults status ⊎ LacksMemory input output faults status →
+    ReportsUsage (fault_line c words fault ++ (hint_line c words fault ++ more_text program usage fault)) input output faults status ⊎ LacksMemory input output faults status →
     AnswersWords program c words usage input output faults status
 of_fault program c words usage fault input output faults status same none is t = record {
   version = λ alike. absurd (both (asks_version words) alike none);
   help = λ unlike wants. absurd (both (is_help_fault fault) (ap is_help_fault same ∙ wants) is);
-  fault = λ unlike isnt. subst (λ (f : Option WordFault). ReportsUsage (fault_line c words f ++ (hint_line c words f ++ usage)) input output faults status
+  fault = λ unlike isnt. subst (λ (f : Option WordFault). ReportsUsage (fault_line c words f ++ (hint_line c words f ++ more_text program usage f)) input output faults status
       ⊎ LacksMemory input output faults status) same t;
 }

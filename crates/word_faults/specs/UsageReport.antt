@@ -1,5 +1,5 @@
 -- The report of a usage error, and the output of `--version`.
-use Rattle.std.specs.Prelude.{◌≡◌, ◌⊎◌, ◌+◌, ◌==◌, ◌&&◌, ◌||◌, ℕ, Bool, true, false, not, List, [], ◌∷◌, ◌++◌, length, Option, Some, None, codes, slice_get, unwrap_or}
+use Rattle.std.specs.Prelude.{◌≡◌, ◌⊎◌, ◌+◌, ◌==◌, ◌&&◌, ◌||◌, ℕ, Bool, true, false, not, if◌then◌else◌, List, [], ◌∷◌, ◌++◌, length, Option, Some, None, codes, slice_get, unwrap_or}
 use Rattle.std.specs.Str.{bytes_eq}
 use Rattle.devices.specs.Devices.{Device, HasFailed, IsClean, IsUntouched, Takes}
 use Rattle.devices.specs.Lines.{Reports, Stopped}
@@ -40,9 +40,26 @@ fault_line c words None = []
 fault_line c words (Some f) =
     reason_line f.reason (word_at words f.place) (word_at words (f.place + 1)) (unwrap_or c.required []) (c.apart (option_in (word_at words f.place)))
 
--- the first word that cannot be taken and why, and the usage
-abbrev pub usage_report : CommandLine → List Text → Text → Text
-usage_report c words usage = fault_line c words (first_fault c words) ++ usage
+-- a line names the fault: not if there is none, and not if it is a call for help
+abbrev pub has_line : Option WordFault → Bool
+has_line None = false
+has_line (Some f) = not (asks_help f.reason)
+
+-- how to ask a program for its usage
+abbrev pub help_line : Text → Text
+help_line program = codes "usage: " ++ (program ++ codes " --help\n")
+
+-- the report if the command line has a word that can't be read as text
+abbrev pub unreadable_text : Text → Text
+unreadable_text program = codes "a word is not UTF-8\n" ++ help_line program
+
+-- after the line of a fault, how to ask for the usage; without such a line, the usage
+unfoldable pub more_text : Text → Text → Option WordFault → Text
+more_text program usage fault = if has_line fault then help_line program else usage
+
+-- the first word that cannot be taken and why, and how to ask for the usage; the usage, if no word is at fault or one asks for it
+abbrev pub usage_report : Text → CommandLine → List Text → Text → Text
+usage_report program c words usage = fault_line c words (first_fault c words) ++ more_text program usage (first_fault c words)
 
 -- two hyphens first, or a hyphen and one byte after it
 abbrev pub has_option_form : Text → Bool
@@ -66,8 +83,9 @@ hint_line c words None = []
 hint_line c words (Some f) = hint_by c f.reason (word_at words f.place)
 
 -- the same with what to type instead
-abbrev pub hinted_report : CommandLine → List Text → Text → Text
-hinted_report c words usage = fault_line c words (first_fault c words) ++ (hint_line c words (first_fault c words) ++ usage)
+abbrev pub hinted_report : Text → CommandLine → List Text → Text → Text
+hinted_report program c words usage =
+    fault_line c words (first_fault c words) ++ (hint_line c words (first_fault c words) ++ more_text program usage (first_fault c words))
 
 -- the first word that cannot be taken asks for help
 abbrev pub is_help_fault : Option WordFault → Bool
@@ -115,9 +133,10 @@ Prints text input output faults status =
 
 -- 3. The answer of a program that people type, to words that ask for none of its work
 
--- the version alone, and help, are answers on standard output; otherwise the report is the first word that cannot be taken, what to type instead, and the usage
+-- the version alone, and help, are answers on standard output; otherwise the report is the first word that cannot be taken, what to type instead, and how to ask
+-- for the usage
 pub record AnswersWords (program : Text) (c : CommandLine) (words : List Text) (usage : Text) (input output faults : Device) (status : ℕ) : Type 0 where
   pub version : asks_version words ≡ true → Prints (version_text program) input output faults status
   pub help : asks_version words ≡ false → wants_help c words ≡ true → Prints usage input output faults status
   pub fault : asks_version words ≡ false → wants_help c words ≡ false →
-      ReportsUsage (hinted_report c words usage) input output faults status ⊎ LacksMemory input output faults status
+      ReportsUsage (hinted_report program c words usage) input output faults status ⊎ LacksMemory input output faults status

@@ -9,7 +9,7 @@
 //!
 //! `first_fault` finds the first word that is unknown, is given twice, lacks its value, has a wrong value, or must be
 //! given alone and is not; `word_beside` the word beside the options (`specs/WordFaults`). `answer_other_words` reports
-//! the fault with the usage, or prints the version (`specs/UsageReport`, `faults_name_words`: `specs/NamedWords`);
+//! the fault and how to ask for the usage, or prints the version (`specs/UsageReport`, `faults_name_words`: `specs/NamedWords`);
 //! `answer_words` also answers calls for help and says what to type (`specs/Hints`, `hints_are_nearest`:
 //! `specs/NearWords`). `sorting` separates options from the words beside them (`specs/SortedWords`); `sorted_command`
 //! puts a subcommand first, and `long_words` replaces short names of options (`specs/Commands`).
@@ -45,5 +45,4 @@ pub use option_values::{given_options, number_if, number_of, numbers_of, subcomm
 pub use other_words::{answer_other_words, answer_words};
 pub use scaled::{Scale, scaled_in};
 pub use sorting::{are_taken, name_words, option_words, push_words, value_given, words_without};
-pub use usage::usage_report;
 pub use word_fault::{Reason, WordFault};

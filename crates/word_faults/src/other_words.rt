@@ -15,20 +15,21 @@ use counted_io::Sink;
 use devices::{Halt, report_halt, report_text};
 use std::alloc::Global;
 
-// Reports the first word that cannot be taken and the usage, and returns the status.
+// Reports the first word that cannot be taken and how to ask for the usage, and returns the status.
 fn report_words<E: Sink>(
     alloc: Global,
+    program: &str,
     known: KnownWords,
     words: &[&str],
     usage: &str,
     faults: &mut E,
 ) -> u8
     ensures { (input output : Device) → IsUntouched input → IsUntouched output →
-        ReportsUsage (spec.usage_report (known_of known) (map (λ s. s.now) words.now) usage.now) input output
+        ReportsUsage (spec.usage_report program.now (known_of known) (map (λ s. s.now) words.now) usage.now) input output
         (writes E.Sink faults.old faults.new) result
         ⊎ LacksMemory input output (writes E.Sink faults.old faults.new) result }
 {
-    match usage_report(alloc, known, words, usage) {
+    match usage_report(alloc, program, known, words, usage) {
         Ok(text) => {
             report_text(faults, text.as_str());
             2
@@ -38,8 +39,8 @@ fn report_words<E: Sink>(
 }
 
 /// Answers words that ask for none of the program's work, and returns the status: `--version` alone prints the program
-/// of this name, its version and its kit; otherwise it reports the first word that cannot be taken, with the usage
-/// after it.
+/// of this name, its version and its kit; otherwise it reports the first word that cannot be taken and how to ask for
+/// the usage, or, if no word is at fault or one asks for it, the usage.
 pub fn answer_other_words<W: Sink, E: Sink>(
     alloc: Global,
     program: &str,
@@ -53,20 +54,21 @@ pub fn answer_other_words<W: Sink, E: Sink>(
         spec.Prints (spec.version_text program.now) input (writes W.Sink output.old output.new)
         (writes E.Sink faults.old faults.new) result }
     ensures usage { (input : Device) → IsUntouched input → spec.is_version (map (λ s. s.now) words.now) ≡ false →
-        ReportsUsage (spec.usage_report (known_of known) (map (λ s. s.now) words.now) usage.now) input
+        ReportsUsage (spec.usage_report program.now (known_of known) (map (λ s. s.now) words.now) usage.now) input
         (writes W.Sink output.old output.new) (writes E.Sink faults.old faults.new) result
         ⊎ LacksMemory input (writes W.Sink output.old output.new) (writes E.Sink faults.old faults.new) result }
 {
     if is_version(words) {
         print_version(alloc, program, output, faults)
     } else {
-        report_words(alloc, known, words, usage, faults)
+        report_words(alloc, program, known, words, usage, faults)
     }
 }
 
-// Reports a word that cannot be taken, what to type instead, and the usage; returns the status.
+// Reports a word that cannot be taken, what to type instead, and how to ask for the usage; returns the status.
 fn report_hinted<E: Sink>(
     alloc: Global,
+    program: &str,
     known: KnownWords,
     words: &[&str],
     fault: Option<WordFault>,
@@ -75,11 +77,11 @@ fn report_hinted<E: Sink>(
 ) -> u8
     ensures { (input output : Device) → IsUntouched input → IsUntouched output →
         ReportsUsage (spec.fault_line (known_of known) (map (λ s. s.now) words.now) fault
-        ++ (spec.hint_line (known_of known) (map (λ s. s.now) words.now) fault ++ usage.now)) input output
-        (writes E.Sink faults.old faults.new) result
+        ++ (spec.hint_line (known_of known) (map (λ s. s.now) words.now) fault
+        ++ spec.more_text program.now usage.now fault)) input output (writes E.Sink faults.old faults.new) result
         ⊎ LacksMemory input output (writes E.Sink faults.old faults.new) result }
 {
-    let Ok(text) = hinted_report(alloc, known, words, fault, usage) else {
+    let Ok(text) = hinted_report(alloc, program, known, words, fault, usage) else {
         return report_halt(faults, Halt::Memory);
     };
     report_text(faults, text.as_str());
@@ -88,7 +90,7 @@ fn report_hinted<E: Sink>(
 
 /// Answers the words of a program that people type, which ask for none of its work, and returns the status: `--version`
 /// or `-V` alone prints the program of this name, its version and its kit; if the first word that cannot be taken asks
-/// for help, it prints the usage; otherwise it reports that word, what to type instead, and the usage.
+/// for help, it prints the usage; otherwise it reports that word, what to type instead, and how to ask for the usage.
 pub fn answer_words<W: Sink, E: Sink>(
     alloc: Global,
     program: &str,
@@ -107,7 +109,7 @@ pub fn answer_words<W: Sink, E: Sink>(
     }
     match first_fault(alloc, known, words) {
         Ok(fault) if is_help(fault) => print_text(usage, output, faults),
-        Ok(fault) => report_hinted(alloc, known, words, fault, usage, faults),
+        Ok(fault) => report_hinted(alloc, program, known, words, fault, usage, faults),
         Err(_) => report_halt(faults, Halt::Memory),
     }
 }

@@ -1,4 +1,4 @@
-//! The line of a fault, and the usage after it.
+//! The line of a fault, and the usage or how to ask for it.
 ghost use Rattle.std.specs.Prelude.{◌≡◌, ◌+◌, ◌++◌, IfOk, OnOk, map, string_bytes};
 ghost use Rattle.word_faults.specs.KnownWords.{known_of};
 ghost use Rattle.word_faults.specs.UsageReport as spec;
@@ -143,9 +143,45 @@ fn write_hint(
     }
 }
 
-/// Returns the line of a fault, what to type instead, and the usage after it.
+// Returns whether a line names the fault: it does not if there is none, or if it is a call for help.
+fn has_line(fault: Option<WordFault>) -> bool
+    ensures { result ≡ spec.has_line fault }
+{
+    match fault {
+        Some(
+            WordFault {
+                reason: Reason::Help,
+                ..
+            },
+        ) => false,
+        Some(_) => true,
+        None => false,
+    }
+}
+
+// Appends how to ask for the usage after the line of a fault; without such a line, the usage.
+#[tactic(auto, unfolding(crate::specs::UsageReport::more_text))]
+fn write_more(
+    text: &mut String,
+    program: &str,
+    fault: Option<WordFault>,
+    usage: &str,
+) -> Result<(), AllocError>
+    ensures { OnOk result (string_bytes text.new
+        ≡ string_bytes text.old ++ spec.more_text program.now usage.now fault) }
+{
+    if has_line(fault) {
+        text.push_str("usage: ")?;
+        write_pair(text, program, " --help\n")
+    } else {
+        text.push_str(usage)
+    }
+}
+
+/// Returns the line of a fault, what to type instead, and how to ask for the usage.
 pub(crate) fn hinted_report(
     alloc: Global,
+    program: &str,
     known: KnownWords,
     words: &[&str],
     fault: Option<WordFault>,
@@ -153,28 +189,31 @@ pub(crate) fn hinted_report(
 ) -> Result<String, AllocError>
     ensures { IfOk result (λ text. string_bytes text
         ≡ spec.fault_line (known_of known) (map (λ s. s.now) words.now) fault
-        ++ (spec.hint_line (known_of known) (map (λ s. s.now) words.now) fault ++ usage.now)) }
+        ++ (spec.hint_line (known_of known) (map (λ s. s.now) words.now) fault
+        ++ spec.more_text program.now usage.now fault)) }
 {
     let mut text = String::new(alloc);
     write_fault(&mut text, known, words, fault)?;
     write_hint(alloc, &mut text, known, words, fault)?;
-    text.push_str(usage)?;
+    write_more(&mut text, program, fault, usage)?;
     Ok(text)
 }
 
-/// Returns the line of the first word that cannot be taken, and the usage after it.
-pub fn usage_report(
+/// Returns the line of the first word that cannot be taken, and how to ask for the usage; the usage, if no word is at
+/// fault or one asks for it.
+pub(crate) fn usage_report(
     alloc: Global,
+    program: &str,
     known: KnownWords,
     words: &[&str],
     usage: &str,
 ) -> Result<String, AllocError>
     ensures { IfOk result (λ text. string_bytes text
-        ≡ spec.usage_report (known_of known) (map (λ s. s.now) words.now) usage.now) }
+        ≡ spec.usage_report program.now (known_of known) (map (λ s. s.now) words.now) usage.now) }
 {
     let fault = first_fault(alloc, known, words)?;
     let mut text = String::new(alloc);
     write_fault(&mut text, known, words, fault)?;
-    text.push_str(usage)?;
+    write_more(&mut text, program, fault, usage)?;
     Ok(text)
 }

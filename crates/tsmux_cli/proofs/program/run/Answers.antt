@@ -7,4 +7,4 @@ returns-in-Ok-None-clause-version g c = λ none is. c.answer_other_words.ensures
 
 pub returns-in-Ok-None-clause-usage : goal.returns-in-Ok-None-clause-usage
 returns-in-Ok-None-clause-usage g c = λ none is.
-    of_usage _ _ _ _ _ _ _ _ c.usage.ensures (of_known _ _ _ _ _ _ _ _ c.known_for-known.ensures (c.answer_other_words.ensures.usage _ refl is))
+    of_usage _ _ _ _ _ _ _ _ _ c.usage.ensures (of_known _ _ _ _ _ _ _ _ _ c.known_for-known.ensures (c.answer_other_words.ensures.usage _ refl is))
