@@ -1,7 +1,7 @@
 //! Inputs, and the answers to them.
 
 use super::readers::{HEADER, PACKET, SECTION};
-use crate::tests::vectors::{
+use crate::tests::wire::vectors::{
     ALL_PARTS, CLOCK, CUT_PAT, CUT_PMT, CUT_PROGRAM_INFO, EIT, EMPTY_EIT, FFMPEG_SDT, NIT, PAT,
     PMT, PTS_DTS_HEADER, PTS_HEADER, SDT, STATION_SDT, TDT,
 };

@@ -1,7 +1,7 @@
 //! The worked streams: their packets and findings.
 
 use super::rows::Row;
-use crate::tests::packets::{Packet, stream_of};
+use crate::tests::stream::packets::{Packet, stream_of};
 use pid_findings::Kind;
 use std::alloc::Global;
 

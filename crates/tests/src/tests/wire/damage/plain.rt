@@ -1,7 +1,7 @@
 //! The answers by a plain reading of the standards: each cause of a refusal, in order, and the check word bit by bit.
 
 use super::readers::{HEADER, PACKET, SECTION};
-use crate::tests::packet_of;
+use crate::tests::wire::packet_of;
 
 pub fn answer(reader: u8, bytes: &[u8]) -> usize {
     match reader {

@@ -1,6 +1,6 @@
 //! The answer of each reader, as a number: 100 and the bytes that are read, or the number of the refusal.
 
-use crate::tests::packet_of;
+use crate::tests::wire::packet_of;
 use dvb_tables::{EitPf, Nit, Sdt, Tdt};
 use pes_packet::read_header;
 use psi_tables::{LongHeader, Pat, Pmt, Section, SectionHeader};

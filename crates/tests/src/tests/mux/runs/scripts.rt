@@ -1,6 +1,6 @@
 //! Units and slots in turn, with the answers.
 
-use crate::tests::services::{GROUPED, LATE_CLOCK, PATIENT, SMALL, Service};
+use crate::tests::mux::services::{GROUPED, LATE_CLOCK, PATIENT, SMALL, Service};
 use mux_core::FeedError;
 
 pub enum Step {

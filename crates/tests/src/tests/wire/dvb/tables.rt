@@ -1,8 +1,8 @@
 //! Tables, written and read.
 
-use crate::tests::psi::are_written;
-use crate::tests::sections::SINGLE;
-use crate::tests::vectors::{EIT, EMPTY_EIT, NIT, SDT, STATION_SDT, TDT};
+use crate::tests::wire::psi::are_written;
+use crate::tests::wire::sections::SINGLE;
+use crate::tests::wire::vectors::{EIT, EMPTY_EIT, NIT, SDT, STATION_SDT, TDT};
 use arrayvec::ArrayVec;
 use dvb_tables::{
     EitPf, EventEntry, EventLoop, Nit, RunningStatus, Sdt, Service, ServiceLoop, Tdt,

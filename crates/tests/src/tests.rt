@@ -1,0 +1,5 @@
+//! A folder of tests for each layer.
+
+mod mux;
+mod stream;
+mod wire;
