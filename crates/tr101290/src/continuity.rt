@@ -14,7 +14,7 @@ use std::marker::Model;
 use ts_packet::Packet;
 
 /// A packet whose continuity_counter is wrong: the packet's index, the counter expected, and the counter found.
-#[derive(Clone, Copy, PartialEq, Eq)]
+#[derive(Clone, Copy)]
 pub struct ContinuityError {
     pub pid: u16,
     pub packet: u64,
