@@ -4,7 +4,7 @@ use Rattle.std.specs.List.{filter_map}
 use Rattle.std.specs.Option.{option_to_list}
 use Rattle.std.specs.Prelude.{flat_map, is_some, nat_lt}
 use Rattle.pid_findings.specs.Views.{FindingView}
-use Rattle.pid_windows.specs.declared.pid_windows.PidCounts.{PidCounts}
+use Rattle.tr101290.specs.declared.pid_windows.PidCounts.{PidCounts}
 use Rattle.program_tables.specs.KnownTables.{known_in}
 use Rattle.psi_tables.specs.declared.pat.programs.Program.{Program}
 use Rattle.arrival.specs.declared.arrival.Arrival.{Arrival}

@@ -6,7 +6,7 @@ use Rattle.std.specs.Map.{lookup}
 use Rattle.std.specs.Option.{option_to_list}
 use Rattle.std.proofs.lemmas.List.Elements.{filter_map-append}
 use Rattle.ts_packet.specs.Views.{PacketView}
-use Rattle.pid_windows.specs.Windows.{WindowView}
+use Rattle.tr101290.specs.Windows.{WindowView}
 use Rattle.arrival.specs.declared.clock.PcrSample.{PcrSample}
 use Rattle.sound_frames.specs.declared.frame_walk.FramePart.{FramePart}
 use Rattle.sound_frames.specs.FrameWalks.{WalkView}

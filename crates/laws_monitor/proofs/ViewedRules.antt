@@ -10,7 +10,7 @@ use Rattle.ts_packet.specs.Views.{PacketView}
 use Rattle.ts_packet.specs.Reading.{packet_at}
 use Rattle.ts_packet.specs.PidList.{Entry, entry_of}
 use Rattle.demux.specs.Stream.{pushed}
-use Rattle.pid_windows.specs.Windows.{one_more}
+use Rattle.tr101290.specs.Windows.{one_more}
 use Rattle.tr101290.specs.Continuity.{Lasts, after, before_if, error_at, errors_from}
 use Rattle.tr101290.specs.Errors.{repetition_error}
 use Rattle.tr101290.specs.declared.report.PcrError.{PcrError}

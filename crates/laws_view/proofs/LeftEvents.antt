@@ -8,7 +8,7 @@ use Rattle.std.proofs.lemmas.List.Elements.{filter-append}
 use Rattle.arrival.specs.declared.arrival.Arrival.{Arrival}
 use Rattle.arrival.specs.declared.clock.PcrSample.{PcrSample}
 use Rattle.ts_packet.specs.Views.{PacketView}
-use Rattle.pid_windows.specs.declared.pid_windows.PidCounts.{PidCounts}
+use Rattle.tr101290.specs.declared.pid_windows.PidCounts.{PidCounts}
 use Rattle.stream_programs.specs.Streams.{FoundStreamView}
 use Rattle.sound_frames.specs.FrameWalks.{WalkView}
 use Rattle.sound_frames.specs.declared.frame_walk.FramePart.{FramePart}

@@ -16,7 +16,7 @@ use Rattle.tstd_rows.specs.declared.arriving.Arriving.{Arriving}
 use Rattle.es_events.specs.declared.tally.Tally.{Tally}
 use Rattle.es_events.specs.declared.view_options.ViewOptions.{ViewOptions}
 use Rattle.es_events.specs.Clocks.{ClockEntries, clock_of, clocks_after, with_sample}
-use Rattle.pid_windows.specs.Windows.{one_more}
+use Rattle.tr101290.specs.Windows.{one_more}
 use Rattle.es_view.specs.Entries.{EntryState, arriving, beginning_in, is_unread}
 use Rattle.es_events.specs.Tallies.{tally_after}
 use Rattle.ts_report.specs.Seen.{SeenState, next_window, with_counter_read}

@@ -30,7 +30,7 @@ use Rattle.mux_core.specs.Histories.{content_at}
 use Rattle.mux_core.proofs.JobWriting.{output_bytes}
 use Rattle.mux_core.proofs.Whole.{contents_fit}
 use Rattle.events.specs.declared.event.Event.{Event}
-use Rattle.pid_windows.specs.Windows.{one_more}
+use Rattle.tr101290.specs.Windows.{one_more}
 use Rattle.ts_watch.specs.Choices.{RequestView}
 use Rattle.ts_report.specs.Seen.{SeenState, counted_entry, counter_events, counter_events_by, with_counter, with_counter_read}
 use Rattle.ts_report.specs.Views.{ViewState, after_packet, after_read, start, with_packet, with_tables, without}

@@ -43,7 +43,7 @@ use Rattle.pid_findings.specs.Machine.{next_open, step_marked, unbroken}
 use Rattle.pid_findings.specs.Marks.{break_after, break_at, is_repeat, mark, repeats, seen}
 use Rattle.pid_findings.specs.OpenUnits.{begun_kind, decided, last_in, of_header, of_pes, of_section, sections_in, taken_by}
 use Rattle.pid_findings.specs.Roles.{role, role_by, role_by_pointer, role_of}
-use Rattle.pid_windows.specs.Windows.{counts_in as windows_counts_in, counts_or_zero, with_one}
+use Rattle.tr101290.specs.Windows.{counts_in as windows_counts_in, counts_or_zero, with_one}
 use Rattle.program_tables.specs.Association.{association, entries, entries_of, first_pat, in_force as association_in_force, is_named, pat_found, pat_in}
 use Rattle.program_tables.specs.Association.{pat_of_section, with_program, with_programs as association_with_programs}
 use Rattle.program_tables.specs.KnownTables.{known_from, programs_with, version_with}

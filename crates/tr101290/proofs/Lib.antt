@@ -8,3 +8,5 @@ mod LastPackets
 pub mod IntervalExamples
 pub mod Members
 pub mod Judging
+pub mod Counted
+mod CountedPids

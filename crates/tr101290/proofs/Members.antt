@@ -3,7 +3,7 @@ use Rattle.std.proofs.Common.{◌≡◌, ◌∙◌, sym, ℕ, ◌==◌, Bool, tr
 use Rattle.std.specs.Prelude.{◌&&◌, ◌||◌, not}
 use Rattle.std.proofs.lemmas.Bool.Decides.{nat_tests}
 use Rattle.std.proofs.lemmas.List.Folds.{list_any-append}
-use Rattle.pid_windows.specs.declared.pid_windows.PidCounts.{PidCounts}
+use Rattle.tr101290.specs.declared.pid_windows.PidCounts.{PidCounts}
 use Rattle.tr101290.specs.Packets.{is_among, is_reserved, unreferenced, unreferenced_pids, has_packets, with_missing, missing_pids}
 use Rattle.tr101290.specs.ReferenceLaws.{UnreferencedLaw, MissingLaw}
 

@@ -19,3 +19,5 @@ pub mod Homes
 pub mod Distances
 pub mod Stamps
 pub mod RateJudges
+pub mod Windows
+pub mod WindowLaws

@@ -1,6 +1,6 @@
 -- Which PIDs are in the lists.
 use Rattle.std.specs.Prelude.{◌≡◌, ℕ, ◌&&◌, not, List, [], map}
-use Rattle.pid_windows.specs.declared.pid_windows.PidCounts.{PidCounts}
+use Rattle.tr101290.specs.declared.pid_windows.PidCounts.{PidCounts}
 use Rattle.tr101290.specs.Packets.{is_among, is_reserved, has_packets, unreferenced_pids, missing_pids}
 
 -- the PIDs with packets that a table has to name and none names

@@ -33,6 +33,13 @@
 //!   table 2-3; ETSI EN 300 468, table 1), and 8,191 null packets: no table has to name them. PIDs that CA descriptors
 //!   or the CAT alone name are not counted as named.
 //!
+//! The packets of each PID by window of time; which packets lie in one window, the caller says, by a number that does
+//! not fall:
+//!
+//! - [`PidWindow`]: the window of the last packet, with its packets of each PID, and how many of them have a program
+//!   clock reference.
+//! - [`window_laws`]: these are all packets of the window.
+//!
 //! Presentation time stamps (2.5): [`PtsWatch`] finds a PTS more than 700 ms after the PTS before.
 //!
 //! Times are ticks of 27 MHz, of tables also packets (a packet lasts 40,608,000,000 / R ticks at R bits a second),
@@ -51,6 +58,7 @@ mod measures;
 mod packets;
 mod parts;
 pub mod pcr_laws;
+mod pid_windows;
 mod rate_judge;
 pub mod reference_laws;
 mod references;
@@ -61,6 +69,7 @@ mod stamps;
 mod stopped_tables;
 mod watch;
 mod watches;
+pub mod window_laws;
 
 pub use continuity::{ContinuityError, ContinuityWatch};
 pub use counts::PcrCounts;
@@ -73,6 +82,7 @@ pub use intervals::{
 pub use limits::limit_of;
 pub use packets::{missing_pids, unreferenced_pids};
 pub use parts::has_parts;
+pub use pid_windows::{PidCounts, PidEntries, PidWindow};
 pub use rate_judge::{PAIRS, PidError, RateJudge};
 pub use references::referenced_pids;
 pub use report::{GREATEST_INACCURACY, GREATEST_INTERVAL, Inaccuracy, PcrError, PcrReport};

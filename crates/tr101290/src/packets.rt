@@ -2,7 +2,7 @@
 ghost use Rattle.std.specs.Prelude.{◌≡◌, ◌++◌, IfOk, OnOk, [], option_to_list};
 ghost use Rattle.tr101290.specs.Packets as spec;
 
-use pid_windows::PidEntries;
+use crate::pid_windows::PidEntries;
 use std::alloc::{AllocError, Global};
 use stream_programs::PidList;
 

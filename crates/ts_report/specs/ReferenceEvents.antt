@@ -1,7 +1,7 @@
 -- PIDs that no table names, and named PIDs without a packet (ETSI TR 101 290, 5.2.1, 1.6 PID_error; 5.2.3, 3.4 Unreferenced_PID).
 use Rattle.std.specs.Prelude.{ℕ, ◌-◌, ◌||◌, not, is_some, nat_le, Bool, true, if◌then◌else◌, List, [], ◌∷◌, ◌++◌, filter, map, flat_map, Option, Some, None}
-use Rattle.pid_windows.specs.Windows.{WindowView}
-use Rattle.pid_windows.specs.declared.pid_windows.PidCounts.{PidCounts}
+use Rattle.tr101290.specs.Windows.{WindowView}
+use Rattle.tr101290.specs.declared.pid_windows.PidCounts.{PidCounts}
 use Rattle.ts_tables.specs.NamedStreams.{NamedView}
 use Rattle.tr101290.specs.References.{referenced_pids}
 use Rattle.tr101290.specs.Intervals.{time_between}

@@ -5,7 +5,7 @@ use Rattle.ts_packet.specs.declared.packet.PacketError.TheVariants as packet_err
 use Rattle.ts_packet.specs.PidList.{Entry}
 use Rattle.ts_packet.specs.Views.{PacketView}
 use Rattle.ts_packet.specs.PcrBytes.{has_pcr}
-use Rattle.pid_windows.specs.Windows.{WindowView, no_packet, one_more, taken}
+use Rattle.tr101290.specs.Windows.{WindowView, no_packet, one_more, taken}
 use Rattle.ts_tables.specs.NamedStreams.{NamedView, none_taken}
 use Rattle.ts_tables.specs.NamedStreams as naming
 use Rattle.ts_tables.specs.ServiceNames.{NamesState}

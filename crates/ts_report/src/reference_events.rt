@@ -4,9 +4,10 @@ ghost use Rattle.ts_report.specs.ReferenceEvents as spec;
 
 use events::Event;
 use pid_times::LONGEST_GAP;
-use pid_windows::PidWindow;
 use std::alloc::{AllocError, Global};
-use tr101290::{TableTiming, missing_pids, referenced_pids, time_between, unreferenced_pids};
+use tr101290::{
+    PidWindow, TableTiming, missing_pids, referenced_pids, time_between, unreferenced_pids,
+};
 use ts_tables::NamedStreams;
 use ts_watch::table_names::TableNames;
 use ts_watch::table_watch::TableWatch;

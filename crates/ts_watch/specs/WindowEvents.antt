@@ -3,8 +3,8 @@ use Rattle.std.specs.Prelude.{ℕ, ◌*◌, ◌/◌, ◌^◌, ◌-◌, max, min,
 use Rattle.arrival.specs.Arrivals.{moment_on}
 use Rattle.arrival.specs.declared.arrival.Arrival.{Arrival}
 use Rattle.arrival.specs.declared.arrival.Arrival.TheVariants.{Unknown, AtRate, OnLines}
-use Rattle.pid_windows.specs.Windows.{WindowView}
-use Rattle.pid_windows.specs.declared.pid_windows.PidCounts.{PidCounts}
+use Rattle.tr101290.specs.Windows.{WindowView}
+use Rattle.tr101290.specs.declared.pid_windows.PidCounts.{PidCounts}
 use Rattle.events.specs.declared.event.Event.{Event}
 use Rattle.events.specs.declared.event.Event.TheVariants as found
 use Rattle.es_events.specs.declared.view_options.ViewOptions.{ViewOptions}

@@ -8,8 +8,8 @@ use clock27::{Rate, SLOT_MS_AT_1BPS};
 use es_events::clocks::first_byte;
 use es_events::view_options::ViewOptions;
 use events::{Event, PidTotals, WindowFigures};
-use pid_windows::{PidCounts, PidWindow};
 use std::alloc::{AllocError, Global};
+use tr101290::{PidCounts, PidWindow};
 use ts_tables::{NamedStreams, ServiceNames};
 
 // Returns the window of the first byte of a packet at a constant rate.

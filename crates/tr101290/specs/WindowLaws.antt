@@ -1,6 +1,6 @@
 -- The counts, defined by the packets alone.
 use Rattle.std.specs.Prelude.{◌≡◌, ℕ, ◌^◌, ◌<◌, ◌≤◌, ◌==◌, ◌&&◌, Bool, List, [], ◌∷◌, length, filter}
-use Rattle.pid_windows.specs.Windows.{WindowView, no_packet, taken, counts_of}
+use Rattle.tr101290.specs.Windows.{WindowView, no_packet, taken, counts_of}
 
 -- a packet: its window, its PID, and whether it has a program_clock_reference
 pub record Placed : Type 0 where

@@ -1,5 +1,5 @@
-use Rattle.pid_windows.proofs.Counted.{clock_law, count_law}
-use Rattle.pid_windows.proofs.laws.counts.Goals as goal
+use Rattle.tr101290.proofs.Counted.{clock_law, count_law}
+use Rattle.tr101290.proofs.window_laws.counts.Goals as goal
 
 pub returns-clause-packets : goal.returns-clause-packets
 returns-clause-packets c = count_law

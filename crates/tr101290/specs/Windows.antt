@@ -4,7 +4,7 @@
 use Rattle.std.specs.Prelude.{ℕ, ◌+◌, ◌^◌, ◌-◌, ◌==◌, min, Bool, if◌then◌else◌, List, [], nat_eq, Option, Some, None}
 use Rattle.std.specs.Map.{lookup}
 use Rattle.indexmap.specs.IndexMap.{insert_entry}
-use Rattle.pid_windows.specs.declared.pid_windows.PidCounts.{PidCounts}
+use Rattle.tr101290.specs.declared.pid_windows.PidCounts.{PidCounts}
 
 -- counts stop at 2^64 - 1
 abbrev pub one_more : ℕ → ℕ

@@ -5,9 +5,9 @@ use Rattle.std.specs.Prelude.{◌&&◌}
 use Rattle.std.proofs.lemmas.Bool.Decides.{nat_tests}
 use Rattle.std.specs.Map.{lookup}
 use Rattle.indexmap.specs.IndexMap.{insert_entry}
-use Rattle.pid_windows.specs.declared.pid_windows.PidCounts.{PidCounts}
-use Rattle.pid_windows.specs.Windows.{counts_or_zero, counts_of, counts_in, with_one, with_packet, one_more}
-use Rattle.pid_windows.specs.Laws.{Placed, InOrder, state_of, is_in, has_clock_in, CountLaw, ClockLaw}
+use Rattle.tr101290.specs.declared.pid_windows.PidCounts.{PidCounts}
+use Rattle.tr101290.specs.Windows.{counts_or_zero, counts_of, counts_in, with_one, with_packet, one_more}
+use Rattle.tr101290.specs.WindowLaws.{Placed, InOrder, state_of, is_in, has_clock_in, CountLaw, ClockLaw}
 
 -- 1. The counts of a PID after a packet
 

@@ -1,7 +1,7 @@
 //! The counts of one window.
 ghost use Rattle.std.specs.Prelude.{◌≡◌, ◌<◌, OnOk, Some, slice_get};
 ghost use Rattle.indexmap.specs.IndexMap.{index_map_len, set_value_at, values};
-ghost use Rattle.pid_windows.specs.Windows.{counts_in, no_packet, taken, with_one, with_packet};
+ghost use Rattle.tr101290.specs.Windows.{counts_in, no_packet, taken, with_one, with_packet};
 
 use pid_map::PidMap;
 use std::alloc::{AllocError, Allocator};
@@ -25,7 +25,7 @@ pub struct PidWindow<A: Allocator> {
 }
 
 impl<A: Allocator> Model for PidWindow<A> {
-    ghost use Rattle.pid_windows.specs.Windows.{WindowView};
+    ghost use Rattle.tr101290.specs.Windows.{WindowView};
 
     ghost Value = { WindowView };
 

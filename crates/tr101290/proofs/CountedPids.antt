@@ -4,8 +4,8 @@ use Rattle.std.specs.Prelude.{position, slice_get}
 use Rattle.std.specs.Map.{keys_of, lookup, values_of}
 use Rattle.indexmap.specs.IndexMap.{set_value_at}
 use Rattle.pid_map.proofs.Entries.{found_there, set_there, value_there}
-use Rattle.pid_windows.specs.declared.pid_windows.PidCounts.{PidCounts}
-use Rattle.pid_windows.specs.Windows.{counts_or_zero, counts_of, with_one, with_packet}
+use Rattle.tr101290.specs.declared.pid_windows.PidCounts.{PidCounts}
+use Rattle.tr101290.specs.Windows.{counts_or_zero, counts_of, with_one, with_packet}
 
 -- One more packet of the PID is counted at its index.
 pub counted_there : (pid i : ℕ) (pcr : Bool) (entries : List (ℕ × PidCounts)) → position (nat_eq pid) (keys_of entries) ≡ Some i →
