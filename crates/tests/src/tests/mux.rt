@@ -1,8 +1,6 @@
 //! Worked services and plans, runs of the multiplexer, measured streams, and refused memory. A helper that has no
 //! answer to give answers None.
 
-mod checks;
-mod devices;
 mod measuring;
 mod memory;
 mod plan_texts;

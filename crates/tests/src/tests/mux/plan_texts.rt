@@ -1,7 +1,5 @@
-//! The text of a small plan, both ways, the limits of plans, and the greatest plan.
+//! The limits of plans, the text of the greatest, and the slots that items own.
 
-use super::planned;
-use super::texts::PLAN;
 use slot_plan::{
     Certificate, Item, Plan, PlanError, PlanTextError, ProgramEntry, Slot, StreamEntry, laws,
 };
@@ -37,45 +35,6 @@ fn reading(alloc: Global, text: &[u8]) -> Option<Result<Shape, u32>> {
         Err(PlanTextError::Line(line)) => Some(Err(line)),
         Err(PlanTextError::Memory) => None,
     }
-}
-
-/// Four slots of the small plan.
-static SLOTS: [(usize, Slot); 4] = [
-    (0, Slot::Stream(0)),
-    (9, Slot::Table(5)),
-    (97, Slot::Pcr(0)),
-    (119, Slot::Null),
-];
-
-/// Returns the spread, start and peak of its stream.
-fn has_entry(plan: &Plan) -> bool {
-    match plan.certificate().streams.first() {
-        Some(entry) => entry.spread == 0 && entry.start == 0 && entry.peak == 282_752_000,
-        None => false,
-    }
-}
-
-fn has_slots(plan: &Plan) -> bool {
-    for (at, slot) in &SLOTS {
-        if plan.slots().get(*at) != Some(slot) {
-            return false;
-        }
-    }
-    true
-}
-
-fn is_small(alloc: Global) -> Option<bool> {
-    let plan = planned(alloc, PLAN)?;
-    let found = has_slots(&plan) && has_entry(&plan);
-    drop(plan);
-    Some(found)
-}
-
-#[test]
-fn small_plan(rt: HostRuntime) {
-    assert!(rt; is_small(rt.alloc()) == Some(true));
-    laws::plan_text();
-    laws::own_slots();
 }
 
 /// Returns a certificate whose entries have this number.
@@ -175,4 +134,6 @@ fn owners(rt: HostRuntime) {
     for (item, slot, wanted) in &OWNERS {
         assert!(rt; item.owns(*slot) == *wanted);
     }
+    laws::plan_text();
+    laws::own_slots();
 }
