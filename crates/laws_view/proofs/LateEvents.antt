@@ -28,8 +28,8 @@ use Rattle.tr101290.specs.declared.intervals.SectionBegin.{SectionBegin}
 use Rattle.tr101290.specs.declared.intervals.SectionPlaces.{SectionPlaces}
 use Rattle.tr101290.specs.declared.intervals.TableError.{TableError}
 use Rattle.tr101290.specs.declared.intervals.TableTiming.{TableTiming}
-use Rattle.laws_monitor.specs.Tables.{errors_from}
-use Rattle.laws_monitor.proofs.PidEntries.{kept, same_number}
+use Rattle.laws_view.specs.Tables.{errors_from}
+use Rattle.laws_view.proofs.InsertedEntries.{kept, same_number}
 use Rattle.events.specs.declared.event.Event.{Event}
 use Rattle.events.specs.declared.event.Event.TheVariants as found
 use Rattle.events.specs.declared.rule_event.RuleEvent.TheVariants as rules

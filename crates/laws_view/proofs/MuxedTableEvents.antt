@@ -29,7 +29,7 @@ use Rattle.tr101290.specs.Sections.{begin_of, section_begin, section_by}
 use Rattle.tr101290.specs.declared.intervals.SectionBegin.{SectionBegin}
 use Rattle.tr101290.specs.declared.intervals.TableError.{TableError}
 use Rattle.tr101290.specs.declared.intervals.TableTiming.TheVariants.{ConstantRate}
-use Rattle.laws_monitor.specs.Tables.{errors_from, sections_of}
+use Rattle.laws_view.specs.Tables.{errors_from, sections_of}
 use Rattle.laws_run.proofs.MonitoredJobs.{job_kept}
 use Rattle.mux_core.specs.Histories.{content_at}
 use Rattle.mux_core.proofs.JobWriting.{output_bytes}

@@ -30,8 +30,8 @@ use Rattle.laws_run.proofs.RunFindings.{is_run, silent_back}
 use Rattle.laws_run.proofs.Soundness.{as_reported}
 use Rattle.laws_run.proofs.TablesRecur.{pat_in_time}
 use Rattle.laws_run.proofs.ServicesRecur.{kind_on, nit_in_time, sdt_in_time, stream_higher, tdt_in_time}
-use Rattle.laws_monitor.specs.Tables.{errors_from}
-use Rattle.laws_monitor.proofs.Tables.{table_law}
+use Rattle.laws_view.specs.Tables.{errors_from}
+use Rattle.laws_view.proofs.Tables.{table_law}
 use Rattle.tr101290.specs.Intervals.{no_section}
 use Rattle.tr101290.specs.Limits.{milliseconds}
 use Rattle.tr101290.specs.Parts.{has_parts}

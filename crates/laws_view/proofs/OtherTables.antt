@@ -48,7 +48,7 @@ use Rattle.tr101290.specs.Limits.{milliseconds}
 use Rattle.tr101290.specs.Sections.{begin_of, section_begin, section_by}
 use Rattle.tr101290.specs.declared.intervals.SectionBegin.{SectionBegin}
 use Rattle.tr101290.specs.declared.intervals.TableTiming.TheVariants.{ConstantRate}
-use Rattle.laws_monitor.specs.Tables.{errors_from, sections_of}
+use Rattle.laws_view.specs.Tables.{errors_from, sections_of}
 use Rattle.laws_view.specs.MuxedTables.{table_errors}
 use Rattle.laws_view.specs.ViewedTables.{IsNotReadyMade}
 use Rattle.laws_view.proofs.MuxedTables.{run_tables_law}

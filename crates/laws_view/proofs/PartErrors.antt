@@ -24,9 +24,9 @@ use Rattle.tr101290.specs.declared.intervals.SectionBegin.{SectionBegin}
 use Rattle.tr101290.specs.declared.intervals.SectionPlaces.{SectionPlaces}
 use Rattle.tr101290.specs.declared.intervals.TableError.{TableError}
 use Rattle.tr101290.specs.declared.intervals.TableTiming.TheVariants.{ConstantRate}
-use Rattle.laws_monitor.specs.Tables.{errors_from, sections_of}
-use Rattle.laws_monitor.proofs.PidEntries.{kept, same_number}
-use Rattle.laws_monitor.proofs.Tables.{last_after, last_place, one_error}
+use Rattle.laws_view.specs.Tables.{errors_from, sections_of}
+use Rattle.laws_view.proofs.InsertedEntries.{kept, same_number}
+use Rattle.laws_view.proofs.Tables.{last_after, last_place, one_error}
 use Rattle.laws_view.proofs.LateEvents.{itself}
 
 -- 1. The sections that begin in packets

@@ -51,7 +51,7 @@ use Rattle.tr101290.specs.Intervals.{no_section}
 use Rattle.tr101290.specs.Limits.{milliseconds}
 use Rattle.tr101290.specs.Parts.{has_parts, part_in}
 use Rattle.tr101290.specs.declared.intervals.TableTiming.TheVariants.{ConstantRate}
-use Rattle.laws_monitor.specs.Tables.{errors_from, sections_of}
+use Rattle.laws_view.specs.Tables.{errors_from, sections_of}
 use Rattle.laws_view.proofs.LateEvents.{itself}
 use Rattle.laws_view.proofs.PartErrors.{IsText, no_errors, same_sections, starts_with, without_first}
 use Rattle.laws_view.proofs.PartStarts.{IsPlain, begins_part, chosen, chosen_there, part_after, part_slots}

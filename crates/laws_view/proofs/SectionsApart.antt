@@ -38,7 +38,7 @@ use Rattle.demux.specs.Stream as demux
 use Rattle.demux.specs.FoundSoFar.{found_in_all, taken_all}
 use Rattle.monitor.specs.Begins.{found_on}
 use Rattle.monitor.proofs.FoundWhole.{found_whole, of_each}
-use Rattle.laws_monitor.proofs.PidEntries.{same_number}
+use Rattle.laws_view.proofs.InsertedEntries.{same_number}
 use Rattle.mux_core.specs.Scheduled.{Scheduled}
 use Rattle.mux_core.specs.Headline.{UnitsKept}
 use Rattle.mux_core.specs.Histories.{content_at, owned_stream, table_of}

@@ -20,9 +20,9 @@ use Rattle.monitor.proofs.GroupedFaults.{findings_alike}
 use Rattle.monitor.proofs.SameOrder.{has, same, same_itself}
 use Rattle.tr101290.specs.Continuity.{Lasts, after, before_if, error_at, errors_from}
 use Rattle.tr101290.specs.declared.continuity.ContinuityError.{ContinuityError}
-use Rattle.laws_monitor.specs.Continuity.{counter_fault, is_sound, sound_packets}
-use Rattle.laws_monitor.proofs.Continuity.{whole_errors}
-use Rattle.laws_monitor.specs.FaultsByRule.{is_by}
+use Rattle.laws_view.specs.Continuity.{counter_fault, is_sound, sound_packets}
+use Rattle.laws_view.proofs.Continuity.{whole_errors}
+use Rattle.laws_view.specs.FaultsByRule.{is_by}
 use Rattle.laws_run.specs.Monitored.{IsSound}
 use Rattle.laws_run.proofs.Soundness as soundness
 use Rattle.laws_run.proofs.MonitoredJobs.{job_kept}

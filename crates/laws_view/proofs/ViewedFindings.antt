@@ -18,7 +18,7 @@ use Rattle.demux.specs.StreamBodies.{headers_pushed, headers_taken, states_witho
 use Rattle.demux.specs.Stream.{States, StreamState, entry_of, findings_by, found_in, next_packet, pushed, state_of, states_by, taken, with_state}
 use Rattle.demux.specs.FoundSoFar.{with_found}
 use Rattle.pid_findings.proofs.Bodies.{bodies_decide_nothing, state_again}
-use Rattle.laws_monitor.proofs.PidEntries.{kept, same_number, turned_test}
+use Rattle.laws_view.proofs.InsertedEntries.{kept, same_number, turned_test}
 use Rattle.stream_programs.specs.Streams.{FoundStreamView}
 use Rattle.es_events.specs.declared.view_options.ViewOptions.{ViewOptions}
 use Rattle.es_view.specs.Entries.{EntryState}

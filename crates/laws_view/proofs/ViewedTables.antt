@@ -15,8 +15,8 @@ use Rattle.demux.specs.FoundSoFar.{found_in_all}
 use Rattle.arrival.specs.declared.arrival.Arrival.TheVariants.{AtRate}
 use Rattle.tr101290.specs.Intervals.{IntervalState}
 use Rattle.tr101290.specs.declared.intervals.SectionBegin.{SectionBegin}
-use Rattle.laws_monitor.specs.Tables.{errors_from}
-use Rattle.laws_monitor.proofs.PidEntries.{turned_test}
+use Rattle.laws_view.specs.Tables.{errors_from}
+use Rattle.laws_view.proofs.InsertedEntries.{turned_test}
 use Rattle.events.specs.declared.event.Event.{Event}
 use Rattle.es_events.specs.declared.view_options.ViewOptions.{ViewOptions}
 use Rattle.ts_watch.specs.TableEvents.{TablesState, TimesState, error_event, findings_events, with_findings}

@@ -1,3 +1,17 @@
+pub mod FaultsByRule
+pub mod FaultPids
+pub mod PacketFaults
+pub mod Continuity
+pub mod CounterFaults
+pub mod ViewedFaults
+pub mod SharedRules
+pub mod References
+pub mod Tables
+pub mod Limits
+pub mod TableFaults
+pub mod Histories
+pub mod SectionHistories
+pub mod StampHistories
 pub mod StreamPackets
 pub mod StreamUnits
 pub mod CarriedStreams

@@ -14,7 +14,7 @@ use Rattle.mux_core.specs.WholeJobs.{capacity_for, first_refused, job_history, o
 use Rattle.tr101290.specs.Intervals.{no_section}
 use Rattle.tr101290.specs.declared.intervals.TableError.{TableError}
 use Rattle.tr101290.specs.declared.intervals.TableTiming.TheVariants.{ConstantRate}
-use Rattle.laws_monitor.specs.Tables.{errors_from, sections_of}
+use Rattle.laws_view.specs.Tables.{errors_from, sections_of}
 
 -- the errors of the sections of a table that are found on a PID, at a rate in bits a second
 abbrev pub table_errors : ℕ → ℕ → ℕ → List ℕ → List TableError

@@ -12,7 +12,7 @@ use Rattle.mux_core.specs.Histories.{content_at}
 use Rattle.mux_core.specs.WholeJobs.{capacity_for, first_refused, job_history, output_of}
 use Rattle.tr101290.specs.Continuity.{errors_from}
 use Rattle.tr101290.specs.declared.continuity.ContinuityError.{ContinuityError}
-use Rattle.laws_monitor.specs.Continuity.{sound_packets}
+use Rattle.laws_view.specs.Continuity.{sound_packets}
 use Rattle.events.specs.declared.event.Event.{Event}
 use Rattle.events.specs.declared.event.Event.TheVariants as found
 use Rattle.ts_watch.specs.Choices.{RequestView}

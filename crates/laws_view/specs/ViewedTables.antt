@@ -17,7 +17,7 @@ use Rattle.pid_findings.specs.Findings.{findings}
 use Rattle.tr101290.specs.Intervals.{no_section}
 use Rattle.tr101290.specs.declared.intervals.TableError.{TableError}
 use Rattle.tr101290.specs.declared.intervals.TableTiming.TheVariants.{ConstantRate}
-use Rattle.laws_monitor.specs.Tables.{errors_from, sections_of}
+use Rattle.laws_view.specs.Tables.{errors_from, sections_of}
 use Rattle.arrival.specs.declared.arrival.Arrival.TheVariants.{AtRate}
 use Rattle.events.specs.declared.event.Event.{Event}
 use Rattle.events.specs.declared.event.Event.TheVariants as found

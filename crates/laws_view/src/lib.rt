@@ -1,4 +1,4 @@
-//! What the report on a stream says is so of all its packets: laws, no code.
+//! What the reports of `tsview` and `tsmux monitor` on a stream say is so of all its packets: laws, no code.
 //!
 //! Each function here does nothing: its contract is the law, over the definitions of `ts_report`, `tstd` and
 //! `mux_core`. Definitions in `specs/`:
@@ -38,8 +38,18 @@
 //!   after its first greatest excess.
 //! - [`arrival_laws`]: by clock references no byte arrives before an earlier one, also from one line to the next and
 //!   where the clock restarts; the bytes between two references lie on the line through both, if the clock continues.
+//!
+//! Rules of `tsmux monitor` and `tsview`, with one meaning (ETSI TR 101 290): `FaultsByRule` takes the faults of a rule
+//! from the report of the monitor. `PacketFaults`, `CounterFaults`, `TableFaults` and `References` say which packets it
+//! reports by each rule. `SharedRules` says that the events of `tsview` name the same; `Continuity` and `Tables`, that
+//! they are the errors that `tr101290` finds. `Limits` is the table of the limits of both.
+//!
+//! - [`monitor_laws`]: the packets of each rule, errors that both find, and the limits.
+//! - [`histories`]: sections that come too soon, and time stamps that come too late, by all that came before them.
 #![tactic(auto)]
 
 pub mod arrival_laws;
+pub mod histories;
 pub mod laws;
+pub mod monitor_laws;
 pub mod trace_laws;

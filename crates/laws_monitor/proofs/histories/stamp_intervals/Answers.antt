@@ -1,5 +1,0 @@
-use Rattle.laws_monitor.proofs.StampHistories.{late_law}
-use Rattle.laws_monitor.proofs.histories.stamp_intervals.Goals as goal
-
-pub returns : goal.returns
-returns c = late_law

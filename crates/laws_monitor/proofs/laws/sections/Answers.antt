@@ -1,8 +1,0 @@
-use Rattle.laws_monitor.proofs.SectionFaults.{crc_law, section_law}
-use Rattle.laws_monitor.proofs.laws.sections.Goals as goal
-
-pub returns-clause-crc : goal.returns-clause-crc
-returns-clause-crc c = crc_law
-
-pub returns-clause-section : goal.returns-clause-section
-returns-clause-section c = section_law
