@@ -16,8 +16,8 @@ use Rattle.arrival.specs.Arrivals.{line_at}
 use Rattle.arrival.specs.declared.arrival.Arrival.{Arrival}
 use Rattle.arrival.specs.declared.arrival.Arrival.TheVariants.{OnLines}
 use Rattle.arrival.specs.declared.arrival.ClockLines.{ClockLines}
-use Rattle.clocked_packets.specs.Waiting.{QueueState, arrival_by, begun_by, clock_by, last_arrival, line_by, no_packet, reference_in, released, still_wait}
-use Rattle.clocked_packets.specs.Waiting.{stepped_by}
+use Rattle.packet_times.specs.Waiting.{QueueState, arrival_by, begun_by, clock_by, last_arrival, line_by, no_packet, reference_in, released, still_wait}
+use Rattle.packet_times.specs.Waiting.{stepped_by}
 use Rattle.laws_view.specs.Between.{AreQuiet, BetweenLaw, LiesOn, line_through, with_all}
 use Rattle.laws_view.specs.TimedPackets.{Timed, arrived, arriving_so, timed_from, timed_packets, waiting, with_one}
 use Rattle.laws_view.proofs.Leads.{at_here}

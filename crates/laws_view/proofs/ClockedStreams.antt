@@ -13,8 +13,8 @@ use Rattle.arrival.specs.declared.arrival.Arrival.TheVariants.{Unknown, AtRate, 
 use Rattle.arrival.specs.Arrivals.{step_of}
 use Rattle.arrival.specs.ArrivalClocks.{line_from}
 use Rattle.arrival.specs.Clock.{step_after}
-use Rattle.clocked_packets.specs.Waiting.{QueueState, arrival_by, clock_by, last_arrival, line_by, no_packet, reference_in, released, still_wait, stepped}
-use Rattle.clocked_packets.specs.declared.packet_queue.ClockPid.{ClockPid}
+use Rattle.packet_times.specs.Waiting.{QueueState, arrival_by, clock_by, last_arrival, line_by, no_packet, reference_in, released, still_wait, stepped}
+use Rattle.packet_times.specs.declared.packet_queue.ClockPid.{ClockPid}
 use Rattle.tr101290.specs.Windows.{one_more}
 use Rattle.laws_view.specs.TimedPackets.{Timed, arrived, timed_from, timed_packets, waiting, with_one}
 use Rattle.laws_view.specs.TimedPackets as timed

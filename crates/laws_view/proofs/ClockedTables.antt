@@ -4,8 +4,8 @@ use Rattle.std.specs.Prelude.{slice_get}
 use Rattle.arrival.specs.declared.line.Line.{Line}
 use Rattle.arrival.specs.declared.arrival.Arrival.{Arrival}
 use Rattle.arrival.specs.declared.arrival.Arrival.TheVariants.{Unknown}
-use Rattle.clocked_packets.specs.Waiting.{QueueState, arrival_by, clock_by, last_arrival, no_packet, reference_in, released, still_wait, stepped}
-use Rattle.clocked_packets.specs.declared.packet_queue.ClockPid.{ClockPid}
+use Rattle.packet_times.specs.Waiting.{QueueState, arrival_by, clock_by, last_arrival, no_packet, reference_in, released, still_wait, stepped}
+use Rattle.packet_times.specs.declared.packet_queue.ClockPid.{ClockPid}
 use Rattle.laws_view.specs.TimedPackets.{Timed, arrived, arriving_so, timed_from, timed_packets, waiting, with_one}
 use Rattle.laws_view.proofs.Waits.{Comes, Waits, alone_waits, comes_with, one_waits, waits_first}
 use Rattle.es_events.specs.declared.view_options.ViewOptions.{ViewOptions}

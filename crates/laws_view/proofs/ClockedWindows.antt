@@ -4,7 +4,7 @@ use Rattle.std.specs.Prelude.{slice_get}
 use Rattle.std.proofs.lemmas.List.{length-append}
 use Rattle.clock27.specs.Units.{byte_ticks_at_1bps}
 use Rattle.arrival.specs.declared.arrival.Arrival.TheVariants.{Unknown}
-use Rattle.clocked_packets.specs.Waiting.{no_packet}
+use Rattle.packet_times.specs.Waiting.{no_packet}
 use Rattle.laws_view.specs.TimedPackets.{Timed}
 use Rattle.ts_watch.specs.Choices.{RequestView}
 use Rattle.ts_report.specs.ClockedViews.{clock_for}

@@ -18,9 +18,9 @@ use Rattle.arrival.specs.Arrivals.{lead_of}
 use Rattle.arrival.specs.declared.arrival.Arrival.{Arrival}
 use Rattle.arrival.specs.declared.arrival.Arrival.TheVariants.{Unknown, OnLines}
 use Rattle.arrival.specs.declared.arrival.ClockLines.{ClockLines}
-use Rattle.clocked_packets.specs.Waiting.{QueueState, arrival_by, begun_by, clock_by, is_of_clock, no_packet, reference_in, reference_read, released}
-use Rattle.clocked_packets.specs.Waiting.{still_wait}
-use Rattle.clocked_packets.specs.declared.packet_queue.ClockPid.{ClockPid}
+use Rattle.packet_times.specs.Waiting.{QueueState, arrival_by, begun_by, clock_by, is_of_clock, no_packet, reference_in, reference_read, released}
+use Rattle.packet_times.specs.Waiting.{still_wait}
+use Rattle.packet_times.specs.declared.packet_queue.ClockPid.{ClockPid}
 use Rattle.laws_view.specs.Leads.{AllLead, LeadLaw, payload_in, payload_size}
 use Rattle.laws_view.specs.TimedPackets.{Timed, arrived, arriving_so, timed_from, waiting, with_one}
 use Rattle.laws_view.proofs.Headers.{packet_rest, pcr_in}

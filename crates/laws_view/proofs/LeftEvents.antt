@@ -56,13 +56,13 @@ use Rattle.es_view.specs.EntryFrames.{leak_ended, part_of, payload_events, place
 use Rattle.es_view.specs.HeldEvents.{held_event, held_events, unit_event, unit_events}
 use Rattle.ts_tables.specs.NamedStreams.{NamedView}
 use Rattle.ts_watch.specs.Choices.{ChoiceView, takes}
-use Rattle.pid_times.specs.ClockWindows.{ClocksState}
-use Rattle.pid_times.specs.ClockWindows as clocks_by_window
+use Rattle.packet_times.specs.ClockWindows.{ClocksState}
+use Rattle.packet_times.specs.ClockWindows as clocks_by_window
 use Rattle.ts_watch.specs.PidLabels.{label_of}
 use Rattle.ts_watch.specs.StampPids.{said}
-use Rattle.pid_times.specs.Gaps.{GapState, gap_at}
-use Rattle.pid_times.specs.GapEvents.{gap_event_if}
-use Rattle.pid_times.specs.Watched.{is_watched}
+use Rattle.packet_times.specs.Gaps.{GapState, gap_at}
+use Rattle.packet_times.specs.GapEvents.{gap_event_if}
+use Rattle.packet_times.specs.Watched.{is_watched}
 use Rattle.ts_watch.specs.RuleEvents.{RuleState, gap_events, is_map, is_scrambled, packet_events, place_at as place_in, pts_events, scrambled_events, stamp_events}
 use Rattle.ts_watch.specs.SystemEvents.{excess_if}
 use Rattle.ts_watch.specs.SystemEvents as of_systems

@@ -48,9 +48,9 @@ use Rattle.ts_report.specs.StoppedClocks.{beyond_events, clock_event as stopped_
 use Rattle.ts_report.specs.StoppedClocks.{clock_events as stopped_clock_events, time_without}
 use Rattle.ts_report.specs.StoppedEvents.{errors_events, stopped_by, stopped_errors, stopped_events}
 use Rattle.ts_report.specs.StoppedPids.{stopped_pids_by, stopped_pids, stops_at}
-use Rattle.pid_times.specs.Gaps.{GapState}
-use Rattle.pid_times.specs.GapEvents.{watched_event}
-use Rattle.pid_times.specs.Watched.{is_watched}
+use Rattle.packet_times.specs.Gaps.{GapState}
+use Rattle.packet_times.specs.GapEvents.{watched_event}
+use Rattle.packet_times.specs.Watched.{is_watched}
 use Rattle.ts_watch.specs.SystemEvents.{event_if, system_event, system_events, under_way}
 use Rattle.ts_watch.specs.SystemEvents as systems
 use Rattle.ts_tables.specs.NamedStreams.{NamedView}

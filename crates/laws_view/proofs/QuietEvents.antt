@@ -50,8 +50,8 @@ use Rattle.ts_watch.specs.Choices.{ChoiceView, takes}
 use Rattle.ts_watch.specs.SystemEvents.{excess_events, excess_if}
 use Rattle.ts_watch.specs.SystemEvents as systems
 use Rattle.ts_watch.specs.WindowEvents.{window_event, window_events}
-use Rattle.pid_times.specs.ClockWindows.{ClocksState}
-use Rattle.pid_times.specs.ClockWindows as clock_windows
+use Rattle.packet_times.specs.ClockWindows.{ClocksState}
+use Rattle.packet_times.specs.ClockWindows as clock_windows
 use Rattle.ts_report.specs.StreamTables.{TableState, begin_events, begin_events_if, beginning, events_if, events_in, events_of, table_units}
 use Rattle.monitor.specs.declared.fault.StreamFault.{StreamFault}
 use Rattle.laws_view.specs.ViewedFaults.{fault_in}

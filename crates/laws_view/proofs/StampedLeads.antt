@@ -12,8 +12,8 @@ use Rattle.arrival.specs.declared.clock.TimedSample.{TimedSample}
 use Rattle.arrival.specs.declared.line.Line.{Line}
 use Rattle.arrival.specs.declared.arrival.Arrival.{Arrival}
 use Rattle.arrival.specs.Clock.{IsMoment}
-use Rattle.clocked_packets.specs.Waiting.{QueueState, arrival_by, begun_by, clock_by, given_sample, no_packet, released_with, still_wait}
-use Rattle.clocked_packets.specs.declared.packet_queue.ClockPid.{ClockPid}
+use Rattle.packet_times.specs.Waiting.{QueueState, arrival_by, begun_by, clock_by, given_sample, no_packet, released_with, still_wait}
+use Rattle.packet_times.specs.declared.packet_queue.ClockPid.{ClockPid}
 use Rattle.laws_view.specs.Leads.{AllLead, payload_in, payload_size}
 use Rattle.laws_view.specs.StampedPackets.{Stamped, StampedLeadLaw, stamped_from, with_stamped}
 use Rattle.laws_view.specs.TimedPackets.{Timed, arrived, arriving_so, waiting}

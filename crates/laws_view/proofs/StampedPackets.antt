@@ -13,8 +13,8 @@ use Rattle.arrival.specs.declared.line.Line.{Line}
 use Rattle.arrival.specs.declared.stamp_clock.StampValue.{StampValue}
 use Rattle.arrival.specs.declared.arrival.Arrival.{Arrival}
 use Rattle.tstd_rows.specs.TransportLaws.{Rises}
-use Rattle.clocked_packets.specs.Waiting.{QueueState, arrival_by, clock_by, given_sample, last_arrival, no_packet, released_with, still_wait}
-use Rattle.clocked_packets.specs.declared.packet_queue.ClockPid.{ClockPid}
+use Rattle.packet_times.specs.Waiting.{QueueState, arrival_by, clock_by, given_sample, last_arrival, no_packet, released_with, still_wait}
+use Rattle.packet_times.specs.declared.packet_queue.ClockPid.{ClockPid}
 use Rattle.laws_view.specs.StampedPackets.{Stamped, StampedOnceLaw, StampedRiseLaw, stamped_from, with_stamped}
 use Rattle.laws_view.specs.TimedPackets.{Timed, arrived, arriving_so, waiting}
 use Rattle.laws_view.specs.Times.{times_among}

@@ -12,7 +12,7 @@ use Rattle.arrival.specs.Arrivals.{has_times}
 use Rattle.arrival.specs.declared.arrival.Arrival.{Arrival}
 use Rattle.arrival.specs.declared.arrival.Arrival.TheVariants.{Unknown, OnLines}
 use Rattle.arrival.specs.declared.arrival.ClockLines.{ClockLines}
-use Rattle.clocked_packets.specs.Waiting.{QueueState, arrival_by, clock_by, last_arrival, no_packet, reference_in, released, still_wait}
+use Rattle.packet_times.specs.Waiting.{QueueState, arrival_by, clock_by, last_arrival, no_packet, reference_in, released, still_wait}
 use Rattle.laws_view.specs.TimedPackets.{EachOnceLaw, Timed, arrived, arriving_so, timed_from, waiting, with_one}
 use Rattle.laws_view.specs.Times.{RisesLaw, times_among}
 use Rattle.laws_view.proofs.ClockStates.{Meet, MeetAt, meets_itself}

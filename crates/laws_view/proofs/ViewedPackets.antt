@@ -41,16 +41,16 @@ use Rattle.ts_tables.specs.NamedStreams.{NamedView}
 use Rattle.ts_watch.specs.ClockEvents.{error_event, error_events, inaccuracy_events, report_events_if, variable_events}
 use Rattle.ts_watch.specs.RuleEvents.{RuleState, accuracy_events, is_map, is_scrambled, judge_taken, judged_events, packet_events, place_at}
 use Rattle.ts_watch.specs.RuleEvents.{gap_events, pts_events, scrambled_events, stamp_events, varies_now}
-use Rattle.pid_times.specs.Gaps.{GapState, gap_at}
-use Rattle.pid_times.specs.GapEvents.{gap_event_if}
-use Rattle.pid_times.specs.Watched.{is_watched}
+use Rattle.packet_times.specs.Gaps.{GapState, gap_at}
+use Rattle.packet_times.specs.GapEvents.{gap_event_if}
+use Rattle.packet_times.specs.Watched.{is_watched}
 use Rattle.ts_watch.specs.PidLabels.{label_of}
 use Rattle.ts_watch.specs.StampPids.{said}
 use Rattle.ts_watch.specs.TableEvents.{TimesState, begin_events, check_word_event, check_word_events, distance_events, error_events as table_error_events}
 use Rattle.ts_watch.specs.TableEvents.{finding_events, findings_events, is_bad, other_events, section_in, soon_events, whole_in, with_finding}
 use Rattle.ts_report.specs.Seen.{SeenState, cause_of, clock_errors, counter_events, counter_events_by, next_window, refused_events, report_on, timing_of}
 use Rattle.ts_report.specs.Seen.{window_ends}
-use Rattle.pid_times.specs.ClockWindows as clock_windows
+use Rattle.packet_times.specs.ClockWindows as clock_windows
 use Rattle.ts_watch.specs.WindowEvents.{window_events}
 use Rattle.ts_report.specs.StreamTables.{table_units}
 use Rattle.ts_report.specs.Views.{ViewState, all_window_events, buffer_events_at, clocked, events_read, last_window}

@@ -6,7 +6,7 @@ use Rattle.std.proofs.lemmas.List.{append-nil, length-append}
 use Rattle.ts_packet.specs.PidList.{cut_packets}
 use Rattle.arrival.specs.declared.arrival.Arrival.{Arrival}
 use Rattle.arrival.specs.declared.arrival.Arrival.TheVariants.{Unknown, AtRate, OnLines}
-use Rattle.clocked_packets.specs.Waiting.{QueueState, last_arrival, released, stepped, with_held}
+use Rattle.packet_times.specs.Waiting.{QueueState, last_arrival, released, stepped, with_held}
 use Rattle.tr101290.specs.Continuity.{errors_from}
 use Rattle.events.specs.declared.event.Event.{Event}
 use Rattle.ts_watch.specs.Choices.{RequestView}

@@ -13,9 +13,9 @@ use Rattle.arrival.specs.declared.clock.PcrSample.{PcrSample}
 use Rattle.arrival.specs.declared.line.Line.{Line}
 use Rattle.tr101290.specs.Samples.{is_near, pcr_sample, sample_in, sample_of, sample_with}
 use Rattle.arrival.specs.ArrivalClocks.{ArrivalClockState, line_to}
-use Rattle.clocked_packets.specs.Waiting.{QueueState, begun_by, clock_by, is_of_clock, line_by, no_packet, reference_in, reference_of, reference_read}
-use Rattle.clocked_packets.specs.Waiting.{still_wait}
-use Rattle.clocked_packets.specs.declared.packet_queue.ClockPid.{ClockPid}
+use Rattle.packet_times.specs.Waiting.{QueueState, begun_by, clock_by, is_of_clock, line_by, no_packet, reference_in, reference_of, reference_read}
+use Rattle.packet_times.specs.Waiting.{still_wait}
+use Rattle.packet_times.specs.declared.packet_queue.ClockPid.{ClockPid}
 use Rattle.laws_view.specs.TimedPackets.{waiting, with_one}
 use Rattle.laws_view.proofs.ClockStates.{IsAt, Meet, Next, Origin, IsStateAt, meets_itself, next, origin_before, state_later, state_without}
 

@@ -104,17 +104,17 @@ use Rattle.ts_services.specs.Services.{with_provider}
 use Rattle.ts_tables.specs.NamedStreams.{clock_by, clock_in, stream_by, stream_in, streams_by, taken_if as named_streams_taken_if}
 use Rattle.ts_tables.specs.ServiceNames.{begun as service_names_begun, known_name, name_among, name_of, some_text}
 use Rattle.ts_watch.specs.Choices.{chosen, given_or, is_among, rates_if}
-use Rattle.pid_times.specs.ClockDrifts.{ahead_of, behind_of, drift_after, drift_at, on_line}
+use Rattle.packet_times.specs.ClockDrifts.{ahead_of, behind_of, drift_after, drift_at, on_line}
 use Rattle.ts_watch.specs.ClockEvents.{error_events as clock_events_error_events, errors_in, report_events_if}
-use Rattle.pid_times.specs.ClockWindows.{counts_in as clock_windows_counts_in, counts_or_none, drift_or_none, taken as clock_windows_taken}
+use Rattle.packet_times.specs.ClockWindows.{counts_in as clock_windows_counts_in, counts_or_none, drift_or_none, taken as clock_windows_taken}
 use Rattle.ts_watch.specs.PidLabels.{by_program, in_programs, in_tables, label_by, of_clock, of_map}
 use Rattle.ts_report.specs.ReferenceEvents.{events_by, is_long}
 use Rattle.ts_watch.specs.RuleEvents.{accuracy_count, accuracy_events, cat_events, first_scrambled, is_map, judge_after, place_at as rule_events_place_at}
 use Rattle.ts_watch.specs.RuleEvents.{gap_events, gaps_by, pts_events, stamp_events, stamps_by}
 use Rattle.ts_report.specs.StoppedPids.{longest_seconds, stopped_pids_by}
-use Rattle.pid_times.specs.GapEvents.{gap_event_if}
-use Rattle.pid_times.specs.Gaps.{gap_after, places_in}
-use Rattle.pid_times.specs.Watched.{has_type, is_steady, is_typed, is_watched_by}
+use Rattle.packet_times.specs.GapEvents.{gap_event_if}
+use Rattle.packet_times.specs.Gaps.{gap_after, places_in}
+use Rattle.packet_times.specs.Watched.{has_type, is_steady, is_typed, is_watched_by}
 use Rattle.ts_watch.specs.StampPids.{said_by, said_of}
 use Rattle.ts_watch.specs.SectionPids.{access_pid, association_pids, descriptor_pid, map_pids as section_pids_map_pids, may_name}
 use Rattle.ts_watch.specs.TableNames.{all_marked, is_version, oldest_of, with_association, with_each, with_found, with_map as with_named_map, with_read}

@@ -7,8 +7,8 @@ use Rattle.arrival.specs.declared.line.Line.{Line}
 use Rattle.arrival.specs.Arrivals.{line_at}
 use Rattle.arrival.specs.declared.arrival.Arrival.TheVariants.{OnLines}
 use Rattle.arrival.specs.declared.arrival.ClockLines.{ClockLines}
-use Rattle.clocked_packets.specs.Waiting.{QueueState, most_waiting, no_packet, reference_in}
-use Rattle.clocked_packets.specs.declared.packet_queue.ClockPid.{ClockPid}
+use Rattle.packet_times.specs.Waiting.{QueueState, most_waiting, no_packet, reference_in}
+use Rattle.packet_times.specs.declared.packet_queue.ClockPid.{ClockPid}
 use Rattle.laws_view.specs.TimedPackets.{Timed, timed_packets, with_one}
 
 -- the state after these packets

@@ -2,7 +2,7 @@
 use Rattle.std.specs.Prelude.{◌≡◌, ℕ, ◌^◌, ◌<◌, ◌==◌, true, false, List, [], ◌∷◌, ◌++◌, length, slice_get, Option, Some, None}
 use Rattle.arrival.specs.declared.arrival.Arrival.{Arrival}
 use Rattle.arrival.specs.declared.arrival.Arrival.TheVariants.{Unknown}
-use Rattle.clocked_packets.specs.Waiting.{QueueState, last_arrival, released, stepped}
+use Rattle.packet_times.specs.Waiting.{QueueState, last_arrival, released, stepped}
 use Rattle.laws_view.specs.TimedPackets.{Timed, timed_packets}
 use Rattle.ts_watch.specs.Choices.{RequestView}
 use Rattle.ts_report.specs.ClockedViews.{ClockedState, clock_for}

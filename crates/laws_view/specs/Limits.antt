@@ -4,7 +4,7 @@ use Rattle.arrival.specs.Clock.{greatest_interval}
 use Rattle.tr101290.specs.Limits.{milliseconds}
 use Rattle.tr101290.specs.declared.distances.TheConstants.{LEAST_DISTANCE}
 use Rattle.tr101290.specs.declared.stamps.TheConstants.{GREATEST_PTS_INTERVAL}
-use Rattle.pid_times.specs.declared.gaps.TheConstants.{LONGEST_GAP, LONGEST_SECONDS}
+use Rattle.packet_times.specs.declared.gaps.TheConstants.{LONGEST_GAP, LONGEST_SECONDS}
 use Rattle.monitor.specs.declared.fault.Rule.{Rule}
 use Rattle.monitor.specs.declared.fault.Rule.TheVariants as rules
 use Rattle.monitor.specs.MonitorStates.{MonitorState, none_taken}

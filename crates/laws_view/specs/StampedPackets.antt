@@ -2,8 +2,8 @@
 use Rattle.std.specs.Prelude.{◌≡◌, ℕ, Bool, List, [], ◌∷◌, ◌++◌, length, map, All, Option}
 use Rattle.arrival.specs.StampClocks.{StampState, after, no_stamp, step_at}
 use Rattle.arrival.specs.declared.clock.PcrSample.{PcrSample}
-use Rattle.clocked_packets.specs.Waiting.{QueueState, last_arrival, no_packet, released_with, stepped_with, with_held}
-use Rattle.clocked_packets.specs.declared.packet_queue.ClockPid.{ClockPid}
+use Rattle.packet_times.specs.Waiting.{QueueState, last_arrival, no_packet, released_with, stepped_with, with_held}
+use Rattle.packet_times.specs.declared.packet_queue.ClockPid.{ClockPid}
 use Rattle.tstd_rows.specs.TransportLaws.{Rises}
 use Rattle.laws_view.specs.Leads.{AllLead}
 use Rattle.laws_view.specs.TimedPackets.{Timed, arrived, arriving_so, waiting}

@@ -4,8 +4,8 @@
 -- remaining packets arrive on the last line, extended.
 use Rattle.std.specs.Prelude.{◌≡◌, ℕ, List, [], ◌∷◌, ◌++◌, map, Option, Some, None}
 use Rattle.arrival.specs.declared.arrival.Arrival.{Arrival}
-use Rattle.clocked_packets.specs.Waiting.{QueueState, last_arrival, no_packet, released, stepped, with_held}
-use Rattle.clocked_packets.specs.declared.packet_queue.ClockPid.{ClockPid}
+use Rattle.packet_times.specs.Waiting.{QueueState, last_arrival, no_packet, released, stepped, with_held}
+use Rattle.packet_times.specs.declared.packet_queue.ClockPid.{ClockPid}
 
 -- a packet, and how its bytes arrive
 pub record Timed : Type 0 where

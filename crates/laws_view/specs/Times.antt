@@ -7,7 +7,7 @@ use Rattle.tstd_rows.specs.TransportLaws.{Rises}
 use Rattle.arrival.specs.Arrivals.{has_times, line_at}
 use Rattle.arrival.specs.declared.arrival.Arrival.{Arrival}
 use Rattle.arrival.specs.declared.arrival.Arrival.TheVariants.{Unknown, AtRate, OnLines}
-use Rattle.clocked_packets.specs.declared.packet_queue.ClockPid.{ClockPid}
+use Rattle.packet_times.specs.declared.packet_queue.ClockPid.{ClockPid}
 use Rattle.laws_view.specs.TimedPackets.{Timed, timed_packets}
 
 -- the time of byte i, on its own line; before a line is known it has no time

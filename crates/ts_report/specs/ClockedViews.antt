@@ -3,9 +3,9 @@ use Rattle.std.specs.Prelude.{◌≡◌, ℕ, Bool, List, [], ◌∷◌, ◌++�
 use Rattle.arrival.specs.declared.arrival.Arrival.{Arrival}
 use Rattle.arrival.specs.declared.arrival.Arrival.TheVariants.{Unknown, AtRate, OnLines}
 use Rattle.arrival.specs.declared.clock.PcrSample.{PcrSample}
-use Rattle.clocked_packets.specs.Waiting.{QueueState, last_arrival, no_packet, released, released_with, stepped, stepped_with, with_held}
-use Rattle.clocked_packets.specs.declared.packet_queue.ClockPid.{ClockPid}
-use Rattle.clocked_packets.specs.declared.packet_queue.ClockPid.TheVariants.{OfFirst, OfProgram}
+use Rattle.packet_times.specs.Waiting.{QueueState, last_arrival, no_packet, released, released_with, stepped, stepped_with, with_held}
+use Rattle.packet_times.specs.declared.packet_queue.ClockPid.{ClockPid}
+use Rattle.packet_times.specs.declared.packet_queue.ClockPid.TheVariants.{OfFirst, OfProgram}
 use Rattle.events.specs.declared.event.Event.{Event}
 use Rattle.ts_watch.specs.Choices.{RequestView}
 use Rattle.ts_report.specs.Moments.{has_moments, moment_at}

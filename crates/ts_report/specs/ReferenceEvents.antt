@@ -9,7 +9,7 @@ use Rattle.tr101290.specs.Packets.{missing_pids, unreferenced_pids}
 use Rattle.tr101290.specs.declared.intervals.TableTiming.{TableTiming}
 use Rattle.events.specs.declared.event.Event.{Event}
 use Rattle.events.specs.declared.event.Event.TheVariants.{Unreferenced, Missing}
-use Rattle.pid_times.specs.declared.gaps.TheConstants.{LONGEST_GAP}
+use Rattle.packet_times.specs.declared.gaps.TheConstants.{LONGEST_GAP}
 use Rattle.ts_watch.specs.TableEvents.{TablesState}
 use Rattle.ts_watch.specs.TableNames.{NamesState, has_name, is_since, oldest}
 

@@ -33,8 +33,8 @@ use Rattle.es_events.specs.declared.view_options.ViewOptions.{ViewOptions}
 use Rattle.es_events.specs.Clocks.{ClockEntries, clocks_after, no_clocks}
 use Rattle.ts_report.specs.Moments.{moment_at, reference_moment}
 use Rattle.ts_watch.specs.ClockEvents.{clock_events, errors_in, report_events_if}
-use Rattle.pid_times.specs.ClockWindows.{ClocksState}
-use Rattle.pid_times.specs.ClockWindows as clocks_by_window
+use Rattle.packet_times.specs.ClockWindows.{ClocksState}
+use Rattle.packet_times.specs.ClockWindows as clocks_by_window
 use Rattle.ts_watch.specs.Choices.{ChoiceView}
 use Rattle.ts_report.specs.AbsentTables.{absent_events}
 use Rattle.ts_report.specs.ReferenceEvents.{is_long, known_after, reference_events}

@@ -7,8 +7,8 @@ use Rattle.ts_tables.specs.NamedStreams.{NamedView}
 use Rattle.events.specs.declared.event.ClockFault.{ClockFault}
 use Rattle.events.specs.declared.event.Event.{Event}
 use Rattle.es_events.specs.declared.view_options.ViewOptions.{ViewOptions}
-use Rattle.pid_times.specs.Gaps.{GapState, stopped}
-use Rattle.pid_times.specs.GapEvents.{gap_events}
+use Rattle.packet_times.specs.Gaps.{GapState, stopped}
+use Rattle.packet_times.specs.GapEvents.{gap_events}
 use Rattle.ts_report.specs.ReferenceEvents.{is_named}
 use Rattle.ts_watch.specs.RuleEvents.{place_at}
 use Rattle.ts_watch.specs.TableNames.{NamesState, oldest}

@@ -1,7 +1,7 @@
 //! A stream, packet by packet, whose packets wait until it is known when they arrive.
 ghost use Rattle.std.specs.Prelude.{◌≡◌, ◌++◌, [], IfOk, IfSome, OnOk, false};
 ghost use Rattle.arrival.specs.Clock.{IsInRange};
-ghost use Rattle.clocked_packets.specs.Waiting.{last_arrival, released, released_with, stepped, stepped_with, with_held};
+ghost use Rattle.packet_times.specs.Waiting.{last_arrival, released, released_with, stepped, stepped_with, with_held};
 ghost use Rattle.ts_report.specs.ClockedViews as spec;
 ghost use Rattle.ts_report.specs.ClockedViews.{ClockedState, IsClocked};
 ghost use Rattle.ts_report.specs.Crowding.{is_crowded};
@@ -10,8 +10,8 @@ ghost use Rattle.ts_report.specs.Views.{IsView, ViewState};
 use crate::moments::{has_moments, moment_at};
 use crate::view::View;
 use arrival::{Arrival, PcrSample};
-use clocked_packets::{ClockPid, PacketQueue};
 use events::Event;
+use packet_times::{ClockPid, PacketQueue};
 use std::alloc::{AllocError, Global};
 use ts_watch::view_request::ViewRequest;
 

@@ -3,7 +3,7 @@ ghost use Rattle.std.specs.Prelude.{◌≡◌, ◌++◌, OnOk, filter, is_some};
 ghost use Rattle.ts_report.specs.ReferenceEvents as spec;
 
 use events::Event;
-use pid_times::LONGEST_GAP;
+use packet_times::LONGEST_GAP;
 use std::alloc::{AllocError, Global};
 use tr101290::{
     PidWindow, TableTiming, missing_pids, referenced_pids, time_between, unreferenced_pids,

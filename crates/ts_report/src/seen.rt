@@ -23,7 +23,7 @@ use arrival::Arrival;
 use es_events::clocks::Clocks;
 use es_events::view_options::ViewOptions;
 use events::{Event, RefusalCause, RefusedPacket, ReportEnd, UnclockedPackets};
-use pid_times::windows::ClockWindows;
+use packet_times::windows::ClockWindows;
 use std::alloc::{AllocError, Global};
 use std::marker::Model;
 use system_tables::SystemTables;
@@ -258,7 +258,7 @@ impl Seen {
     }
 
     // Returns the same, if the packet has a clock reference.
-    #[tactic(auto, unfolding(tr101290::specs::PidWatches::taken_if, tr101290::specs::PidWatches::report_if, ts_watch::specs::ClockEvents::report_events_if, ts_watch::specs::ClockEvents::errors_in, ts_watch::specs::RuleEvents::judge_after, ts_watch::specs::RuleEvents::accuracy_events, ts_watch::specs::RuleEvents::accuracy_count, pid_times::specs::ClockWindows::taken))]
+    #[tactic(auto, unfolding(tr101290::specs::PidWatches::taken_if, tr101290::specs::PidWatches::report_if, ts_watch::specs::ClockEvents::report_events_if, ts_watch::specs::ClockEvents::errors_in, ts_watch::specs::RuleEvents::judge_after, ts_watch::specs::RuleEvents::accuracy_events, ts_watch::specs::RuleEvents::accuracy_count, packet_times::specs::ClockWindows::taken))]
     fn take_reference_if(
         &mut self,
         packet: &Packet<'_>,

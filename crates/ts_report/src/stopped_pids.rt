@@ -5,7 +5,7 @@ ghost use Rattle.ts_report.specs.StoppedPids as spec;
 use arrival::Arrival;
 use es_events::view_options::ViewOptions;
 use events::{ClockFault, Event};
-use pid_times::{LONGEST_SECONDS, PidGaps, push_gaps};
+use packet_times::{LONGEST_SECONDS, PidGaps, push_gaps};
 use std::alloc::{AllocError, Global};
 use ts_tables::NamedStreams;
 use ts_watch::rule_watch::place_at;

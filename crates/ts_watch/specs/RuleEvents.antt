@@ -22,9 +22,9 @@ use Rattle.tr101290.specs.declared.stamps.PtsError.{PtsError}
 use Rattle.tr101290.specs.declared.watch.PcrTiming.{PcrTiming}
 use Rattle.tr101290.specs.declared.watch.PcrTiming.TheVariants.{ConstantRate, References, Stamps}
 use Rattle.ts_packet.specs.Views.{PacketView}
-use Rattle.pid_times.specs.Gaps.{GapState, gap_at, no_packet}
-use Rattle.pid_times.specs.Gaps as gaps_of
-use Rattle.pid_times.specs.GapEvents.{gap_event_if}
+use Rattle.packet_times.specs.Gaps.{GapState, gap_at, no_packet}
+use Rattle.packet_times.specs.Gaps as gaps_of
+use Rattle.packet_times.specs.GapEvents.{gap_event_if}
 use Rattle.ts_watch.specs.ClockEvents.{inaccuracy_events, variable_events}
 use Rattle.es_events.specs.Clocks.{first_byte}
 use Rattle.ts_watch.specs.PidLabels.{label_of}

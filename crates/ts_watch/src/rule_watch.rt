@@ -9,7 +9,7 @@ use crate::stamp_pids::said;
 use arrival::Arrival;
 use es_events::clocks::first_byte;
 use events::{ClockFault, Event, FaultKind, PidName, RuleEvent, ScrambledPacket};
-use pid_times::{PidGaps, push_gap_if};
+use packet_times::{PidGaps, push_gap_if};
 use std::alloc::{AllocError, Global};
 use std::marker::Model;
 use tr101290::{PcrReport, PcrTiming, PidError, PtsError, PtsWatch, RateJudge, TableTiming};

@@ -1,0 +1,4 @@
+mod Places
+mod ClockCounts
+mod ClockDrifts
+mod Fields

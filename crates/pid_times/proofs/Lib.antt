@@ -1,3 +1,0 @@
-mod Places
-mod ClockCounts
-mod ClockDrifts

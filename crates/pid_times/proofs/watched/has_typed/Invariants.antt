@@ -1,8 +1,0 @@
-use Rattle.std.proofs.Common.{◌≡◌}
-use Rattle.std.specs.List.{list_any}
-use Rattle.descriptor_loops.specs.Descriptors.{descriptors_of, descriptors_in}
-use Rattle.pid_times.specs.Watched.{is_typed}
-use Rattle.pid_times.proofs.watched.has_typed.Given as goal
-
-abbrev pub invariant-loop-descriptor : goal.invariant-loop-descriptor
-invariant-loop-descriptor l = list_any is_typed (descriptors_of l.descriptor-iterator) ≡ list_any is_typed (descriptors_in l.descriptors)
