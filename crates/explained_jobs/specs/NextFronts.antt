@@ -11,7 +11,8 @@ use Rattle.changed_texts.specs.Reading.{description_in}
 use Rattle.line_ups.specs.Faults.{description_fault, line_up_fault}
 use Rattle.line_ups.specs.declared.fault.LineUpFault.{LineUpFault}
 use Rattle.kept_plans.specs.Kept.{IsInTheWay}
-use Rattle.checked_jobs.specs.Jobs.{JobFaultView, JobView, job_of, parts_of}
+use Rattle.job_parts.specs.Parts.{parts_of}
+use Rattle.checked_jobs.specs.Jobs.{JobFaultView, JobView, job_of}
 use Rattle.explained_jobs.specs.JobWords.{description_part}
 use Rattle.explained_jobs.specs.LineUpWords.{line_up_words}
 use Rattle.explained_jobs.specs.TextAnswers.{refused_words}
