@@ -1,5 +1,5 @@
 -- Records that arrive one after another, and the lines for refused records
-use Rattle.std.proofs.Common.{◌≡◌, ◌≤◌, ◌<◌, ◌+◌, ◌||◌, ℕ, Bool, true, false, nat_lt, List, [], ◌∷◌, ◌++◌, length, Option, Some, None, Ok, Err, refl}
+use Rattle.std.proofs.Common.{◌≡◌, ◌≤◌, ◌+◌, ◌||◌, ℕ, Bool, true, false, nat_lt, List, [], ◌∷◌, ◌++◌, length, Option, Some, None, Ok, Err, refl}
 use Rattle.std.proofs.Common.{sym, ap, ◌∙◌, subst, arith, below_none, length-append, inl, inr}
 use Rattle.std.proofs.lemmas.Bool.{false≢true, lt-ltb}
 use Rattle.devices.specs.Devices.{Device, Port, HasFailed, IsClean, between}
@@ -11,10 +11,10 @@ use Rattle.on_air.specs.declared.refusals.AirRefusal.{AirRefusal}
 use Rattle.on_air.specs.declared.answers.Heard.TheVariants.{Refused, Changed, LinedUp, Ended}
 use Rattle.on_air.specs.declared.answers.Ending.{Ending}
 use Rattle.on_air.specs.declared.answers.Ending.TheVariants.{Input, Unread, Slots, Records, TextsMemory}
-use Rattle.on_air.specs.Airing.{Run, Air, caught_up, silence, limit_of, texts_now}
+use Rattle.on_air.specs.Airing.{Run, Air, caught_up, silence, texts_now}
 use Rattle.on_air.specs.AirStates.{AirState, IsOnAir}
 use Rattle.on_air.specs.Courses.{Course, at_begin, heard}
-use Rattle.on_air.specs.Hearing.{Fails, HeardOn, HearsOn, IsOn, NamesDevice}
+use Rattle.on_air.specs.Hearing.{Fails, HasMore, HeardOn, HearsOn, IsOn, NamesDevice}
 use Rattle.explained_jobs.specs.declared.unit_limits.UnitLimits.{UnitLimits}
 use Rattle.description_parts.specs.Described.{Described}
 use Rattle.tsair_cli.specs.declared.repeats.Repeats.{Repeats}
@@ -25,7 +25,7 @@ use Rattle.tsair_cli.specs.HeardRecords.{changes_of, has_refused, limits_in, lin
 use Rattle.tsair_cli.specs.States.{KeepsState, Saving}
 use Rattle.tsair_cli.proofs.ReportedLines.{reported_on, one_reported, reported_none, texts_same, texts_more, limits_same, ReportsLines, lines_reported}
 use Rattle.tsair_cli.proofs.ReportedLines.{change_aside, lines_more, repeats_more, lines_all, changed_same, changed_last, changed_more, changes_with}
-use Rattle.tsair_cli.proofs.ReportedLines.{changes_over, lost_same, lost_last, lost_more}
+use Rattle.tsair_cli.proofs.ReportedLines.{changes_are, changes_over, lost_same, lost_last, lost_more}
 
 some_refused : (old new : List (ℕ × AirRefusal)) (refused : ℕ × AirRefusal) → new ≡ old ++ (refused ∷ []) → nat_lt 0 (length new) ≡ true
 some_refused old new refused is =
@@ -76,12 +76,12 @@ first saving run origin start now before after texts lost repeats limits s h are
     heard_is = record {
       count = 0;
       heard_is = record {
-        known = λ xs e. (refl, e, λ m none. below_none (λ i. (heard run i xs).air.slots < limit_of run.terms) m none);
+        known = λ xs e. (refl, e, λ m none. below_none (λ i. HasMore (heard run i xs)) m none);
         some = λ rest. record {
           bytes = rest;
           led = refl;
           rest_is = refl;
-          slots_left = λ m none. below_none (λ i. (heard run i rest).air.slots < limit_of run.terms) m none;
+          slots_left = λ m none. below_none (λ i. HasMore (heard run i rest)) m none;
         };
       };
     };
