@@ -75,6 +75,7 @@ run_ended saving o run input begin mid end before so_far after why s t records s
       reader = e.reader;
       written = whole_output begin.bytes end.bytes t.packets (output_at (course_ended e.airs.came)) none h.output;
       clean = clean ∙ e.clean;
+      line_ups = h.line_ups;
       headline = h.headline;
       reports = subst (λ (m : ℕ). Reports (between so_far after) (end_outcome o.terms.slots m why).report) count r;
       status_is = st ∙ ap (λ (m : ℕ). (end_outcome o.terms.slots m why).status) count;

@@ -16,7 +16,7 @@ use Rattle.checked_jobs.specs.Jobs.{JobView, job_of}
 use Rattle.checked_jobs.specs.JobSchedules.{schedule_by}
 use Rattle.on_air.specs.declared.answers.Ending.{Ending}
 use Rattle.on_air.specs.Airing.{Run, ended}
-use Rattle.on_air.specs.AirStates.{KeepsHeadline, Promises, run_with}
+use Rattle.on_air.specs.AirStates.{KeepsHeadline, LineUpsFit, Promises, run_with}
 use Rattle.on_air.specs.Courses.{Course, course_ended, output_at}
 use Rattle.on_air.specs.Hearing.{FailsIn, HeardOn}
 use Rattle.tsair_cli.specs.declared.arguments.AirOptions.{AirOptions}
@@ -70,6 +70,7 @@ pub record EndsRun (saving : Saving) (o : AirOptions) (run : Run) (input output 
   pub reader : NamesReader input end.why
   pub written : Appends output.before.bytes output.after.bytes (output_at (course_ended airs.came))
   pub clean : IsClean output
+  pub line_ups : LineUpsFit airs.came.run (ended airs.came.run airs.came.air)
   pub headline : KeepsHeadline airs.came.run (ended airs.came.run airs.came.air)
   pub reports : Reports (between so_far faults.after) (end_outcome o.terms.slots airs.came.air.records end).report
   pub status_is : status ≡ (end_outcome o.terms.slots airs.came.air.records end).status
