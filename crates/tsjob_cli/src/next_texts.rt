@@ -39,7 +39,6 @@ fn answer_to(alloc: Global, job: &[u8], texts: &[u8]) -> Result<JobOutcome, Allo
 }
 
 // Writes the record of texts to the file that is asked for, whole or not at all; returns the status.
-#[tactic(auto, using(crate::proofs::NextTexts::saved))]
 fn save_record<F: OutputFiles, E: Sink>(
     alloc: Global,
     files: &F,
