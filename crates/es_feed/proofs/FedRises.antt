@@ -18,8 +18,7 @@ use Rattle.fed_streams.specs.Clocks.{report_of}
 use Rattle.es_feed.specs.EachStream.{RiseFrom, fed_if, units_fed}
 use Rattle.fed_streams.specs.Feeding.{Fed, FedStreamView, FeedView, after_at, after_found, after_one, after_place, ahead_of, at_moment, base_of, before_with}
 use Rattle.fed_streams.specs.Feeding.{due_of, fed_at, fed_by, fed_ends, fed_last, fed_one, fed_place, fed_with, greatest_of, last_dts, after_unit, fed_unit}
-use Rattle.fed_streams.specs.Feeding.{map_fed, origin_after, other_fed, packet_fault, packet_fed, place_from, lacks_clock, restart_in, seen_in}
-use Rattle.fed_streams.specs.Feeding.{seen_place, shown_fed, stamp_in}
+use Rattle.fed_streams.specs.Feeding.{map_fed, origin_after, other_fed, packet_fault, packet_fed, place_from, restart_fed, restart_in, seen_in, seen_place}
 use Rattle.fed_streams.specs.Feeding.{stream_with, reported_by, reported_fed, reported_first, fault_fed, unless_ahead, unless_fault, watched, whole_by}
 use Rattle.fed_streams.specs.Feeding.{greatest_pts_limit}
 use Rattle.fed_streams.specs.Maps.{clock_pid, new_map, other_stream}
@@ -37,7 +36,7 @@ use Rattle.packet_pcr.specs.declared.pcr_reading.FoundPcr.{FoundPcr}
 use Rattle.fed_streams.specs.declared.origin.Origin.{Origin}
 use Rattle.es_feed.proofs.FedEach.{Event, Finds, Shows, after_event, fed_event, fed_events}
 use Rattle.es_feed.proofs.FedSteps.{given_others, own_unit}
-use Rattle.es_feed.proofs.Restarts.{lacks_on, reported_shown}
+use Rattle.es_feed.proofs.Restarts.{reported_restart}
 use Rattle.fed_streams.specs.Restarts.{restart_of}
 use Rattle.fed_streams.proofs.ListedStreams.{AreKeys, Key, get_set_other, get_set_same, key, key_at, keys, passed, placed, set_keys}
 use Rattle.es_moments.specs.WireUnits.{CarriedUnit}
@@ -208,11 +207,10 @@ between n before unit after one two =
 
 finding_steps : (feed : FeedView) (f : FindingView) (place : Option ℕ) → AreKeys (keys feed.streams) → place_from f.pid 0 feed.streams ≡ place →
     Steps feed (after_one feed f) (fed_one feed f)
-unfolding fed_place fed_at after_place after_at seen_place restart_of
+unfolding fed_place fed_at after_place after_at seen_place restart_of restart_fed
 finding_steps feed f None are at =
     let reported = reported_first feed f in
-    let parts : fed_one feed f ≡ reported ++ [] =
-    rw at (ap (λ (x : Option Fed). reported ++ option_to_list x) (lacks_on (lacks_clock (watched feed f)))) in
+    let parts : fed_one feed f ≡ reported ++ [] = rw at refl in
     let goes : (after_one feed f).streams ≡ feed.streams = rw at refl in
     stays feed (after_one feed f) (fed_one feed f) goes
     (λ n few. ap (λ (xs : List Fed). units_fed n xs) (parts ∙ append-nil reported)
@@ -225,15 +223,13 @@ finding_steps feed f (Some j) are at =
     let own_reports = option_to_list (reported_fed s f) in
     let one = option_to_list (fed_with (due_of feed) feed.origin s.number s.before w) in
     let again = restart_in (after_unit (watched feed f) f) (seen_in (watched feed f) f) in
-    let lacked = lacks_clock (watched feed f) in
-    let lacks = lacks_clock (after_unit (watched feed f) f) in
-    let tail = option_to_list (shown_fed again lacked lacks) in
+    let tail = option_to_list (restart_fed again) in
     let here : fed_unit (watched feed f) f ≡ one ++ own_reports = rw (at, p.at) refl in
     let parts : fed_one feed f ≡ reported ++ (one ++ (own_reports ++ tail)) = ap (λ (xs : List Fed). reported ++ (xs ++ tail)) here
     ∙ ap (λ (xs : List Fed). reported ++ xs) (append_assoc one own_reports tail) in
     let ends : (n : ℕ) → n < 255 → units_fed n (own_reports ++ tail) ≡ [] = λ n few.
     flat_map-append (fed_if n) own_reports tail ∙ ap (λ (us : List AccessUnit). us ++ units_fed n tail) (fault_unitless s.number (reported_by s f) n few)
-    ∙ reported_shown again lacked lacks n in
+    ∙ reported_restart again n in
     gives_one feed (after_one feed f) (fed_one feed f) j s (after_found s f) w are (record {
       due = due_of feed;
       origin = feed.origin;
@@ -323,8 +319,8 @@ shown_steps : (feed : FeedView) (pcr : FoundPcr) → AreKeys (keys feed.streams)
 shown_steps feed pcr are =
     let g = with_shown feed pcr in
     let late = late_after feed pcr in
-    after_reported feed g (after_late g late) (option_to_list (jump_fed (report_of (step_in feed pcr) (stamp_in feed) feed.shown pcr))) (fed_late g late) refl
-    (reported_jump (report_of (step_in feed pcr) (stamp_in feed) feed.shown pcr))
+    after_reported feed g (after_late g late) (option_to_list (jump_fed (report_of (step_in feed pcr) feed.shown pcr))) (fed_late g late) refl
+    (reported_jump (report_of (step_in feed pcr) feed.shown pcr))
     (late_steps g late are)
 
 own_steps : (feed : FeedView) (pcr : FoundPcr) (on : Bool) → AreKeys (keys feed.streams) →

@@ -16,8 +16,7 @@ use Rattle.fed_streams.specs.Clocks.{report_of}
 use Rattle.es_feed.specs.EachStream.{fed_if, has_fault, have_fault, units_fed}
 use Rattle.fed_streams.specs.Feeding.{Fed, FedStreamView, FeedView, after_at, after_found, after_one, after_place, ahead_of, at_moment, base_by, after_unit}
 use Rattle.fed_streams.specs.Feeding.{base_of, before_with, due_of, fed_at, fed_by, fed_one, fed_place, fed_unit, fed_with, feed_with, greatest_of, last_dts}
-use Rattle.fed_streams.specs.Feeding.{map_fed, origin_after, other_fed, packet_fault, packet_fed, place_from, fed_shown_by, lacks_clock, restart_in}
-use Rattle.fed_streams.specs.Feeding.{seen_in, seen_place, stamp_in}
+use Rattle.fed_streams.specs.Feeding.{map_fed, origin_after, other_fed, packet_fault, packet_fed, place_from, restart_fed, restart_in, seen_in, seen_place}
 use Rattle.fed_streams.specs.Feeding.{stream_with, reported_by, reported_fed, reported_first, fault_fed, unless_ahead, unless_fault, watched, whole_by}
 use Rattle.fed_streams.specs.Feeding.{greatest_pts_limit}
 use Rattle.fed_streams.specs.Maps.{clock_pid, new_map, other_stream}
@@ -39,7 +38,7 @@ use Rattle.fed_streams.specs.declared.origin.Origin.{Origin}
 use Rattle.es_feed.proofs.OneStream.{base_first, base_fixed, fixed, origin_fixed, origin_first}
 use Rattle.fed_streams.proofs.ListedStreams.{passed}
 pub use Rattle.es_feed.proofs.Restarts.{fault_split}
-use Rattle.es_feed.proofs.Restarts.{lacks_on, not_shown}
+use Rattle.es_feed.proofs.Restarts.{not_restarted}
 use Rattle.es_feed.proofs.ClockSteps.{goes_on, no_time, stepped_is}
 use Rattle.es_moments.specs.WireUnits.{CarriedUnit}
 
@@ -96,9 +95,9 @@ after_here : (feed : FeedView) (f : FindingView) (j : ℕ) (s : FedStreamView) �
 unfolding after_place after_at
 after_here feed f j s at is = rw (at, is) refl
 
--- What a finding shows after its unit
-abbrev again_by : FeedView → FindingView → List Fed
-again_by feed f = option_to_list (fed_shown_by (watched feed f) f)
+nothing_again : option_to_list (restart_fed None) ≡ []
+unfolding restart_fed
+nothing_again = refl
 
 same_origin : (o : Origin) (r : Option Restart) → r ≡ None → origin_by o r ≡ o
 unfolding origin_by
@@ -111,15 +110,14 @@ finding_gives feed f j s at is none =
     let change = reported_first feed f in
     let unit = option_to_list (fed_by (due_of feed) feed.origin s (whole_by s f)) in
     let reported = option_to_list (reported_fed s f) in
-    let again = again_by feed f in
+    let again = option_to_list (restart_fed (shows feed f)) in
     let parts : fed_one feed f ≡ change ++ ((unit ++ reported) ++ again) = ap (λ (xs : List Fed). change ++ (xs ++ again)) (fed_here feed f j s at is) in
     let clear : have_fault (change ++ ((unit ++ reported) ++ again)) ≡ false = ap have_fault (sym parts) ∙ none in
     let no_map : change ≡ [] = not_reported_first (other_stream f feed.maps) (new_map f feed.maps) (packet_fault f) ((unit ++ reported) ++ again) clear in
     let two = fault_split (unit ++ reported) again (fault_split change ((unit ++ reported) ++ again) clear).1 in
     let no_reported : reported ≡ [] = not_reported s.number (reported_by s f) (fault_split unit reported two.0).1 in
-    let calm = not_shown (shows feed f) (lacks_clock (watched feed f)) (lacks_clock (after_unit (watched feed f) f)) two.1 in
-    let no_restart : shows feed f ≡ None = calm.0 in
-    let no_again : again ≡ [] = calm.1 in
+    let no_restart : shows feed f ≡ None = not_restarted (shows feed f) two.1 in
+    let no_again : again ≡ [] = ap (λ (r : Option Restart). option_to_list (restart_fed r)) no_restart ∙ nothing_again in
     let goes = after_here feed f j s at is in
     record {
       due = due_of feed;
@@ -136,8 +134,8 @@ finding_gives feed f j s at is none =
     }
 
 fed_nowhere : (feed : FeedView) (f : FindingView) → place_from f.pid 0 feed.streams ≡ None → fed_one feed f ≡ reported_first feed f ++ []
-unfolding fed_place after_place seen_place restart_of
-fed_nowhere feed f none = rw none (ap (λ (x : Option Fed). reported_first feed f ++ option_to_list x) (lacks_on (lacks_clock (watched feed f))))
+unfolding fed_place seen_place restart_of restart_fed
+fed_nowhere feed f none = rw none refl
 
 after_nowhere : (feed : FeedView) (f : FindingView) → place_from f.pid 0 feed.streams ≡ None → after_one feed f ≡ watched feed f
 unfolding after_place seen_place restart_of origin_by fallen_after
@@ -275,8 +273,8 @@ shown_out : (feed : FeedView) (pcr : FoundPcr) → feed.origin.doubtful ≡ None
 shown_out feed pcr sure none =
     let g = with_shown feed pcr in
     let late = late_after feed pcr in
-    let jump = option_to_list (jump_fed (report_of (step_in feed pcr) (stamp_in feed) feed.shown pcr)) in
-    let stays = goes_on (stamp_in feed) feed.shown feed.earlier feed.origin.doubtful pcr sure (fault_split jump (fed_late g late) none).0 in
+    let jump = option_to_list (jump_fed (report_of (step_in feed pcr) feed.shown pcr)) in
+    let stays = goes_on feed.shown feed.earlier feed.origin.doubtful pcr sure (fault_split jump (fed_late g late) none).0 in
     same_out feed g (after_late g late) (fed_late g late) (fed_shown feed pcr) refl
     (stepped_is (step_in feed pcr) feed.origin feed.shown (greatest_of feed + jump_pause) pcr stays.0 sure) refl
     (ap (λ (xs : List Fed). xs ++ fed_late g late) stays.1)

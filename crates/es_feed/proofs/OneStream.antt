@@ -28,9 +28,8 @@ use Rattle.fed_streams.specs.Feeding.{reported_fed, fault_fed, fault_by, unit_af
 use Rattle.fed_streams.specs.Feeding.{follow_after, made_by, place_by, same_by, greatest_if, place_from, after_at, fed_at, after_place, fed_place, after_unit}
 use Rattle.fed_streams.specs.Feeding.{fed_unit, map_fed, after_one}
 use Rattle.fed_streams.specs.Feeding.{fed_one, after_all, fed_all, fed_last, fed_ends, fed_to_end, greatest_of, is_fallen, other_fed, packet_fault, packet_fed}
-use Rattle.fed_streams.specs.Feeding.{lacks_clock, restart_in, restarted, seen_by, seen_in, seen_of, seen_place, shown_fed, watched, greatest_pts_limit}
+use Rattle.fed_streams.specs.Feeding.{restart_fed, restart_in, restarted, seen_by, seen_in, seen_of, seen_place, watched, greatest_pts_limit}
 use Rattle.es_feed.specs.EachStream.{has_fault, have_fault}
-use Rattle.fed_streams.specs.Clocks.{is_missing}
 use Rattle.fed_streams.specs.Restarts.{fallen_after, origin_by, restart_of}
 use Rattle.fed_streams.specs.declared.feed_fault.PacketFault.{PacketFault}
 use Rattle.fed_streams.specs.declared.feed_fault.Restart.{Restart}
@@ -162,8 +161,8 @@ reported_if false s f = []
 single_fed_by : (e : ℕ) (o : Origin) (s : FedStreamView) (f : FindingView) (own : Bool) → has_pid s.units.pid f.pid ≡ own →
     is_fallen (fed_by (due_from e) o s (whole_by s f)) ≡ false →
     fed_one (single e o s) f ≡ option_to_list (packet_fed (packet_fault f)) ++ (option_to_list (fed_by (due_from e) o s (whole_by s f)) ++ reported_if own s f)
-unfolding map_from set_place change_place map_fed place_from fed_place fed_at fed_with made_whole set_apart greatest_if seen_place restart_of shown_fed
-    other_place other_fed reported_if after_place after_at is_missing
+unfolding map_from set_place change_place map_fed place_from fed_place fed_at fed_with made_whole set_apart greatest_if seen_place restart_of restart_fed
+    other_place other_fed reported_if
 single_fed_by e o s f true own quiet =
     let unit = option_to_list (fed_by (due_from e) o s (whole_by s f)) in
     let reported = option_to_list (reported_fed s f) in
@@ -173,9 +172,7 @@ single_fed_by e o s f true own quiet =
     let calm : restart_in g (seen_in (watched (single e o s) f) f) ≡ None =
     ap (λ (seen : Seen). restart_in g seen) (single_seen e o s f own)
     ∙ no_restart (greatest_of g) g.fallen (start_of (whole_by s f)) (fed_by (due_from e) o s (whole_by s f)) quiet in
-    let clocked : lacks_clock g ≡ false = rw own refl in
-    ap₂ (λ (xs : List Fed) (r : Option Restart). packet ++ (xs ++ option_to_list (shown_fed r false (lacks_clock g)))) here calm
-    ∙ ap (λ (lacks : Bool). packet ++ ((unit ++ reported) ++ option_to_list (shown_fed None false lacks))) clocked
+    ap₂ (λ (xs : List Fed) (r : Option Restart). packet ++ (xs ++ option_to_list (restart_fed r))) here calm
     ∙ ap (λ (xs : List Fed). packet ++ xs) (append-nil (unit ++ reported))
 single_fed_by e o s f false own quiet = rw (own, other_role s.units.pid f own) refl
 

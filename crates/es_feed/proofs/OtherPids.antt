@@ -26,8 +26,7 @@ use Rattle.packet_pcr.specs.declared.pcr_reading.FoundPcr.{FoundPcr}
 use Rattle.fed_streams.specs.declared.restart.Seen.TheVariants.{NoUnit}
 use Rattle.packet_pcr.specs.PacketPcr.{is_on}
 use Rattle.fed_streams.specs.Feeding.{Fed, FedStreamView, FeedView, after_all, after_at, after_one, after_place, fed_all, fed_one, fed_place, greatest_of}
-use Rattle.fed_streams.specs.Feeding.{map_fed, other_fed, packet_fault, packet_fed, place_from, lacks_clock, restart_in, restarted}
-use Rattle.fed_streams.specs.Feeding.{reported_first, seen_place, shown_fed}
+use Rattle.fed_streams.specs.Feeding.{map_fed, other_fed, packet_fault, packet_fed, place_from, restart_fed, restart_in, restarted, seen_place, reported_first}
 use Rattle.fed_streams.specs.Feeding.{watched}
 use Rattle.fed_streams.specs.Maps.{MapView, change_of, change_place, clock_pid, current_found, current_of, is_map, map_change, map_found, map_from, map_on}
 use Rattle.fed_streams.specs.Maps.{map_with, maps_after, new_map, other_at, other_by, other_place, other_stream, set_at, set_place}
@@ -239,12 +238,8 @@ skipped_after : (feed : FeedView) (x : FindingView) → place_from x.pid 0 feed.
 unfolding after_place seen_place
 skipped_after feed x none = rw none refl
 
--- What is fed after a finding without a unit
-abbrev fed_beside : FeedView → List Fed
-fed_beside w = option_to_list (shown_fed (restart_in w NoUnit) (lacks_clock w) (lacks_clock w))
-
 skipped_fed : (feed : FeedView) (x : FindingView) → place_from x.pid 0 feed.streams ≡ None →
-    fed_one feed x ≡ reported_first feed x ++ fed_beside (watched feed x)
+    fed_one feed x ≡ reported_first feed x ++ option_to_list (restart_fed (restart_in (watched feed x) NoUnit))
 unfolding after_place fed_place seen_place
 skipped_fed feed x none = rw none refl
 
@@ -276,7 +271,7 @@ unheard feed x y pid xs ys other same =
     record {
       after = skipped_after feed x none_x ∙ ap (λ (w : FeedView). restarted w NoUnit) (watched_same feed x y same) ∙ sym (skipped_after feed y none_y);
       fed = skipped_fed feed x none_x
-          ∙ ap₂ (λ (reported : List Fed) (w : FeedView). reported ++ fed_beside w) (reported_same feed x y pid xs ys same)
+          ∙ ap₂ (λ (reported : List Fed) (w : FeedView). reported ++ option_to_list (restart_fed (restart_in w NoUnit))) (reported_same feed x y pid xs ys same)
           (watched_same feed x y same)
           ∙ sym (skipped_fed feed y none_y);
     }

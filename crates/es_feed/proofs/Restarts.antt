@@ -1,8 +1,8 @@
--- If no fault is reported, no encoder restarts, and no clock references are missing.
+-- If no fault is reported, no encoder restarts.
 use Rattle.std.proofs.Common.{◌≡◌, ℕ, ◌++◌, ◌||◌, Bool, true, false, Option, Some, None, Ok, Err, List, [], ◌∷◌, refl}
 use Rattle.std.specs.Option.{option_to_list}
 use Rattle.es_feed.specs.EachStream.{has_fault, have_fault, units_fed, fed_if}
-use Rattle.fed_streams.specs.Feeding.{Fed, falls, is_fallen, seen_of, shown_fed}
+use Rattle.fed_streams.specs.Feeding.{Fed, falls, is_fallen, restart_fed, seen_of}
 use Rattle.fed_streams.specs.Restarts.{restart_of}
 use Rattle.fed_streams.specs.declared.feed_fault.Restart.{Restart}
 
@@ -16,19 +16,10 @@ pub fault_split : (xs ys : List Fed) → have_fault (xs ++ ys) ≡ false → (ha
 fault_split [] ys none = (refl, none)
 fault_split (x ∷ xs) ys none = fault_head (has_fault x) (have_fault (xs ++ ys)) (have_fault xs) (have_fault ys) none (λ e. fault_split xs ys e)
 
-pub not_shown : (r : Option Restart) (before after : Bool) → have_fault (option_to_list (shown_fed r before after)) ≡ false →
-    (r ≡ None) × (option_to_list (shown_fed r before after) ≡ [])
-unfolding shown_fed has_fault
-not_shown None true after none = (refl, refl)
-not_shown None false true none = absurd cc
-not_shown None false false none = (refl, refl)
-not_shown (Some restart) before after none = absurd cc
-
--- Without a unit no reference is missing that was not before.
-pub lacks_on : (lacks : Bool) → shown_fed None lacks lacks ≡ None
-unfolding shown_fed
-lacks_on true = refl
-lacks_on false = refl
+pub not_restarted : (r : Option Restart) → have_fault (option_to_list (restart_fed r)) ≡ false → r ≡ None
+unfolding restart_fed has_fault
+not_restarted None none = refl
+not_restarted (Some restart) none = absurd cc
 
 -- 2. A unit that has a moment
 
@@ -44,11 +35,9 @@ unfolding restart_of seen_of
 no_restart moment fallen None x none = refl
 no_restart moment fallen (Some (packet, stamp)) x none = rw none refl
 
--- 3. The report is no unit
+-- 3. The report of a restart is no unit
 
-pub reported_shown : (r : Option Restart) (before after : Bool) (n : ℕ) → units_fed n (option_to_list (shown_fed r before after)) ≡ []
-unfolding shown_fed fed_if
-reported_shown None true after n = refl
-reported_shown None false true n = refl
-reported_shown None false false n = refl
-reported_shown (Some restart) before after n = refl
+pub reported_restart : (r : Option Restart) (n : ℕ) → units_fed n (option_to_list (restart_fed r)) ≡ []
+unfolding restart_fed fed_if
+reported_restart None n = refl
+reported_restart (Some restart) n = refl

@@ -4,8 +4,8 @@ use Rattle.std.specs.Option.{option_to_list}
 use Rattle.es_moments.specs.Stamps.{distance}
 use Rattle.packet_pcr.specs.PacketPcr.{is_on}
 use Rattle.packet_pcr.specs.declared.pcr_reading.FoundPcr.{FoundPcr}
-use Rattle.fed_streams.specs.Clocks.{continued, follows, is_hole, jump_of, jumps, returns}
-use Rattle.fed_streams.specs.Feeding.{FeedView, stamp_in}
+use Rattle.fed_streams.specs.Clocks.{continued, follows, jump_of, jumps, returns}
+use Rattle.fed_streams.specs.Feeding.{FeedView}
 use Rattle.fed_streams.specs.Maps.{clock_pid}
 use Rattle.fed_streams.specs.Origins.{base_for, is_near, origin_doubted, origin_kept}
 use Rattle.fed_streams.specs.Ticks.{after_own, fed_own, jump_fed, step_in, timed_in}
@@ -21,11 +21,10 @@ pub record IsStrange (feed : FeedView) (pcr : FoundPcr) : Type 0 where
   pub unannounced : pcr.discontinuity ≡ false
   pub alone : follows feed.origin.doubtful pcr.base ≡ false
 
--- a reference that continues neither the last reference nor the one before it, and is not where the streams have come to
+-- a reference that continues neither the last reference nor the one before it
 pub record IsFar (feed : FeedView) (pcr : FoundPcr) : Type 0 where
   pub leaves : jumps feed.shown pcr.base ≡ true
   pub apart : returns feed.earlier pcr.base ≡ false
-  pub strays : is_hole feed.shown (stamp_in feed) pcr ≡ false
 
 -- a reference of the clock that continues the clock
 pub record IsOnTime (feed : FeedView) (pcr : FoundPcr) : Type 0 where
@@ -43,7 +42,7 @@ NearUnitsStay = (o : Origin) (packet moment before shown first dts : ℕ) → is
 -- been there
 abbrev pub FarIsForgotten : Type 0
 FarIsForgotten = (feed : FeedView) (strange next : FoundPcr) → IsStrange feed strange → IsFar feed strange → IsOnTime feed next →
-    (fed_own feed strange ≡ option_to_list (jump_fed (jump_of feed.shown (stamp_in feed) strange))) × (after_own (after_own feed strange) next ≡ after_own feed next)
+    (fed_own feed strange ≡ option_to_list (jump_fed (jump_of feed.shown strange))) × (after_own (after_own feed strange) next ≡ after_own feed next)
     × (fed_own (after_own feed strange) next ≡ fed_own feed next)
 
 -- a reference that continues the clock, or the reference before its last one, moves no constant, and moves time to a second behind a value that the clock

@@ -1,16 +1,14 @@
 -- What goes out of what a stream feeds: the records of its units and of ticks, and a line for each unit that has no moment, each loss of
--- packets, whatever else cuts units, payload in no PES packet, each packet that is not read, each new map, each jump of the clock,
--- references that are missing or come again, each restart without a clock and each silence.
-use Rattle.std.specs.Prelude.{ℕ, Bool, true, false, if◌then◌else◌, List, [], ◌∷◌, ◌++◌, Ok, Err, codes, decimal, slice_get, unwrap_or}
+-- packets, whatever else cuts units, payload in no PES packet, each packet that is not read, each new map, each jump of the clock, each restart without one and each silence.
+use Rattle.std.specs.Prelude.{ℕ, Bool, true, false, List, [], ◌∷◌, Ok, Err, codes, slice_get, unwrap_or}
 use Rattle.std.specs.List.{flat_map, list_any}
 use Rattle.unit_records.specs.Records.{record_bytes}
-use Rattle.es_moments.specs.Stamps.{distance}
 use Rattle.es_moments.specs.declared.stamps.StampFault.{StampFault}
 use Rattle.es_moments.specs.declared.stamps.StampFault.TheVariants.{DtsNotIncreasing, PtsOutOfRange, DtsTooFar}
 use Rattle.fed_streams.specs.Feeding.{Fed}
 use Rattle.fed_streams.specs.declared.feed_fault.FeedFault.{FeedFault}
 use Rattle.fed_streams.specs.declared.feed_fault.ClockJump.{ClockJump}
-use Rattle.fed_streams.specs.declared.feed_fault.FeedFault.TheVariants.{Stamp, Ahead, Lost, Cut, Stray, Map, Clock, Other, Packet, Restarted, Silent, Slipped, Unclocked}
+use Rattle.fed_streams.specs.declared.feed_fault.FeedFault.TheVariants.{Stamp, Ahead, Lost, Cut, Stray, Map, Clock, Other, Packet, Restarted, Silent, Slipped}
 use Rattle.fed_streams.specs.declared.feed_fault.CutCause.{CutCause}
 use Rattle.fed_streams.specs.declared.feed_fault.CutCause.TheVariants.{Scrambled, Truncated, Section, BadPes, NoPts}
 use Rattle.fed_streams.specs.declared.feed_fault.CutUnits.{CutUnits}
@@ -64,25 +62,13 @@ map_line map = line_text (codes "map") (map.program ∷ map.packet ∷ map.befor
 abbrev pub ahead_line : ℕ → ℕ → List ℕ
 ahead_line pid by = line_text (codes "dts-ahead") (pid ∷ by ∷ [])
 
--- a PID, what it has again, and after how long in units of 90 kHz
-abbrev pub again_line : ℕ → List ℕ → ℕ → List ℕ
-again_line pid what long = (((codes "pid " ++ decimal pid) ++ what) ++ decimal long) ++ codes "\n"
-
--- the clock at a packet of a PID does not continue from its value before, or references were missing between both
+-- the clock at a packet of a PID does not continue from its value before
 abbrev pub clock_line : ClockJump → List ℕ
-clock_line jump =
-    if jump.hole then again_line jump.pid (codes " has clock references again after ") (distance jump.before jump.after) else
-    line_text (codes "clock") (jump.pid ∷ jump.packet ∷ jump.before ∷ jump.after ∷ [])
-
--- clock references are missing
-abbrev pub unclocked_line : List ℕ
-unclocked_line = codes "no clock references for 20 s, but streams have units\n"
+clock_line jump = line_text (codes "clock") (jump.pid ∷ jump.packet ∷ jump.before ∷ jump.after ∷ [])
 
 -- the first map of a program, which is whole at a packet, does not name a stream that the description has
 abbrev pub other_line : OtherStream → List ℕ
-other_line other =
-    (((((((codes "pid " ++ decimal other.pid) ++ codes " of stream_type ") ++ decimal other.stream_type) ++ codes " is not in the PMT of program ")
-    ++ decimal other.program) ++ codes ", which ends in packet ") ++ decimal other.packet) ++ codes ": the description is of another stream\n"
+other_line other = line_text (codes "other") (other.program ∷ other.packet ∷ other.pid ∷ other.stream_type ∷ [])
 
 -- a packet that is none, one in error, or bytes that are left at the end
 unfoldable pub packet_line : PacketFault → List ℕ
@@ -115,7 +101,6 @@ fault_line pid (Packet fault) = packet_line fault
 fault_line pid (Restarted restart) = restart_line restart
 fault_line pid (Silent dts) = silence_line dts
 fault_line pid (Slipped bytes) = slip_line bytes
-fault_line pid Unclocked = unclocked_line
 
 -- the PID of the stream of a number
 abbrev pub pid_at : List ℕ → ℕ → ℕ
@@ -135,7 +120,6 @@ is_other (Packet fault) = false
 is_other (Restarted restart) = false
 is_other (Silent dts) = false
 is_other (Slipped bytes) = false
-is_other Unclocked = false
 
 -- the description is of another stream: then nothing more is read
 unfoldable pub is_refusal : Fed → Bool

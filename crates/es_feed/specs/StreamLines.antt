@@ -6,13 +6,13 @@ use Rattle.std.specs.Prelude.{ℕ, ◌-◌, ◌++◌, ◌==◌, ◌||◌, nat_le
 use Rattle.std.specs.Prelude.{Ok, Err, codes, decimal, replicate, slice_get, slice_set, unwrap_or}
 use Rattle.es_moments.specs.declared.stamps.StampFault.{StampFault}
 use Rattle.es_moments.specs.declared.stamps.StampFault.TheVariants.{DtsNotIncreasing, PtsOutOfRange, DtsTooFar}
-use Rattle.es_feed.specs.FedLines.{again_line, fault_line, pid_at}
+use Rattle.es_feed.specs.FedLines.{fault_line, pid_at}
 use Rattle.es_feed.specs.Stops.{StopsView, after_unit, change_by, first_stops}
 use Rattle.es_feed.specs.declared.stops.StopChange.{StopChange}
 use Rattle.es_feed.specs.declared.stops.StopChange.TheVariants.{Stops, Resumes}
 use Rattle.fed_streams.specs.Feeding.{Fed}
 use Rattle.fed_streams.specs.declared.feed_fault.FeedFault.{FeedFault}
-use Rattle.fed_streams.specs.declared.feed_fault.FeedFault.TheVariants.{Stamp, Ahead, Lost, Cut, Stray, Map, Clock, Other, Packet, Restarted, Silent, Slipped, Unclocked}
+use Rattle.fed_streams.specs.declared.feed_fault.FeedFault.TheVariants.{Stamp, Ahead, Lost, Cut, Stray, Map, Clock, Other, Packet, Restarted, Silent, Slipped}
 
 -- 1. Units that fall
 
@@ -35,7 +35,6 @@ is_short_fall (Packet fault) = false
 is_short_fall (Restarted restart) = false
 is_short_fall (Silent dts) = false
 is_short_fall (Slipped bytes) = false
-is_short_fall Unclocked = false
 
 -- how the units of a stream fell: 0, none of the last 250; 1 to 250, one of them, and for how many more units it counts; 255, its DTS do not rise
 
@@ -65,7 +64,7 @@ stopped_line pid = (codes "pid " ++ decimal pid) ++ codes " has stopped: no unit
 
 -- the stream of a PID has units again, after so long in units of 90 kHz
 abbrev pub resumed_line : ℕ → ℕ → List ℕ
-resumed_line pid long = again_line pid (codes " has units again after ") long
+resumed_line pid long = (((codes "pid " ++ decimal pid) ++ codes " has units again after ") ++ decimal long) ++ codes "\n"
 
 -- what a unit of the stream of a number shows
 unfoldable pub change_line : List ℕ → ℕ → StopChange → List ℕ

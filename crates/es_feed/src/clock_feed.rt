@@ -27,7 +27,7 @@ const LONGEST_SILENCE: u64 = 900_000;
 // any stream.
 const JUMP_PAUSE: u64 = 27_000;
 
-// Returns the report on a clock, if it has one.
+// Returns the report on a clock, if it jumps.
 #[tactic(auto, unfolding(fed_streams::specs::Ticks::jump_fed))]
 fn reported_jump(jump: Option<ClockJump>) -> Option<(u8, Result<Unit, FeedFault>)>
     ensures { result ≡ spec.jump_fed jump }
@@ -119,13 +119,7 @@ impl UnitFeed {
     fn step(&self, pcr: FoundPcr) -> ClockStep
         ensures { result ≡ spec.step_in self.now pcr }
     {
-        step_of(
-            self.stamp(),
-            self.shown,
-            self.earlier,
-            self.origin.doubtful,
-            pcr,
-        )
+        step_of(self.shown, self.earlier, self.origin.doubtful, pcr)
     }
 
     // The clock shows a reference that fits it so, unless it is doubtful.
@@ -151,10 +145,7 @@ impl UnitFeed {
         ensures fed { OnOk result (fed.new.items ≡ fed.old.items ++ spec.fed_shown self.old pcr) }
     {
         let step = self.step(pcr);
-        push_fed(
-            fed,
-            reported_jump(report_of(step, self.stamp(), self.shown, pcr)),
-        )?;
+        push_fed(fed, reported_jump(report_of(step, self.shown, pcr)))?;
         let timed = timed_by(step, self.shown, self.earlier, pcr);
         self.show(step, pcr);
         let late = late_of(self.origin.now, self.greatest(), timed);

@@ -12,13 +12,12 @@ use crate::pending::PendingBytes;
 use crate::records::{flush, put_record};
 use crate::stops::StopChange;
 use crate::stream_lines::{
-    StreamLines, UNORDERED, is_short_fall, report_clock_again, report_other, report_resumed,
-    report_stopped, report_unclocked, report_unordered,
+    StreamLines, UNORDERED, is_short_fall, report_resumed, report_stopped, report_unordered,
 };
 use counted_io::Sink;
 use devices::{Halt, report_line};
-use es_moments::{StampFault, distance};
-use fed_streams::feed_fault::SlippedBytes;
+use es_moments::StampFault;
+use fed_streams::feed_fault::{OtherStream, SlippedBytes};
 use fed_streams::{ClockJump, CutCause, CutUnits, FeedFault, Loss, NewMap, PacketFault, Restart};
 use pes_packet::Unit;
 
@@ -152,14 +151,10 @@ fn report_ahead<E: Sink>(faults: &mut E, pid: u16, by: u64)
     report_line(faults, "dts-ahead", &[u128::from(pid), u128::from(by)]);
 }
 
-// Reports that the clock jumps, or that it has references again.
+// Reports that the clock jumps.
 fn report_jump<E: Sink>(faults: &mut E, jump: ClockJump)
     ensures { Reports (writes E.Sink faults.old faults.new) (spec.clock_line jump) }
 {
-    if jump.hole {
-        report_clock_again(faults, jump.pid, distance(jump.before, jump.after));
-        return;
-    }
     let numbers = [
         u128::from(jump.pid),
         u128::from(jump.packet),
@@ -179,6 +174,19 @@ fn report_packet<E: Sink>(faults: &mut E, fault: PacketFault)
         PacketFault::Errored(packet) => report_line(faults, "errored", &[u128::from(packet)]),
         PacketFault::Rest(size) => report_line(faults, "rest", &[size as u128]),
     }
+}
+
+// Reports that the description is of another stream.
+fn report_other<E: Sink>(faults: &mut E, other: OtherStream)
+    ensures { Reports (writes E.Sink faults.old faults.new) (spec.other_line other) }
+{
+    let numbers = [
+        u128::from(other.program),
+        u128::from(other.packet),
+        u128::from(other.pid),
+        u128::from(other.stream_type),
+    ];
+    report_line(faults, "other", &numbers);
 }
 
 // Reports bytes that are in no packet.
@@ -225,7 +233,6 @@ fn report_fault<E: Sink>(faults: &mut E, pid: u16, fault: FeedFault)
         FeedFault::Restarted(restart) => report_restart(faults, restart),
         FeedFault::Silent(dts) => report_silence(faults, dts),
         FeedFault::Slipped(bytes) => report_slip(faults, bytes),
-        FeedFault::Unclocked => report_unclocked(faults),
     }
 }
 

@@ -12,12 +12,11 @@ use arrayvec::ArrayVec;
 use counted_io::{Sink, write_part};
 use es_moments::StampFault;
 use fed_streams::FeedFault;
-use fed_streams::feed_fault::OtherStream;
 use itoa::Buffer;
 use std::marker::Model;
 
-/// The room of a line.
-const ROOM: usize = 300;
+/// The room of the line of a stream.
+const ROOM: usize = 128;
 
 /// How many numbers of streams there are, with the number of no stream.
 const NUMBERS: usize = 256;
@@ -84,22 +83,11 @@ fn fell_less(fell: u8) -> u8
 
 // Appends bytes to a line.
 fn append(line: &mut ArrayVec<u8, ROOM>, bytes: &[u8])
-    requires { array_vec_len line.old + length bytes.now ≤ 300 }
+    requires { array_vec_len line.old + length bytes.now ≤ 128 }
     ensures items { line.new.items ≡ line.old.items ++ bytes.now }
     ensures len { array_vec_len line.new ≡ array_vec_len line.old + length bytes.now }
 {
     let _ = line.try_extend_from_slice(bytes);
-}
-
-// Appends bytes and a number to a line.
-fn append_number(line: &mut ArrayVec<u8, ROOM>, bytes: &[u8], number: u64)
-    requires { array_vec_len line.old + length bytes.now ≤ 261 }
-    ensures items { line.new.items ≡ (line.old.items ++ bytes.now) ++ decimal number }
-    ensures len { array_vec_len line.new ≤ array_vec_len line.old + length bytes.now + 39 }
-{
-    let mut digits = Buffer::new();
-    append(line, bytes);
-    append(line, digits.format(u128::from(number)).as_bytes());
 }
 
 // Returns a line that begins with a PID.
@@ -108,7 +96,9 @@ fn pid_line(pid: u16) -> ArrayVec<u8, ROOM>
     ensures len { array_vec_len result ≤ 43 }
 {
     let mut line = ArrayVec::new();
-    append_number(&mut line, b"pid ", u64::from(pid));
+    let mut digits = Buffer::new();
+    append(&mut line, b"pid ");
+    append(&mut line, digits.format(u128::from(pid)).as_bytes());
     line
 }
 
@@ -136,30 +126,15 @@ fn stopped_line(pid: u16) -> ArrayVec<u8, ROOM>
     line
 }
 
-// Returns the line of a PID that has something again.
-fn again_line(pid: u16, what: &[u8], long: u64) -> ArrayVec<u8, ROOM>
-    requires { length what.now ≤ 40 }
-    ensures { result.items ≡ feed_lines.again_line pid what.now long }
+// Returns the line of a PID whose stream has units again.
+fn resumed_line(pid: u16, long: u64) -> ArrayVec<u8, ROOM>
+    ensures { result.items ≡ spec.resumed_line pid long }
 {
     let mut line = pid_line(pid);
-    append_number(&mut line, what, long);
+    let mut digits = Buffer::new();
+    append(&mut line, b" has units again after ");
+    append(&mut line, digits.format(u128::from(long)).as_bytes());
     append(&mut line, b"\n");
-    line
-}
-
-// Returns the line of a description of another stream.
-fn other_line(other: OtherStream) -> ArrayVec<u8, ROOM>
-    ensures { result.items ≡ feed_lines.other_line other }
-{
-    let mut line = pid_line(other.pid);
-    append_number(&mut line, b" of stream_type ", u64::from(other.stream_type));
-    append_number(
-        &mut line,
-        b" is not in the PMT of program ",
-        u64::from(other.program),
-    );
-    append_number(&mut line, b", which ends in packet ", other.packet);
-    append(&mut line, b": the description is of another stream\n");
     line
 }
 
@@ -183,34 +158,7 @@ pub(crate) fn report_stopped<E: Sink>(faults: &mut E, pid: u16)
 pub(crate) fn report_resumed<E: Sink>(faults: &mut E, pid: u16, long: u64)
     ensures { Reports (writes E.Sink faults.old faults.new) (spec.resumed_line pid long) }
 {
-    let line = again_line(pid, b" has units again after ", long);
-    let _ = write_part(faults, line.as_slice());
-}
-
-/// Reports that a PID has clock references again, while the streams went on.
-pub(crate) fn report_clock_again<E: Sink>(faults: &mut E, pid: u16, long: u64)
-    ensures { Reports (writes E.Sink faults.old faults.new)
-        (feed_lines.again_line pid (codes " has clock references again after ") long) }
-{
-    let line = again_line(pid, b" has clock references again after ", long);
-    let _ = write_part(faults, line.as_slice());
-}
-
-/// Reports that clock references are missing.
-pub(crate) fn report_unclocked<E: Sink>(faults: &mut E)
-    ensures { Reports (writes E.Sink faults.old faults.new) feed_lines.unclocked_line }
-{
-    let _ = write_part(
-        faults,
-        b"no clock references for 20 s, but streams have units\n",
-    );
-}
-
-/// Reports that the description is of another stream.
-pub(crate) fn report_other<E: Sink>(faults: &mut E, other: OtherStream)
-    ensures { Reports (writes E.Sink faults.old faults.new) (feed_lines.other_line other) }
-{
-    let line = other_line(other);
+    let line = resumed_line(pid, long);
     let _ = write_part(faults, line.as_slice());
 }
 

@@ -8,7 +8,6 @@ ghost use Rattle.fed_streams.specs.Feeding as spec;
 ghost use Rattle.es_feed.specs.StreamFeeding.{stream_pids};
 
 use es_units::Marking;
-use fed_streams::clock_jump::{is_missing, stamp_at};
 use fed_streams::due::Due;
 use fed_streams::fed_map::{other_stream, watch};
 use fed_streams::fed_streams::{greatest_of, pids_of, place_of, take_at};
@@ -127,23 +126,14 @@ fn reported_packet(fault: Option<PacketFault>) -> Option<(u8, Result<Unit, FeedF
     }
 }
 
-// Returns the report on a restart, or that clock references are missing that were not before.
-#[tactic(auto, unfolding(fed_streams::specs::Feeding::shown_fed))]
-fn reported_shown(
-    restart: Option<Restart>,
-    before: bool,
-    after: bool,
-) -> Option<(u8, Result<Unit, FeedFault>)>
-    ensures { result ≡ spec.shown_fed restart before after }
+// Returns the report on a restart, if there is one.
+#[tactic(auto, unfolding(fed_streams::specs::Feeding::restart_fed))]
+fn reported_restart(restart: Option<Restart>) -> Option<(u8, Result<Unit, FeedFault>)>
+    ensures { result ≡ spec.restart_fed restart }
 {
     match restart {
+        None => None,
         Some(restart) => Some((NO_STREAM, Err(FeedFault::Restarted(restart)))),
-        None => {
-            if !before && after {
-                return Some((NO_STREAM, Err(FeedFault::Unclocked)));
-            }
-            None
-        }
     }
 }
 
@@ -240,33 +230,18 @@ impl UnitFeed {
         Ok(seen)
     }
 
-    /// Returns the stamp of the greatest DTS so far, once the constant is fixed.
-    pub(crate) fn stamp(&self) -> Option<u64>
-        ensures { result ≡ spec.stamp_in self.now }
-    {
-        stamp_at(self.origin.now, self.greatest())
-    }
-
-    // Returns whether clock references are missing.
-    fn lacks_clock(&self) -> bool
-        ensures { result ≡ spec.lacks_clock self.now }
-    {
-        is_missing(self.shown, self.stamp())
-    }
-
-    // Continues from a unit that shows that an encoder restarts, if it does; `lacked`: references were missing before it.
+    // Continues from a unit that shows that an encoder restarts, if it does.
     fn restart(
         &mut self,
         seen: Seen,
-        lacked: bool,
         fed: &mut Vec<(u8, Result<Unit, FeedFault>)>,
     ) -> Result<(), AllocError>
         ensures feed { OnOk result (self.new ≡ spec.restarted self.old seen) }
-        ensures fed { OnOk result (fed.new.items ≡ fed.old.items ++ option_to_list
-            (spec.shown_fed (spec.restart_in self.old seen) lacked (spec.lacks_clock self.old))) }
+        ensures fed { OnOk result (fed.new.items ≡ fed.old.items
+            ++ option_to_list (spec.restart_fed (spec.restart_in self.old seen))) }
     {
         let restart = restart_of(self.greatest(), self.fallen, seen);
-        push_fed(fed, reported_shown(restart, lacked, self.lacks_clock()))?;
+        push_fed(fed, reported_restart(restart))?;
         self.origin = origin_by(self.origin, restart);
         self.fallen = fallen_after(self.fallen, seen);
         Ok(())
@@ -283,14 +258,13 @@ impl UnitFeed {
         ensures fed { OnOk result (fed.new.items
             ≡ fed.old.items ++ spec.fed_found self.old (finding_view finding.now)) }
     {
-        let lacked = self.lacks_clock();
         let seen = self.take_unit(alloc, finding, fed)?;
-        self.restart(seen, lacked, fed)
+        self.restart(seen, fed)
     }
 
     /// Takes a finding; the unit that it makes whole goes to `fed`, at its moment with the number of its stream, or why
     /// it can't have one, and so does a loss of packets of a stream, a cut of its units, the new version of a map, a
-    /// packet that is not read, a restart, or that clock references are missing.
+    /// packet that is not read, or a restart.
     ///
     /// After an `AllocError` drop the feed and `fed`: nothing is promised of their contents.
     pub fn take(

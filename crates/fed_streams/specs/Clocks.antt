@@ -8,7 +8,7 @@
 --   105.2 and then 105.3: a silence of 5 s; the clock goes on, and 105.3 moves time to 104.3
 --   99.9 and then 100: the encoder has restarted 0.3 s back, since the second one continues the first
 --   105.2 and then 103.2: both are damaged; 103.2 continues 100.1, and 100.3 continues neither; it is doubtful, and 100.4 makes it a restart
-use Rattle.std.specs.Prelude.{ℕ, ◌+◌, ◌%◌, ◌^◌, ◌&&◌, ◌||◌, not, nat_lt, Bool, false, if◌then◌else◌, Option, Some, None}
+use Rattle.std.specs.Prelude.{ℕ, ◌+◌, ◌%◌, ◌^◌, ◌||◌, not, nat_lt, Bool, false, if◌then◌else◌, Option, Some, None}
 use Rattle.packet_pcr.specs.declared.pcr_reading.FoundPcr.{FoundPcr}
 use Rattle.es_moments.specs.Stamps.{distance}
 use Rattle.fed_streams.specs.declared.clock_jump.ClockStep.{ClockStep}
@@ -16,7 +16,7 @@ use Rattle.fed_streams.specs.declared.clock_jump.ClockStep.TheVariants.{Continue
 use Rattle.fed_streams.specs.declared.feed_fault.ClockJump.{ClockJump}
 use Rattle.fed_streams.specs.declared.origin.DoubtfulClock.{DoubtfulClock}
 use Rattle.fed_streams.specs.declared.origin.Origin.{Origin}
-use Rattle.fed_streams.specs.Origins.{is_near, origin_confirmed, origin_doubted, origin_jumped, origin_kept}
+use Rattle.fed_streams.specs.Origins.{origin_confirmed, origin_doubted, origin_jumped, origin_kept}
 
 -- 1. A jump
 
@@ -25,25 +25,12 @@ unfoldable pub jumps : Option ℕ → ℕ → Bool
 jumps None base = false
 jumps (Some before) base = nat_lt 900_000 (distance before base)
 
--- the stamp of the greatest DTS so far, once the constant is fixed
-unfoldable pub stamp_at : Option ℕ → ℕ → Option ℕ
-stamp_at None greatest = None
-stamp_at (Some base) greatest = Some (base + greatest)
-
--- a reference without a discontinuity_indicator, over 10 s after the last one, which the greatest DTS so far is near: the streams went on, and references
--- alone were missing
-unfoldable pub is_hole : Option ℕ → Option ℕ → FoundPcr → Bool
-is_hole None greatest pcr = false
-is_hole (Some before) None pcr = false
-is_hole (Some before) (Some greatest) pcr =
-    not pcr.discontinuity && (nat_lt 900_000 (distance before pcr.base) && (nat_lt (distance before pcr.base) (2 ^ 32) && is_near pcr.base greatest))
-
--- the report of a reference: the clock leaps, references were missing, or the discontinuity_indicator announces a jump; none at the first reference
-unfoldable pub jump_of : Option ℕ → Option ℕ → FoundPcr → Option ClockJump
-jump_of None greatest pcr = None
-jump_of (Some before) greatest pcr =
+-- the jump that the feed reports at a reference: the clock leaps, or the discontinuity_indicator announces a jump; none at the first reference
+unfoldable pub jump_of : Option ℕ → FoundPcr → Option ClockJump
+jump_of None pcr = None
+jump_of (Some before) pcr =
     if pcr.discontinuity || nat_lt 900_000 (distance before pcr.base) then Some
-    (record { pid = pcr.pid; packet = pcr.packet; before = before; after = pcr.base; hole = is_hole (Some before) greatest pcr }) else None
+    (record { pid = pcr.pid; packet = pcr.packet; before = before; after = pcr.base }) else None
 
 -- 2. How a reference fits the clock
 
@@ -58,19 +45,17 @@ returns None base = false
 returns (Some earlier) base = not (jumps (Some earlier) base)
 
 -- a reference without a jump continues the clock. A jump counts at once if the discontinuity_indicator announces it (ISO/IEC 13818-1, 2.4.3.5). A jump that
--- continues a doubtful reference confirms it. A jump over missing references continues the clock, and so does a jump that continues the reference before the
--- last one. Other jumps are doubtful
-unfoldable pub step_of : Option ℕ → Option ℕ → Option ℕ → Option DoubtfulClock → FoundPcr → ClockStep
-step_of greatest shown earlier doubtful pcr = if not (jumps shown pcr.base) then Continues else
-    (if pcr.discontinuity then Leaps else (if follows doubtful pcr.base then Confirms else
-    (if is_hole shown greatest pcr || returns earlier pcr.base then Continues else Doubts)))
+-- continues a doubtful reference confirms it; a jump that continues the reference before the last one continues the clock, too. Other jumps are doubtful
+unfoldable pub step_of : Option ℕ → Option ℕ → Option DoubtfulClock → FoundPcr → ClockStep
+step_of shown earlier doubtful pcr = if not (jumps shown pcr.base) then Continues else
+    (if pcr.discontinuity then Leaps else (if follows doubtful pcr.base then Confirms else (if returns earlier pcr.base then Continues else Doubts)))
 
 -- the report of a jump that is confirmed came with the doubtful reference
-unfoldable pub report_of : ClockStep → Option ℕ → Option ℕ → FoundPcr → Option ClockJump
-report_of Continues greatest shown pcr = jump_of shown greatest pcr
-report_of Leaps greatest shown pcr = jump_of shown greatest pcr
-report_of Confirms greatest shown pcr = None
-report_of Doubts greatest shown pcr = jump_of shown greatest pcr
+unfoldable pub report_of : ClockStep → Option ℕ → FoundPcr → Option ClockJump
+report_of Continues shown pcr = jump_of shown pcr
+report_of Leaps shown pcr = jump_of shown pcr
+report_of Confirms shown pcr = None
+report_of Doubts shown pcr = jump_of shown pcr
 
 -- 3. What it does: a clock that jumps shows this reference at a moment
 
@@ -118,12 +103,3 @@ unless_doubtful Continues late = late
 unless_doubtful Leaps late = late
 unless_doubtful Confirms late = late
 unless_doubtful Doubts late = None
-
--- 5. Missing references
-
--- the greatest DTS so far is over 20 s after the last reference. A unit waits at most 10 s in a decoder for its DTS (2.4.2.6), and a damaged stamp of a unit
--- moves the greatest DTS by at most 10 s; references come each 0.1 s (2.7.2)
-unfoldable pub is_missing : Option ℕ → Option ℕ → Bool
-is_missing None greatest = false
-is_missing (Some shown) None = false
-is_missing (Some shown) (Some greatest) = nat_lt 1_800_000 (distance shown greatest) && nat_lt (distance shown greatest) (2 ^ 32)

@@ -15,7 +15,7 @@ use Rattle.es_units.specs.UnitSteps.{UnitsSoFar, after_finding, ended_unit, made
 use Rattle.es_moments.specs.declared.stamps.StampFault.{StampFault}
 use Rattle.fed_streams.specs.declared.feed_fault.FeedFault.{FeedFault}
 use Rattle.fed_streams.specs.declared.due.Due.{Due}
-use Rattle.fed_streams.specs.declared.feed_fault.FeedFault.TheVariants.{Stamp, Ahead, Lost, Cut, Stray, Map, Other, Packet, Restarted, Unclocked}
+use Rattle.fed_streams.specs.declared.feed_fault.FeedFault.TheVariants.{Stamp, Ahead, Lost, Cut, Stray, Map, Other, Packet, Restarted}
 use Rattle.fed_streams.specs.declared.feed_fault.CutCause.{CutCause}
 use Rattle.fed_streams.specs.declared.feed_fault.CutCause.TheVariants as causes
 use Rattle.fed_streams.specs.declared.feed_fault.CutUnits.{CutUnits}
@@ -28,7 +28,6 @@ use Rattle.fed_streams.specs.declared.feed_fault.Restart.{Restart}
 use Rattle.fed_streams.specs.declared.origin.Origin.{Origin}
 use Rattle.fed_streams.specs.declared.restart.Seen.{Seen}
 use Rattle.fed_streams.specs.declared.restart.Seen.TheVariants.{NoUnit, Good, Falls}
-use Rattle.fed_streams.specs.Clocks.{is_missing, stamp_at}
 use Rattle.fed_streams.specs.Origins.{base_for, no_origin, origin_with}
 use Rattle.fed_streams.specs.Maps.{MapView, maps_after, new_map, other_stream}
 use Rattle.fed_streams.specs.Restarts.{fallen_after, is_fall, origin_by, restart_of}
@@ -356,19 +355,10 @@ restarted feed seen = record {
   fallen = fallen_after feed.fallen seen;
 }
 
--- the stamp of the greatest DTS so far, and whether clock references are missing
-abbrev pub stamp_in : FeedView → Option ℕ
-stamp_in feed = stamp_at feed.origin.now (greatest_of feed)
-
-abbrev pub lacks_clock : FeedView → Bool
-lacks_clock feed = is_missing feed.shown (stamp_in feed)
-
--- the report of a restart, or of references that are missing from now on, after the unit that shows it; 255 says that it concerns all streams
-unfoldable pub shown_fed : Option Restart → Bool → Bool → Option Fed
-shown_fed (Some restart) before after = Some (255, Err (Restarted restart))
-shown_fed None true after = None
-shown_fed None false true = Some (255, Err Unclocked)
-shown_fed None false false = None
+-- the report of a restart, after the unit that shows it; 255 says that it concerns all streams
+unfoldable pub restart_fed : Option Restart → Option Fed
+restart_fed None = None
+restart_fed (Some restart) = Some (255, Err (Restarted restart))
 
 -- after a finding, and what it feeds
 abbrev pub after_found_in : FeedView → FindingView → FeedView
@@ -377,11 +367,8 @@ after_found_in feed f = restarted (after_unit feed f) (seen_in feed f)
 abbrev pub after_one : FeedView → FindingView → FeedView
 after_one feed f = after_found_in (watched feed f) f
 
-abbrev pub fed_shown_by : FeedView → FindingView → Option Fed
-fed_shown_by feed f = shown_fed (restart_in (after_unit feed f) (seen_in feed f)) (lacks_clock feed) (lacks_clock (after_unit feed f))
-
 abbrev pub fed_found : FeedView → FindingView → List Fed
-fed_found feed f = fed_unit feed f ++ option_to_list (fed_shown_by feed f)
+fed_found feed f = fed_unit feed f ++ option_to_list (restart_fed (restart_in (after_unit feed f) (seen_in feed f)))
 
 -- a finding on no PID: a packet that cannot be read, a packet with transport_error_indicator, or bytes at the end of a stream
 unfoldable pub packet_fault_of : ℕ → WhatView → Option PacketFault

@@ -7,7 +7,7 @@ use Rattle.es_moments.specs.declared.stamps.StampFault.{StampFault}
 use Rattle.es_moments.specs.declared.stamps.StampFault.TheVariants.{DtsNotIncreasing, PtsOutOfRange, DtsTooFar}
 use Rattle.fed_streams.specs.Origins.{origin_jumped}
 use Rattle.fed_streams.specs.declared.feed_fault.FeedFault.{FeedFault}
-use Rattle.fed_streams.specs.declared.feed_fault.FeedFault.TheVariants.{Stamp, Ahead, Lost, Cut, Stray, Map, Clock, Other, Packet, Restarted, Silent, Slipped, Unclocked}
+use Rattle.fed_streams.specs.declared.feed_fault.FeedFault.TheVariants.{Stamp, Ahead, Lost, Cut, Stray, Map, Clock, Other, Packet, Restarted, Silent, Slipped}
 use Rattle.fed_streams.specs.declared.feed_fault.Restart.{Restart}
 use Rattle.fed_streams.specs.declared.origin.Origin.{Origin}
 use Rattle.fed_streams.specs.declared.restart.Seen.{Seen}
@@ -34,7 +34,6 @@ is_fall (Packet fault) = false
 is_fall (Restarted restart) = false
 is_fall (Silent dts) = false
 is_fall (Slipped bytes) = false
-is_fall Unclocked = false
 
 -- 2. The second one
 

@@ -21,7 +21,6 @@ use Rattle.packet_pcr.specs.PacketPcr.{is_on, pcr_at}
 use Rattle.fed_streams.specs.Clocks.{earlier_after, origin_stepped, report_of, shown_after, step_of, timed_by, unless_doubtful}
 use Rattle.fed_streams.specs.declared.clock_jump.ClockStep.{ClockStep}
 use Rattle.fed_streams.specs.Feeding.{Fed, FedStreamView, FeedView, after_all, due_of, fed_all, fed_by, feed_with, greatest_from, greatest_of}
-use Rattle.fed_streams.specs.Feeding.{stamp_in}
 use Rattle.fed_streams.specs.Maps.{clock_pid}
 use Rattle.es_units.specs.Marking.{all_marked}
 use Rattle.fed_streams.specs.Origins.{base_for}
@@ -162,7 +161,7 @@ abbrev pub jump_pause : ℕ
 jump_pause = 27_000
 
 abbrev pub step_in : FeedView → FoundPcr → ClockStep
-step_in feed pcr = step_of (stamp_in feed) feed.shown feed.earlier feed.origin.doubtful pcr
+step_in feed pcr = step_of feed.shown feed.earlier feed.origin.doubtful pcr
 
 abbrev pub origin_by : FeedView → FoundPcr → Origin
 origin_by feed pcr = origin_stepped (step_in feed pcr) feed.origin feed.shown (greatest_of feed + jump_pause) pcr
@@ -182,7 +181,7 @@ with_shown feed pcr =
       fallen = feed.fallen;
     }
 
--- the report of a reference, before its effect; 255 says that it belongs to no stream
+-- the report of a jump, before its effect; 255 says that it belongs to no stream
 unfoldable pub jump_fed : Option ClockJump → Option Fed
 jump_fed None = None
 jump_fed (Some jump) = Some (255, Err (Clock jump))
@@ -198,8 +197,7 @@ abbrev pub after_shown : FeedView → FoundPcr → FeedView
 after_shown feed pcr = after_late (with_shown feed pcr) (late_after feed pcr)
 
 abbrev pub fed_shown : FeedView → FoundPcr → List Fed
-fed_shown feed pcr =
-    option_to_list (jump_fed (report_of (step_in feed pcr) (stamp_in feed) feed.shown pcr)) ++ fed_late (with_shown feed pcr) (late_after feed pcr)
+fed_shown feed pcr = option_to_list (jump_fed (report_of (step_in feed pcr) feed.shown pcr)) ++ fed_late (with_shown feed pcr) (late_after feed pcr)
 
 -- a reference on another PID has no effect
 abbrev pub after_own : FeedView → FoundPcr → FeedView

@@ -1,11 +1,11 @@
 //! Where a clock jumps.
 
-ghost use Rattle.std.specs.Prelude.{◌≡◌, ◌≤◌, ◌<◌, ◌+◌, ◌^◌, IfSome};
+ghost use Rattle.std.specs.Prelude.{◌≡◌};
 ghost use Rattle.fed_streams.specs.Clocks as spec;
 ghost use Rattle.fed_streams.specs.Origins.{IsOrigin};
 
 use crate::feed_fault::ClockJump;
-use crate::origin::{DoubtfulClock, Origin, is_near};
+use crate::origin::{DoubtfulClock, Origin};
 use es_moments::distance;
 use packet_pcr::FoundPcr;
 
@@ -15,13 +15,8 @@ const MAX_STEP: u64 = 900_000;
 /// The longest step of a clock that moves time as a whole, in units of 90 kHz: a second.
 const SURE_STEP: u64 = 90_000;
 
-/// The longest time from the last reference to the greatest DTS so far, in units of 90 kHz: 20 s.
-const LONGEST_LACK: u64 = 1_800_000;
-
-/// The range of stamps, and half of it.
+/// The range of stamps.
 const RANGE: u64 = 1 << 33;
-
-const HALF: u64 = 1 << 32;
 
 /// How a clock reference fits the clock.
 #[derive(Clone, Copy)]
@@ -47,67 +42,23 @@ pub fn is_jump(pcr: FoundPcr, before: Option<u64>) -> bool
     }
 }
 
-/// Returns the stamp of the greatest DTS so far, once the constant is fixed.
-#[tactic(auto, unfolding(crate::specs::Clocks::stamp_at))]
-pub fn stamp_at(base: Option<u64>, greatest: u64) -> Option<u64>
-    requires base { IfSome base (λ base. base < 2 ^ 33) }
-    requires greatest { greatest ≤ 2 ^ 52 }
-    ensures { result ≡ spec.stamp_at base greatest }
-{
-    match base {
-        None => None,
-        Some(base) => Some(base + greatest),
-    }
-}
-
-// Returns whether references were missing before a reference, while the streams went on to the greatest DTS so far.
-#[tactic(auto, unfolding(crate::specs::Clocks::is_hole))]
-fn is_hole(pcr: FoundPcr, before: Option<u64>, greatest: Option<u64>) -> bool
-    ensures { result ≡ spec.is_hole before greatest pcr }
+/// Returns the report on a reference after what the clock showed before, if it jumps.
+#[tactic(auto, unfolding(crate::specs::Clocks::jump_of))]
+pub fn jump(pcr: FoundPcr, before: Option<u64>) -> Option<ClockJump>
+    ensures { result ≡ spec.jump_of before pcr }
 {
     let Some(before) = before else {
-        return false;
-    };
-    let Some(greatest) = greatest else {
-        return false;
-    };
-    let step = distance(before, pcr.base);
-    !pcr.discontinuity && step > MAX_STEP && step < HALF && is_near(pcr.base, greatest)
-}
-
-/// Returns the report on a reference after what the clock showed before and the greatest DTS so far, if it has one.
-#[tactic(auto, unfolding(crate::specs::Clocks::jump_of))]
-pub fn jump(pcr: FoundPcr, before: Option<u64>, greatest: Option<u64>) -> Option<ClockJump>
-    ensures { result ≡ spec.jump_of before greatest pcr }
-{
-    let Some(shown) = before else {
         return None;
     };
-    if pcr.discontinuity || distance(shown, pcr.base) > MAX_STEP {
+    if pcr.discontinuity || distance(before, pcr.base) > MAX_STEP {
         return Some(ClockJump {
             pid: pcr.pid,
             packet: pcr.packet,
-            before: shown,
+            before,
             after: pcr.base,
-            hole: is_hole(pcr, before, greatest),
         });
     }
     None
-}
-
-/// Returns whether references are missing: the greatest DTS so far is over 20 s after the last one.
-#[tactic(auto, unfolding(crate::specs::Clocks::is_missing))]
-pub fn is_missing(shown: Option<u64>, greatest: Option<u64>) -> bool
-    ensures { result ≡ spec.is_missing shown greatest }
-{
-    let Some(shown) = shown else {
-        return false;
-    };
-    let Some(greatest) = greatest else {
-        return false;
-    };
-    let after = distance(shown, greatest);
-    after > LONGEST_LACK && after < HALF
 }
 
 // Returns whether a reference continues a doubtful reference.
@@ -132,17 +83,16 @@ fn returns(earlier: Option<u64>, pcr: FoundPcr) -> bool
     }
 }
 
-/// Returns how a reference fits the clock, after the greatest DTS so far, what the clock showed at the last reference and
-/// at the one before it, and a doubtful reference.
+/// Returns how a reference fits the clock, after what the clock showed at the last reference and at the one before it,
+/// and after a doubtful reference.
 #[tactic(auto, unfolding(crate::specs::Clocks::step_of))]
 pub fn step_of(
-    greatest: Option<u64>,
     shown: Option<u64>,
     earlier: Option<u64>,
     doubtful: Option<DoubtfulClock>,
     pcr: FoundPcr,
 ) -> ClockStep
-    ensures { result ≡ spec.step_of greatest shown earlier doubtful pcr }
+    ensures { result ≡ spec.step_of shown earlier doubtful pcr }
 {
     if !is_jump(pcr, shown) {
         return ClockStep::Continues;
@@ -153,27 +103,22 @@ pub fn step_of(
     if follows(doubtful, pcr) {
         return ClockStep::Confirms;
     }
-    if is_hole(pcr, shown, greatest) || returns(earlier, pcr) {
+    if returns(earlier, pcr) {
         return ClockStep::Continues;
     }
     ClockStep::Doubts
 }
 
-/// Returns the report on a reference, if it has one, unless it confirms a jump that was reported.
+/// Returns the report on a reference, if it jumps, unless it confirms a jump that was reported.
 #[tactic(auto, unfolding(crate::specs::Clocks::report_of))]
-pub fn report_of(
-    step: ClockStep,
-    greatest: Option<u64>,
-    shown: Option<u64>,
-    pcr: FoundPcr,
-) -> Option<ClockJump>
-    ensures { result ≡ spec.report_of step greatest shown pcr }
+pub fn report_of(step: ClockStep, shown: Option<u64>, pcr: FoundPcr) -> Option<ClockJump>
+    ensures { result ≡ spec.report_of step shown pcr }
 {
     match step {
         ClockStep::Confirms => None,
-        ClockStep::Continues => jump(pcr, shown, greatest),
-        ClockStep::Leaps => jump(pcr, shown, greatest),
-        ClockStep::Doubts => jump(pcr, shown, greatest),
+        ClockStep::Continues => jump(pcr, shown),
+        ClockStep::Leaps => jump(pcr, shown),
+        ClockStep::Doubts => jump(pcr, shown),
     }
 }
 

@@ -62,7 +62,7 @@ pub struct OtherStream {
     pub stream_type: u8,
 }
 
-/// A clock reference that does not continue from the one before it on its program's clock.
+/// A clock reference that does not go on from the one before it on its program's clock.
 #[derive(Clone, Copy)]
 pub struct ClockJump {
     /// Its PID.
@@ -73,8 +73,6 @@ pub struct ClockJump {
     pub before: u64,
     /// What it shows, in units of 90 kHz.
     pub after: u64,
-    /// References were missing between both, while the streams went on: the clock does not jump.
-    pub hole: bool,
 }
 
 /// Bytes of a stream that are in no packet that can be read.
@@ -135,6 +133,4 @@ pub enum FeedFault {
     Restarted(Restart),
     /// No stream has a unit that is due within 10 s after this DTS, by the clock.
     Silent(u64),
-    /// Units are due over 20 s after the last clock reference.
-    Unclocked,
 }

@@ -37,9 +37,9 @@ pub struct Origin {
     pub doubtful: Option<DoubtfulClock>,
 }
 
-/// Returns whether a DTS is near what a clock shows.
+// Returns whether a DTS is near what a clock shows.
 #[tactic(auto, unfolding(crate::specs::Origins::is_near))]
-pub fn is_near(shown: u64, dts: u64) -> bool
+fn is_near(shown: u64, dts: u64) -> bool
     ensures { result ≡ spec.is_near shown dts }
 {
     distance(shown, dts) <= LONGEST_WAIT || distance(dts, shown) <= LONGEST_DELAY
