@@ -1,5 +1,6 @@
 -- A front that takes the place of the one on air.
-use Rattle.std.proofs.Common.{◌≡◌, ◌∙◌, ℕ, false, List, Option, None, Some, Result, Ok, Err, IfSome, ap, inl, inr, refl, subst}
+use Rattle.std.proofs.Common.{◌≡◌, ◌∙◌, ℕ, false, List, Option, None, Some, Result, Ok, Err, IfOk, IfSome, Global, String, string_bytes, ap, inl, inr, refl, subst, sym}
+use Rattle.std.proofs.lemmas.Result.{IfOk-weaker}
 use Rattle.std.specs.Prelude.{◌⊎◌, codes, option_map}
 use Rattle.description_parts.specs.Described.{Described}
 use Rattle.description_keys.specs.declared.fault.DescError.{DescError}
@@ -28,6 +29,13 @@ unfolding front_words
 front_read old new wanted job fault said read same has is =
     is ∙ ap (option_map line_up_words) (has ∙ ap (line_up_fault old) same) ∙ ap (front_words old) read
 
+pub front_said : {E : Type 0} (old new : Served) (wanted : Result JobView JobFaultView) (job : JobView) (fault : Option LineUpFault)
+    (r : Result (Option (String Global)) E) → Ok job ≡ wanted → new ≡ served_of job → fault ≡ line_up_fault old new →
+    IfOk r (λ said. option_map string_bytes said ≡ option_map line_up_words fault) → IfOk r (λ said. option_map string_bytes said ≡ front_words old wanted)
+front_said old new wanted job fault r read same has said =
+    IfOk-weaker r (λ said. option_map string_bytes said ≡ option_map line_up_words fault) (λ said. option_map string_bytes said ≡ front_words old wanted)
+    (λ said words. front_read old new wanted job fault (option_map string_bytes said) read same has words) said
+
 pub front_unread : (old : Served) (wanted : Result JobView JobFaultView) (fault : JobFaultView) (words : List ℕ) → Err fault ≡ wanted → words ≡ unread_front →
     Some words ≡ front_words old wanted
 unfolding front_words
@@ -50,6 +58,11 @@ pub front_follows : (old : Served) (new : Described) (texts front shown : List �
 unfolding NextOf
 front_follows old new texts front shown plan is same none =
     silent old texts front plan (job_of false front) refl is (none ∙ ap (λ (bytes : List ℕ). front_words old (job_of false bytes)) same)
+
+pub nothing_said : (old : Served) (new : Described) (texts front shown : List ℕ) (plan : Planned) (said : Option (String Global)) → front ≡ front_of texts plan →
+    shown ≡ front → said ≡ None → option_map string_bytes said ≡ front_words old (job_of false shown) → NextOf old new texts (Ok front)
+nothing_said old new texts front shown plan said is same none words =
+    front_follows old new texts front shown plan is same (sym (ap (λ (s : Option (String Global)). option_map string_bytes s) none) ∙ words)
 
 pub front_refused : (old : Served) (new : Described) (texts front shown words : List ℕ) (plan : Planned) → IsServing new plan → front ≡ front_of texts plan →
     shown ≡ front → Some words ≡ front_words old (job_of false shown) → NextOf old new texts (Err words)
@@ -99,3 +112,18 @@ pub job_unread : (wanted : Result JobView JobFaultView) (texts : List ℕ) (faul
     ByJob wanted texts (Err words)
 unfolding ByJob
 job_unread wanted texts fault words read is = subst (λ (j : Result JobView JobFaultView). ByJob j texts (Err words)) read (ap Err is)
+
+-- The same with an error that the fault is in, and for a whole answer.
+pub error_refused : (old : Served) (texts : List ℕ) (wanted : Result Described DescError) (error : DescError) (fault : DescFault) (words : List ℕ) →
+    error ≡ Refused fault → (◌≡◌ {A = Result Described DescError} (Err error) (Err Memory)) ⊎ (◌≡◌ {A = Result Described DescError} (Err error) wanted) →
+    words ≡ refused_words (codes "") (Refused fault) → ByTexts old texts wanted (Err words)
+error_refused old texts wanted error fault words same read is =
+    texts_refused old texts wanted fault words
+    (subst (λ (e : DescError). (◌≡◌ {A = Result Described DescError} (Err e) (Err Memory)) ⊎ (◌≡◌ {A = Result Described DescError} (Err e) wanted)) same read) is
+
+pub job_said : {V E : Type 0} (r : Result V E) (shown_as : V → Result (List ℕ) (List ℕ)) (wanted : Result JobView JobFaultView) (texts shown : List ℕ)
+    (job : JobView) (old : Served) → Ok job ≡ wanted → old ≡ served_of job → shown ≡ texts →
+    IfOk r (λ answer. ByTexts old shown (description_in shown) (shown_as answer)) → IfOk r (λ answer. ByJob wanted texts (shown_as answer))
+job_said r shown_as wanted texts shown job old read same is said =
+    IfOk-weaker r (λ answer. ByTexts old shown (description_in shown) (shown_as answer)) (λ answer. ByJob wanted texts (shown_as answer))
+    (λ answer has. job_read wanted texts shown job old (shown_as answer) read same is has) said
