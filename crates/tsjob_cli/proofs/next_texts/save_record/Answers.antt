@@ -5,7 +5,8 @@ use Rattle.tsjob_cli.proofs.next_texts.save_record.Goals as goal
 
 pub returns-in-Some : goal.returns-in-Some
 returns-in-Some g c =
-    saved _ _ (asked_view c.args.asked) _ _ _ _ _ _ c.in-Some.ensures c.as_slice.ensures.value c.save_named.ensures
+    saved (g.F.OutputFiles.creates c.args.files.now) (g.F.OutputFiles.keeps c.args.files.now) (asked_view c.args.asked) _ _ _ _ _ _
+    c.in-Some.ensures c.as_slice.ensures.value c.save_named.ensures
 
 pub returns-in-None : goal.returns-in-None
 returns-in-None g c = inr (record { reports_text = c.report_of.ensures; status_is = refl })
