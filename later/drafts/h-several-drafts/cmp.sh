@@ -1,0 +1,1 @@
+for f in "$@"; do a=$(/work/tmp/kh-tsjob describe $f 2>/dev/null | sed -n 's/^rate = \([0-9]*\).*/\1/p'); b=$(/work/tmp/kh-tsjob2 describe $f 2>/tmp/kh.err | sed -n 's/^rate = \([0-9]*\).*/\1/p'); echo "$(basename $f .ts) $a $b $(python3 -c "print('%.1f%%'%(100*($b-$a)/$a))") $(grep -c 'frames of sound' /tmp/kh.err)"; done

@@ -1,0 +1,4 @@
+//! Tries.
+#![tactic(auto)]
+
+pub mod rates;
