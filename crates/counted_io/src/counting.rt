@@ -2,7 +2,7 @@
 //!
 //! Proved of any device: a call of `read_some` or `write_some` that answers an `Err` counts one failure more, any other
 //! none, and known bytes are the inner device's bytes. That each call makes one call of the inner device and returns
-//! its answer is tested (`tests/devices` of the crate `tests_wire`): no contract over any device can say it.
+//! its answer is tested (`tests/wire/devices` of the crate `tests`): no contract over any device can say it.
 ghost use Rattle.std.specs.Prelude.{◌≡◌};
 ghost use Rattle.counted_io.specs.Device.{CountsOne};
 ghost use Rattle.counted_io.specs.Counters.{inner_of, failures_of};
